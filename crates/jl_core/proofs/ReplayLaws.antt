@@ -16,7 +16,7 @@ use Rattle.jl_types.specs.Events.Footprints.{footprint, keys, retires}
 use Rattle.jl_cache.specs.Links.{link_at}
 use Rattle.jl_deps.specs.Indexes.{footprint_at, touched_by, AreRising, IsIndex}
 use Rattle.jl_settle.specs.Settling.{HasChanged, defined_by}
-use Rattle.jl_settle.proofs.SettleLaws.{other, rests}
+use Rattle.jl_settle.proofs.SettleLaws.{footprint_stays, untouched_stays}
 use Rattle.jl_events.specs.Changes.{IsAcceptable}
 use Rattle.jl_events.specs.Accepted.{Accepted, event_of}
 use Rattle.jl_core.specs.ForProofs.Changes.{AreScratch, retires_at}
@@ -63,9 +63,9 @@ module _ (old ahead : World) (links : List (ℕ × Link)) (index : List (ℕ × 
       by_touched : (b : Bool) → has s (touched_by index (keys old (event.Define loader file))) ≡ b
           → footprint_at index s ≡ option_map (λ l. footprint ahead s) (link_at links s)
       by_touched true is =
-          rests ahead (keys old (event.Define loader file)) (link_at links) index rising (length old.classes.rows) defined s is
+          footprint_stays ahead (keys old (event.Define loader file)) (link_at links) index rising (length old.classes.rows) defined s is
       by_touched false is =
-          sym (other ahead (keys old (event.Define loader file)) (Some (length old.classes.rows)) (link_at links) index defined rising s is).1
+          sym (untouched_stays ahead (keys old (event.Define loader file)) (Some (length old.classes.rows)) (link_at links) index defined rising s is).1
 
 -- the index once the sites whose links went were taken out
 pub definition_followed : (old ahead : World) (told : Accepted) (links linked after : List (ℕ × Link)) (index far near : List (ℕ × List Key))
@@ -135,7 +135,7 @@ module _ (old ahead : World) (told : Accepted) (links linked : List (ℕ × Link
 
   stays : (s : ℕ) → has s sites ≡ false
       → (kept false (link_at links s) (scratch ahead s) ≡ link_at links s) × (option_map (λ l. footprint ahead s) (link_at links s) ≡ footprint_at index s)
-  stays s none = other ahead (keys old e) (defined_by old e) (link_at links) index changed further.rising s (others s none).0
+  stays s none = untouched_stays ahead (keys old e) (defined_by old e) (link_at links) index changed further.rising s (others s none).0
 
   pub links_taken : (left : List (ℕ × Link)) → ((s : ℕ) → link_at left s ≡ (if has s sites then link_at linked s else link_at links s))
       → (s : ℕ) → link_at left s ≡ link_at linked s

@@ -223,9 +223,9 @@ few_in_sum f few (x ∷ xs) =
 -- ---- what is lost
 
 pub lost_or_gone : (b : Bool) (first left now : Option Link) (r : Result Link Unlinked) → left ≡ (if b then None else first) → now ≡ kept false left r
-    → ((b && is_some first) || (is_some left && is_none (kept false left r))) ≡ (is_some first && is_none now)
+    → ((b && is_some first) || (is_some left && is_none now)) ≡ (is_some first && is_none now)
 lost_or_gone true first left now r e f =
-    (λ i. is_some first || (is_some (e i) && is_none (kept false (e i) r)))
+    (λ i. is_some first || (is_some (e i) && is_none now))
     ∙ by_first (is_some first)
     ∙ ap (λ (o : Option Link). is_some first && is_none o) (sym (f ∙ ap (λ (o : Option Link). kept false o r) e ∙ none_kept r))
   where
@@ -236,4 +236,4 @@ lost_or_gone true first left now r e f =
     none_kept : (r : Result Link Unlinked) → kept false None r ≡ None
     none_kept (Ok l) = refl
     none_kept (Err reason) = refl
-lost_or_gone false first left now r e f = λ i. is_some (e i) && is_none (sym f i)
+lost_or_gone false first left now r e f = λ i. is_some (e i) && is_none now

@@ -1,6 +1,6 @@
 -- The links and the index once a loader is retired.
 use Rattle.std.specs.Prelude.{◌≡◌, ℕ, ◌+◌, ◌*◌, ◌<◌, ◌≤◌, ◌^◌, ◌==◌, ◌&&◌, ◌||◌, not, Bool, true, false, List, [], ◌∷◌, ◌++◌, filter, sum_by, length}
-use Rattle.std.specs.Prelude.{Some, None, is_some, is_none, if◌then◌else◌}
+use Rattle.std.specs.Prelude.{Some, None, Option, is_some, if◌then◌else◌}
 use Rattle.std.proofs.Common.{refl, ap, sym, subst, ◌∙◌, arith}
 use Rattle.std.proofs.lemmas.Option.{same_Some}
 use Rattle.jl_types.specs.declared.link.Link.{Link}
@@ -15,7 +15,7 @@ use Rattle.jl_types.specs.declared.key.Key.{Key}
 use Rattle.jl_types.specs.Events.Footprints.{footprint, keys, most_for, retires}
 use Rattle.jl_cache.specs.Links.{link_at}
 use Rattle.jl_deps.specs.Indexes.{footprint_at, touched_by, AreRising}
-use Rattle.jl_settle.specs.Settling.{HasChanged, kept_at, goes, most_asked}
+use Rattle.jl_settle.specs.Settling.{AreUpToDate, HasChanged, most_asked}
 use Rattle.jl_events.specs.Accepted.{Accepted, event_of}
 use Rattle.jl_events.proofs.InstallCounts.{no_more, few_by}
 use Rattle.jl_core.specs.ForProofs.Changes.{AreScratch, retires_at}
@@ -99,21 +99,23 @@ module _ (w : World) (ks : List Key) (loader : ℕ) (links : List (ℕ × Link))
     pub ticks_left : (work next : ℕ) → next ≤ work + sum_by (most_asked w None) (touched_by near ks) → next ≤ work + most_told w (event.Retire loader) index ks
     ticks_left work next le = subst (λ (ts : List ℕ). next ≤ work + sum_by (most_for w) ts) touched_are le
 
-    module _ (after : List (ℕ × Link)) (settled : (s : ℕ) → link_at after s ≡ kept_at w (link_at left) s) where
-      pub links_retired : (s : ℕ) → link_at after s ≡ kept false (link_at links s) (scratch w s)
-      links_retired s =
-          settled s
+    -- once the others were settled
+    pub up_to_date_retired : (first lost : List ℕ) → ((s : ℕ) → has s first ≡ (has s sites && is_some (link_at links s)))
+        → (after : ℕ → Option Link) (further : List (ℕ × List Key)) → AreUpToDate w (λ s. false) (link_at left) after further lost
+        → AreUpToDate w (λ s. false) (link_at links) after further (first ++ lost)
+    up_to_date_retired first lost first_are after further settled = record {
+      links = λ s.
+          settled.links s
           ∙ (λ i. kept (sym (no_install s) i) (link_at left s) (scratch (led.step i) s))
           ∙ sym (kept_left led.before (event.Retire loader) links left index near dropped_then taken_then led.event
           (λ t. retires_so led.before w.classes.rows led.event t (event.Retire loader) led.tells) s)
-          ∙ (λ i. kept (no_install s i) (link_at links s) (scratch (sym led.step i) s))
-
-      pub lost_retired : (first lost : List ℕ) → ((s : ℕ) → has s first ≡ (has s sites && is_some (link_at links s)))
-          → ((s : ℕ) → has s lost ≡ goes w (link_at left) s) → (s : ℕ) → has s (first ++ lost) ≡ (is_some (link_at links s) && is_none (link_at after s))
-      lost_retired first lost first_are lost_are s =
+          ∙ (λ i. kept (no_install s i) (link_at links s) (scratch (sym led.step i) s));
+      index = settled.index;
+      lost = λ s.
           has_both s first lost
-          ∙ (λ i. (first_are s ∙ lost_all links (retires_site w loader) sites gone.only gone.linked s) i || lost_are s i)
-          ∙ lost_or_gone (retires_site w loader s) (link_at links s) (link_at left s) (link_at after s) (scratch w s) (dropped_so s) (settled s)
+          ∙ (λ i. (first_are s ∙ lost_all links (retires_site w loader) sites gone.only gone.linked s) i || settled.lost s i)
+          ∙ lost_or_gone (retires_site w loader s) (link_at links s) (link_at left s) (after s) (scratch w s) (dropped_so s) (settled.links s);
+    }
 
 -- what is retired goes by what the log keeps, too
 pub are_gone : (w new : World) (e : Event) (told : Accepted) (links : List (ℕ × Link)) (sites : List ℕ) → new ≡ step w e

@@ -23,7 +23,7 @@ use Rattle.jl_types.proofs.BySite.{rises_of}
 use Rattle.jl_deps.proofs.IndexLaws.{touched_of}
 use Rattle.jl_deps.proofs.TouchLaws.{sites_rise}
 use Rattle.jl_deps.proofs.PointLaws.{in_range}
-use Rattle.jl_settle.specs.Settling.{HasChanged, defined_by, kept_at, goes, most_asked}
+use Rattle.jl_settle.specs.Settling.{AreUpToDate, HasChanged, defined_by, most_asked}
 use Rattle.jl_settle.proofs.SettleLaws.{is_retirement, kept_scratch, most_are}
 use Rattle.jl_events.specs.Accepted.{Accepted, event_of}
 use Rattle.jl_events.specs.Changes.{IsAcceptable, class_of}
@@ -249,13 +249,13 @@ module _ (w : World) (ks : List Key) (told : Accepted) (links : List (ℕ × Lin
       let same = most_of_told other in
       omega (arith, most, same, le)
 
-  module _ (left : List (ℕ × Link)) (settled : (s : ℕ) → link_at left s ≡ kept_at w (link_at links) s) where
-    pub links_kept : ((rows : List (ℕ × Link)) → told ≡ event.Install rows → ⊥)
-        → (s : ℕ) → link_at left s ≡ kept (installs_at s told) (link_at links s) (scratch w s)
-    links_kept other s = settled s ∙ ap (λ (b : Bool). kept b (link_at links s) (scratch w s)) (sym (no_install s told other))
-
-    pub links_lost : (s : ℕ) → goes w (link_at links) s ≡ (is_some (link_at links s) && is_none (link_at left s))
-    links_lost s = ap (λ (o : Option Link). is_some (link_at links s) && is_none o) (sym (settled s))
+  pub up_to_date_so : ((rows : List (ℕ × Link)) → told ≡ event.Install rows → ⊥) → (left : ℕ → Option Link) (further : List (ℕ × List Key)) (lost : List ℕ)
+      → AreUpToDate w (λ s. false) (link_at links) left further lost → AreUpToDate w (λ s. installs_at s told) (link_at links) left further lost
+  up_to_date_so other left further lost settled = record {
+    links = λ s. settled.links s ∙ ap (λ (b : Bool). kept b (link_at links s) (scratch w s)) (sym (no_install s told other));
+    index = settled.index;
+    lost = settled.lost;
+  }
 
   -- ---- or installed
 
@@ -282,10 +282,7 @@ module _ (w : World) (ks : List Key) (told : Accepted) (links : List (ℕ × Lin
       by_rows : (s : ℕ) → link_at left s ≡ kept (list_any (λ row. row.0 == s) rows) (link_at links s) (scratch led.before s)
       by_rows s = linked s ∙ install_keeps led.before s links rows free led.sound.scratch
 
-      pub links_installed : (s : ℕ) → link_at left s ≡ kept (installs_at s told) (link_at links s) (scratch w s)
-      links_installed s = by_rows s ∙ (λ i. kept (installs_at s (sym is i)) (link_at links s) (scratch (sym same_world i) s))
-
-      pub none_lost : (s : ℕ) → false ≡ (is_some (link_at links s) && is_none (link_at left s))
+      none_lost : (s : ℕ) → false ≡ (is_some (link_at links s) && is_none (link_at left s))
       none_lost s = by_link (link_at links s) refl
         where
           by_link : (o : Option Link) → link_at links s ≡ o → false ≡ (is_some o && is_none (link_at left s))
@@ -293,3 +290,11 @@ module _ (w : World) (ks : List Key) (told : Accepted) (links : List (ℕ × Lin
           by_link (Some l) e =
               sym (ap is_none
               (by_rows s ∙ kept_once (list_any (λ row. row.0 == s) rows) (link_at links s) (scratch led.before s) l e (led.sound.scratch s l e)))
+
+      pub up_to_date_installed : (further : List (ℕ × List Key)) → IsIndex w (link_at left) further
+          → AreUpToDate w (λ s. installs_at s told) (link_at links) (link_at left) further []
+      up_to_date_installed further indexed = record {
+        links = λ s. by_rows s ∙ (λ i. kept (installs_at s (sym is i)) (link_at links s) (scratch (sym same_world i) s));
+        index = indexed;
+        lost = none_lost;
+      }

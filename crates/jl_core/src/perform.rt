@@ -1,13 +1,10 @@
 //! What an accepted event changes: the world, the installed links, their index and the log. Nothing is judged here.
 
-ghost use Rattle.std.specs.Prelude.{◌≡◌, ◌<◌, ◌^◌, ◌==◌, ◌&&◌, ◌+◌, ◌≤◌, ◌++◌, ◌∷◌, [], ℕ, List, false, length, IfOk, OnOk, is_some, is_none};
-ghost use Rattle.std.specs.List.{list_any};
+ghost use Rattle.std.specs.Prelude.{◌≡◌, ◌<◌, ◌^◌, ◌+◌, ◌≤◌, ◌++◌, ◌∷◌, [], List, false, length, IfOk, OnOk};
 ghost use Rattle.jl_types.specs.declared.event.EventOf.TheVariants as events;
 ghost use Rattle.jl_types.specs.declared.key.Key as keys;
-ghost use Rattle.jl_types.specs.Linkage.Links.{scratch};
-ghost use Rattle.jl_types.specs.Events.History.{kept};
 ghost use Rattle.jl_cache.specs.Links.{link_at};
-ghost use Rattle.jl_deps.specs.Indexes.{IsIndex};
+ghost use Rattle.jl_settle.specs.Settling.{AreUpToDate};
 ghost use Rattle.jl_events.specs.Changes.{IsAcceptable};
 ghost use Rattle.jl_core.specs.ForProofs.Changes.{installs_at};
 ghost use Rattle.jl_core.specs.ForProofs.Steps.{AreGone, AreRetired, IsSound, HasStepped, IsStep, most_told};
@@ -92,10 +89,8 @@ fn relink(
     requires led { HasStepped world.now keys.now event.now links.old index.old }
     requires gone { AreGone world.now event.now links.old retired.now }
     requires small { work.old ≤ 16777216 }
-    ensures links { OnOk result ((s : ℕ) → link_at links.new s ≡ kept (installs_at s event.now) (link_at links.old s) (scratch world.now s)) }
-    ensures index { OnOk result (IsIndex world.now (link_at links.new) index.new) }
-    ensures lost { IfOk result (λ lost. (s : ℕ) → list_any (λ t. t == s) lost.items
-        ≡ (is_some (link_at links.old s) && is_none (link_at links.new s))) }
+    ensures up_to_date { IfOk result (λ lost. AreUpToDate world.now (λ s. installs_at s event.now) (link_at links.old) (link_at links.new)
+        index.new lost.items) }
     ensures ticks { OnOk result (work.new ≤ work.old + most_told world.now event.now index.old keys.now) }
 {
     match event {
@@ -124,11 +119,8 @@ fn install_links(
     rows: &[(SiteNo, KeptLink)],
 ) -> Result<Vec<SiteNo>, AllocError>
     requires { (keys : List keys.Key) × HasStepped world.now keys (events.Install rows.now) links.old index.old }
-    ensures links { OnOk result ((s : ℕ) → link_at links.new s
-        ≡ kept (list_any (λ row. row.0 == s) rows.now) (link_at links.old s) (scratch world.now s)) }
-    ensures index { OnOk result (IsIndex world.now (link_at links.new) index.new) }
-    ensures lost { IfOk result (λ lost. (s : ℕ) → list_any (λ t. t == s) lost.items
-        ≡ (is_some (link_at links.old s) && is_none (link_at links.new s))) }
+    ensures { IfOk result (λ lost. AreUpToDate world.now (λ s. installs_at s (events.Install rows.now)) (link_at links.old) (link_at links.new)
+        index.new lost.items) }
 {
     install_rows(alloc, world, links, index, rows)?;
     Ok(Vec::new(alloc))
@@ -149,10 +141,7 @@ fn retire_links(
     requires led { HasStepped world.now keys.now (events.Retire loader) links.old index.old }
     requires gone { AreGone world.now (events.Retire loader) links.old retired.now }
     requires small { work.old ≤ 16777216 }
-    ensures links { OnOk result ((s : ℕ) → link_at links.new s ≡ kept false (link_at links.old s) (scratch world.now s)) }
-    ensures index { OnOk result (IsIndex world.now (link_at links.new) index.new) }
-    ensures lost { IfOk result (λ lost. (s : ℕ) → list_any (λ t. t == s) lost.items
-        ≡ (is_some (link_at links.old s) && is_none (link_at links.new s))) }
+    ensures up_to_date { IfOk result (λ lost. AreUpToDate world.now (λ s. false) (link_at links.old) (link_at links.new) index.new lost.items) }
     ensures ticks { OnOk result (work.new ≤ work.old + most_told world.now (events.Retire loader) index.old keys.now) }
 {
     // Shows how few classes there are, which bounds the work.

@@ -37,7 +37,7 @@ use Rattle.jl_relink.proofs.Costs.{takes_one_evaluation}
 use Rattle.jl_cache.specs.Links.{link_with}
 use Rattle.jl_deps.specs.Indexes.{footprint_at, AreRising, IsIndex, StaysIndexed, touched_by}
 use Rattle.jl_deps.proofs.IndexLaws.{touched_of, others_stay}
-use Rattle.jl_settle.specs.Settling.{kept_at, goes, defined_by, HasChanged, IsTold, MayBeAsked, inherits_run, most_asked}
+use Rattle.jl_settle.specs.Settling.{kept_at, goes, defined_by, AreUpToDate, HasChanged, IsTold, MayBeAsked, inherits_run, most_asked}
 
 -- ---- loops over sites
 
@@ -106,9 +106,9 @@ kept_scratch installs_it o (Ok now) l e = by_test (installs_it || has_link o now
 module _ (world : World) (keys : List Key) (defined : Option ℕ) (links : ℕ → Option Link) (index : List (ℕ × List Key))
     (changed : HasChanged world keys defined links index) (rising : AreRising index) where
   -- a site that isn't touched
-  pub other : (s : ℕ) → has s (touched_by index keys) ≡ false
+  pub untouched_stays : (s : ℕ) → has s (touched_by index keys) ≡ false
       → (kept_at world links s ≡ links s) × (option_map (λ l. footprint world s) (links s) ≡ footprint_at index s)
-  other s none =
+  untouched_stays s none =
       let stays : StaysIndexed changed.before changed.event links index s =
       others_stay changed.before changed.event links index rising changed.index_is changed.accepted.0 changed.order changed.accepted.1 changed.scratch
       changed.left s
@@ -128,46 +128,54 @@ module _ (world : World) (keys : List Key) (defined : Option ℕ) (links : ℕ �
   module _ (lost : List ℕ) (now : ℕ → Option Link)
       (listed : (s : ℕ) → has s lost ≡ (has s (touched_by index keys) && goes world links s))
       (removed : (s : ℕ) → now s ≡ (if has s lost then None else links s)) where
-    pub are_lost : (s : ℕ) → has s lost ≡ goes world links s
+    are_lost : (s : ℕ) → has s lost ≡ goes world links s
     are_lost s = listed s ∙ by_touched (has s (touched_by index keys)) refl
       where
         by_touched : (b : Bool) → has s (touched_by index keys) ≡ b → (b && goes world links s) ≡ goes world links s
         by_touched true is = refl
-        by_touched false is = sym (ap (λ (o : Option Link). is_some (links s) && is_none o) (other s is).0 ∙ some_none (links s))
+        by_touched false is = sym (ap (λ (o : Option Link). is_some (links s) && is_none o) (untouched_stays s is).0 ∙ some_none (links s))
 
-    pub are_kept : (s : ℕ) → now s ≡ kept_at world links s
+    are_kept : (s : ℕ) → now s ≡ kept_at world links s
     are_kept s = removed s ∙ ap (λ (b : Bool). if b then None else links s) (are_lost s) ∙ kept_or (links s) (scratch world s)
 
     -- which is the link from scratch
     pub are_scratch : (s : ℕ) (l : Link) → now s ≡ Some l → scratch world s ≡ Ok l
     are_scratch s l at = kept_scratch false (links s) (scratch world s) l (sym (are_kept s) ∙ at)
 
+    up_to_date : (left : List (ℕ × List Key)) → IsIndex world now left → AreUpToDate world (λ s. false) links now left lost
+    up_to_date left indexed = record {
+      links = are_kept;
+      index = indexed;
+      lost = λ s. are_lost s ∙ ap (λ (o : Option Link). is_some (links s) && is_none o) (sym (are_kept s));
+    }
+
     -- the touched sites were looked up again
-    pub refreshed : (left : List (ℕ × List Key))
+    refreshed : (left : List (ℕ × List Key))
         → ((s : ℕ) → footprint_at left s ≡ (if has s (touched_by index keys) then option_map (λ l. footprint world s) (now s) else footprint_at index s))
-        → IsIndex world now left
-    refreshed left indexed s = indexed s ∙ by_touched (has s (touched_by index keys)) refl
+        → AreUpToDate world (λ s. false) links now left lost
+    refreshed left indexed = up_to_date left (λ s. indexed s ∙ by_touched s (has s (touched_by index keys)) refl)
       where
-        by_touched : (b : Bool) → has s (touched_by index keys) ≡ b
+        by_touched : (s : ℕ) (b : Bool) → has s (touched_by index keys) ≡ b
             → (if b then option_map (λ l. footprint world s) (now s) else footprint_at index s) ≡ option_map (λ l. footprint world s) (now s)
-        by_touched true is = refl
-        by_touched false is =
-            let stays = other s is in
+        by_touched s true is = refl
+        by_touched s false is =
+            let stays = untouched_stays s is in
             sym stays.1 ∙ ap (option_map (λ l. footprint world s)) (sym (are_kept s ∙ stays.0))
 
     -- the sites whose links went were taken out, and what the others rest on stays
-    pub left_out : ((s : ℕ) → has s (touched_by index keys) ≡ true → footprint_at index s ≡ option_map (λ l. footprint world s) (links s))
-        → (left : List (ℕ × List Key)) → ((s : ℕ) → footprint_at left s ≡ (if has s lost then None else footprint_at index s)) → IsIndex world now left
-    left_out rests left taken s =
-        taken s ∙ by_lost (has s lost) ∙ ap (option_map (λ l. footprint world s)) (sym (removed s))
+    left_out : ((s : ℕ) → has s (touched_by index keys) ≡ true → footprint_at index s ≡ option_map (λ l. footprint world s) (links s))
+        → (left : List (ℕ × List Key)) → ((s : ℕ) → footprint_at left s ≡ (if has s lost then None else footprint_at index s))
+        → AreUpToDate world (λ s. false) links now left lost
+    left_out rests left taken =
+        up_to_date left (λ s. taken s ∙ by_lost s (has s lost) ∙ ap (option_map (λ l. footprint world s)) (sym (removed s)))
       where
-        as_before : (b : Bool) → has s (touched_by index keys) ≡ b → footprint_at index s ≡ option_map (λ l. footprint world s) (links s)
-        as_before true is = rests s is
-        as_before false is = sym (other s is).1
+        as_before : (s : ℕ) (b : Bool) → has s (touched_by index keys) ≡ b → footprint_at index s ≡ option_map (λ l. footprint world s) (links s)
+        as_before s true is = rests s is
+        as_before s false is = sym (untouched_stays s is).1
 
-        by_lost : (b : Bool) → (if b then None else footprint_at index s) ≡ option_map (λ l. footprint world s) (if b then None else links s)
-        by_lost true = refl
-        by_lost false = as_before (has s (touched_by index keys)) refl
+        by_lost : (s : ℕ) (b : Bool) → (if b then None else footprint_at index s) ≡ option_map (λ l. footprint world s) (if b then None else links s)
+        by_lost s true = refl
+        by_lost s false = as_before s (has s (touched_by index keys)) refl
 
 all_of : (P : ℕ → Type 0) (xs : List ℕ) → ((s : ℕ) → has s xs ≡ true → P s) → AllByRecursion P xs
 all_of P [] h = tt
@@ -312,8 +320,8 @@ module _ (world : World) (keys : List Key) (links : ℕ → Option Link) (index 
     each_told = all_of (MayBeAsked world (Some x) links) (touched_by index keys) (λ s inside. told_at s (links s) refl inside)
 
     -- and what its link rests on stays
-    pub rests : (s : ℕ) → has s (touched_by index keys) ≡ true → footprint_at index s ≡ option_map (λ l. footprint world s) (links s)
-    rests s inside = by_link (links s) refl
+    pub footprint_stays : (s : ℕ) → has s (touched_by index keys) ≡ true → footprint_at index s ≡ option_map (λ l. footprint world s) (links s)
+    footprint_stays s inside = by_link (links s) refl
       where
         by_link : (o : Option Link) → links s ≡ o → footprint_at index s ≡ option_map (λ l. footprint world s) o
         by_link None is = changed.index_is s ∙ ap (option_map (λ l. footprint changed.before s)) is
@@ -391,9 +399,9 @@ installed_index w rows links now index left was linked looked s = looked s ∙ b
     by_test true e = refl
     by_test false e = was s ∙ ap (option_map (λ l. footprint w s)) (sym (linked s ∙ not_with rows (links s) s e))
 
--- ---- the index once all is done
+-- ---- once all is done
 
-pub are_indexed : (world : World) (keys : List Key) (defined : Option ℕ) (links : ℕ → Option Link) (index : List (ℕ × List Key))
+pub are_up_to_date : (world : World) (keys : List Key) (defined : Option ℕ) (links : ℕ → Option Link) (index : List (ℕ × List Key))
     → (changed : HasChanged world keys defined links index) → (rising : AreRising index) → (lost : List ℕ) (now : ℕ → Option Link)
     → ((s : ℕ) → has s lost ≡ (has s (touched_by index keys) && goes world links s))
     → ((s : ℕ) → now s ≡ (if has s lost then None else links s))
@@ -401,11 +409,11 @@ pub are_indexed : (world : World) (keys : List Key) (defined : Option ℕ) (link
     → (is_some defined ≡ true → (s : ℕ) → footprint_at left s ≡ (if has s lost then None else footprint_at index s))
     → (is_some defined ≡ false → (s : ℕ)
     → footprint_at left s ≡ (if has s (touched_by index keys) then option_map (λ l. footprint world s) (now s) else footprint_at index s))
-    → IsIndex world now left
-are_indexed world keys None links index changed rising lost now listed removed left taken looked_up =
+    → AreUpToDate world (λ s. false) links now left lost
+are_up_to_date world keys None links index changed rising lost now listed removed left taken looked_up =
     refreshed world keys None links index changed rising lost now listed removed left (looked_up refl)
-are_indexed world keys (Some x) links index changed rising lost now listed removed left taken looked_up =
-    left_out world keys (Some x) links index changed rising lost now listed removed (rests world keys links index rising x changed) left (taken refl)
+are_up_to_date world keys (Some x) links index changed rising lost now listed removed left taken looked_up =
+    left_out world keys (Some x) links index changed rising lost now listed removed (footprint_stays world keys links index rising x changed) left (taken refl)
 
 pub on_ok : {A E : Type 0} {P Q : Type 0} → (r : Result A E) → (P → Q) → OnOk r P → OnOk r Q
 on_ok (Ok x) f p = f p

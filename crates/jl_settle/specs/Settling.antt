@@ -1,5 +1,6 @@
 -- What is left of the links and the index once an event has changed the world.
-use Rattle.std.specs.Prelude.{◌≡◌, ℕ, Bool, true, false, length, ◌&&◌, List, Option, Some, None, Ok, IsOk, is_some, is_none, ⊤}
+use Rattle.std.specs.Prelude.{◌≡◌, ◌==◌, ℕ, Bool, true, false, length, ◌&&◌, List, Option, Some, None, Ok, IsOk, is_some, is_none, ⊤}
+use Rattle.std.specs.List.{list_any}
 use Rattle.jl_types.specs.Events.Event.{Event}
 use Rattle.jl_types.specs.declared.event.EventOf.TheVariants as event
 use Rattle.jl_types.specs.declared.answer.Outcome.TheVariants.{Run, Throws}
@@ -42,6 +43,13 @@ pub record HasChanged (world : World) (keys : List Key) (defined : Option ℕ) (
   pub defined_is : defined ≡ defined_by before event
   pub scratch : (s : ℕ) (l : Link) → links s ≡ Some l → scratch before s ≡ Ok l
   pub index_is : IsIndex before links index
+
+-- After an event that installed links at these sites, or at none: a link is there where it is the one from scratch and was there before or is
+-- installed, the index is that of the links, and these are the sites whose links went.
+pub record AreUpToDate (world : World) (installs : ℕ → Bool) (before after : ℕ → Option Link) (further : List (ℕ × List Key)) (gone : List ℕ) : Type 0 where
+  pub links : (s : ℕ) → after s ≡ kept (installs s) (before s) (scratch world s)
+  pub index : IsIndex world after further
+  pub lost : (s : ℕ) → list_any (λ t. t == s) gone ≡ (is_some (before s) && is_none (after s))
 
 -- ---- a touched site
 

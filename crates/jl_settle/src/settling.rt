@@ -6,8 +6,8 @@ ghost use Rattle.jl_types.specs.declared.link.Link.{Link};
 ghost use Rattle.jl_types.specs.Linkage.Links.{scratch};
 ghost use Rattle.jl_types.specs.Events.Footprints.{footprint};
 ghost use Rattle.jl_cache.specs.Links.{link_at};
-ghost use Rattle.jl_deps.specs.Indexes.{footprint_at, IsIndex, touched_by};
-ghost use Rattle.jl_settle.specs.Settling.{kept_at, goes, HasChanged, most_asked};
+ghost use Rattle.jl_deps.specs.Indexes.{footprint_at, touched_by};
+ghost use Rattle.jl_settle.specs.Settling.{AreUpToDate, HasChanged, most_asked};
 
 use crate::lost::lost_among;
 use jl_cache::Cache;
@@ -35,9 +35,7 @@ pub fn settle(
     requires changed { HasChanged world.now keys.now defined (link_at links.old) index.old }
     requires fits { work.old + sum_by (most_asked world.now defined) (touched_by index.old keys.now) < 2 ^ 64 }
     ensures ticks { OnOk result (work.new ≤ work.old + sum_by (most_asked world.now defined) (touched_by index.old keys.now)) }
-    ensures links { OnOk result ((s : ℕ) → link_at links.new s ≡ kept_at world.now (link_at links.old) s) }
-    ensures index { OnOk result (IsIndex world.now (link_at links.new) index.new) }
-    ensures lost { IfOk result (λ lost. (s : ℕ) → list_any (λ t. t == s) lost.items ≡ goes world.now (link_at links.old) s) }
+    ensures up_to_date { IfOk result (λ lost. AreUpToDate world.now (λ s. false) (link_at links.old) (link_at links.new) index.new lost.items) }
 {
     let sites = index.touched_by(alloc, keys)?;
     let lost = lost_among(alloc, world, links, sites.as_slice(), &defined, work)?;

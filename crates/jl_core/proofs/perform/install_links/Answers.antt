@@ -1,7 +1,9 @@
-use Rattle.std.proofs.Common.{ap, refl, ◌∙◌}
-use Rattle.jl_hierarchy.proofs.Rising.{has}
+use Rattle.std.proofs.Common.{refl, sym, subst}
 use Rattle.jl_types.specs.declared.event.EventOf.TheVariants as events
-use Rattle.jl_core.proofs.StepLaws.{was_index, rows_scratch, links_installed, none_lost}
+use Rattle.jl_cache.specs.Links.{link_at}
+use Rattle.jl_settle.specs.Settling.{AreUpToDate}
+use Rattle.jl_core.specs.ForProofs.Changes.{installs_at}
+use Rattle.jl_core.proofs.StepLaws.{was_index, rows_scratch, up_to_date_installed}
 use Rattle.jl_core.proofs.perform.install_links.Goals as goal
 
 pub install_rows-requires-clause-indexed : goal.install_rows-requires-clause-indexed
@@ -12,13 +14,9 @@ pub install_rows-requires-clause-scratch : goal.install_rows-requires-clause-scr
 install_rows-requires-clause-scratch c =
     rows_scratch c.args.world.now c.requires.0 (events.Install c.args.rows.now) c.args.links.now c.args.index.now c.requires.1 c.args.rows.now refl
 
-pub returns-clause-links : goal.returns-clause-links
-returns-clause-links c =
-    links_installed c.args.world.now c.requires.0 (events.Install c.args.rows.now) c.args.links.now c.args.index.now c.requires.1 c.args.rows.now refl
-    c.install_rows.new.links c.in_ok-install_rows.ensures.links
-
-pub returns-clause-lost : goal.returns-clause-lost
-returns-clause-lost c = λ s.
-    ap (has s) c.new.ensures.items
-    ∙ none_lost c.args.world.now c.requires.0 (events.Install c.args.rows.now) c.args.links.now c.args.index.now c.requires.1 c.args.rows.now refl
-    c.install_rows.new.links c.in_ok-install_rows.ensures.links s
+pub returns : goal.returns
+returns c =
+    subst (AreUpToDate c.args.world.now (λ s. installs_at s (events.Install c.args.rows.now)) (link_at c.args.links.now) (link_at c.install_rows.new.links)
+    c.install_rows.new.index) (sym c.new.ensures.items)
+    (up_to_date_installed c.args.world.now c.requires.0 (events.Install c.args.rows.now) c.args.links.now c.args.index.now c.requires.1 c.args.rows.now refl
+    c.install_rows.new.links c.in_ok-install_rows.ensures.links c.install_rows.new.index c.in_ok-install_rows.ensures.index)

@@ -30,14 +30,14 @@ returns c =
         moved = subst (λ (made : Made). IsMoved c.args.world.now.value c.step_world.new.world.value c.args.event made) (sym c.in_ok-reply.ensures.made)
             c.in_ok-event.ensures.moved;
         dropped = lost_are c.args.world.now.value c.args.links.now c.args.index.now c.requires.sound c.relink.new.links c.in_ok-lost.lost.items
-            c.in_ok-reply.reply.dropped c.in_ok-lost.ensures.lost c.in_ok-reply.ensures.dropped;
+            c.in_ok-reply.reply.dropped c.in_ok-lost.ensures.up_to_date.lost c.in_ok-reply.ensures.dropped;
         links = λ s.
-            c.in_ok-lost.ensures.links s
+            c.in_ok-lost.ensures.up_to_date.links s
             ∙ (λ i. kept (sym (installs_so c.step_world.new.world.value.classes.rows c.args.event s c.in_ok-event.event c.in_ok-event.ensures.tells) i)
             (link_at c.args.links.now s) (scratch (c.deref-3.ensures i) s));
         logged = record { accepted = c.in_ok-event.event; is = c.in_ok-event.ensures.tells; last = c.in_ok-reply.ensures.last };
       };
-      indexed = subst (λ (w : World). IsIndex w (link_at c.relink.new.links) c.relink.new.index) c.deref-3.ensures c.in_ok-lost.ensures.index;
+      indexed = subst (λ (w : World). IsIndex w (link_at c.relink.new.links) c.relink.new.index) c.deref-3.ensures c.in_ok-lost.ensures.up_to_date.index;
       ticks = subst (λ (n : ℕ). c.relink.new.work ≤ c.args.work.now + n)
           (ap (λ (w : World). most_told w c.in_ok-event.event c.args.index.now c.as_slice.result.now) c.deref-3.ensures
           ∙ most_by_told c.args.world.now.value c.step_world.new.world.value c.args.index.now c.args.event c.as_slice.result.now

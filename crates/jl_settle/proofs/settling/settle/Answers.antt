@@ -5,7 +5,7 @@ use Rattle.jl_hierarchy.proofs.Rising.{has}
 use Rattle.jl_cache.specs.Links.{link_at}
 use Rattle.jl_deps.specs.Indexes.{footprint_at, touched_by}
 use Rattle.jl_settle.specs.Settling.{goes}
-use Rattle.jl_settle.proofs.SettleLaws.{each_asked, is_there, are_lost, are_kept, are_scratch, are_indexed}
+use Rattle.jl_settle.proofs.SettleLaws.{each_asked, is_there, are_scratch, are_up_to_date}
 use Rattle.jl_settle.proofs.settling.settle.Goals as goal
 
 pub lost_among-requires-clause-there : goal.lost_among-requires-clause-there
@@ -24,30 +24,12 @@ reindex-requires c =
     (λ s. c.in_ok-lost.ensures.lost s ∙ ap (λ (ts : List ℕ). has s ts && goes c.args.world.now (link_at c.args.links.now) s) sites)
     (λ s. c.drop_changed.ensures.links s ∙ ap (λ (ts : List ℕ). if has s ts then None else link_at c.args.links.now s) c.as_slice-2.ensures.value)
 
-pub returns-clause-links : goal.returns-clause-links
-returns-clause-links c =
+pub returns-clause-up_to_date : goal.returns-clause-up_to_date
+returns-clause-up_to_date c =
     let w = c.args.world.now in
     let links = link_at c.args.links.now in
     let sites : c.as_slice.result.now ≡ touched_by c.args.index.now c.args.keys.now = c.as_slice.ensures.value ∙ c.in_ok-sites.ensures.sites in
-    are_kept _ _ _ _ _ c.requires.changed c.touched_by.ensures.rising c.in_ok-lost.lost.items (link_at c.drop_changed.new.self)
-    (λ s. c.in_ok-lost.ensures.lost s ∙ ap (λ (ts : List ℕ). has s ts && goes w links s) sites)
-    (λ s. c.drop_changed.ensures.links s ∙ ap (λ (ts : List ℕ). if has s ts then None else links s) c.as_slice-2.ensures.value)
-
-pub returns-clause-lost : goal.returns-clause-lost
-returns-clause-lost c =
-    let w = c.args.world.now in
-    let links = link_at c.args.links.now in
-    let sites : c.as_slice.result.now ≡ touched_by c.args.index.now c.args.keys.now = c.as_slice.ensures.value ∙ c.in_ok-sites.ensures.sites in
-    are_lost _ _ _ _ _ c.requires.changed c.touched_by.ensures.rising c.in_ok-lost.lost.items (link_at c.drop_changed.new.self)
-    (λ s. c.in_ok-lost.ensures.lost s ∙ ap (λ (ts : List ℕ). has s ts && goes w links s) sites)
-    (λ s. c.drop_changed.ensures.links s ∙ ap (λ (ts : List ℕ). if has s ts then None else links s) c.as_slice-2.ensures.value)
-
-pub returns-clause-index : goal.returns-clause-index
-returns-clause-index c =
-    let w = c.args.world.now in
-    let links = link_at c.args.links.now in
-    let sites : c.as_slice.result.now ≡ touched_by c.args.index.now c.args.keys.now = c.as_slice.ensures.value ∙ c.in_ok-sites.ensures.sites in
-    are_indexed c.args.world.now c.args.keys.now c.args.defined (link_at c.args.links.now) c.args.index.now c.requires.changed c.touched_by.ensures.rising
+    are_up_to_date w c.args.keys.now c.args.defined links c.args.index.now c.requires.changed c.touched_by.ensures.rising
     c.in_ok-lost.lost.items (link_at c.drop_changed.new.self)
     (λ s. c.in_ok-lost.ensures.lost s ∙ ap (λ (ts : List ℕ). has s ts && goes w links s) sites)
     (λ s. c.drop_changed.ensures.links s ∙ ap (λ (ts : List ℕ). if has s ts then None else links s) c.as_slice-2.ensures.value)
