@@ -10,7 +10,7 @@ use Rattle.jl_code.specs.Codes.{code_bytes, IsCode}
 use Rattle.jl_classfile.specs.Layouts.{Layout}
 use Rattle.jl_classfile.specs.Parts.{Parts}
 use Rattle.jl_classfile.specs.Conditions.{codes_of, IsClassNumber, HoldsHost, HoldsMembers, Nest, HasCode, HaveCodes}
-use Rattle.jl_classfile.specs.ClassFiles.{IsClass, pool_of}
+use Rattle.jl_classfile.specs.ClassFiles.{IsClassUpTo, pool_of}
 use Rattle.jl_pool.specs.ForProofs.Fields.{number_at}
 use Rattle.jl_classfile.specs.ForProofs.Bodies.{counted_at}
 use Rattle.jl_pool.proofs.Fields.{some_is, u2_again}
@@ -83,8 +83,8 @@ made : (p : Parts) → make p.layout p.codes p.nest_host p.nest_members ≡ p
 unfolding make
 made p = refl
 
-pub one_class : (bytes : List ℕ) (p q : Parts) → IsClass bytes p → IsClass bytes q → p ≡ q
-one_class bytes p q h k =
+pub one_class : (m n : ℕ) (bytes : List ℕ) (p q : Parts) → IsClassUpTo m bytes p → IsClassUpTo n bytes q → p ≡ q
+one_class m n bytes p q h k =
     let layouts = one_layout p.layout q.layout h.laid k.laid (sym h.spelled ∙ k.spelled) in
     let nest : Nest p.layout.major (pool_of p.layout) p.layout.body q.nest_host q.nest_members =
     subst (λ (l : Layout). Nest l.major (pool_of l) l.body q.nest_host q.nest_members) (sym layouts) k.nest

@@ -20,13 +20,13 @@ use Rattle.jl_code.specs.Codes.{code_bytes, IsCode}
 use Rattle.jl_classfile.specs.Layouts.{Layout, body_text, head_text, file_text, IsLayout}
 use Rattle.jl_classfile.specs.CodeAttributes.{IsCodeOf}
 use Rattle.jl_classfile.specs.Parts.{Parts}
-use Rattle.jl_classfile.specs.Conditions.{IsVersion, Links, Members, ClassAttributeLinks, Nest, HasCode, HaveCodes, class_numbers, IsClassNumber}
+use Rattle.jl_classfile.specs.Conditions.{IsVersionUpTo, Links, Members, ClassAttributeLinks, Nest, HasCode, HaveCodes, class_numbers, IsClassNumber}
 use Rattle.jl_classfile.specs.Conditions.{super_fits, is_module}
 use Rattle.jl_classfile.specs.Conditions.{IsTextNumber, member_numbers, MemberLinks, FieldFits, MethodFits, is_interface, same_method, no_twins, codes_of}
-use Rattle.jl_classfile.specs.ClassFiles.{most_bytes, pool_of, IsClass}
+use Rattle.jl_classfile.specs.ClassFiles.{most_bytes, pool_of, IsClassUpTo}
 use Rattle.jl_pool.specs.Faults.{PoolStands, IsPoolFault}
 use Rattle.jl_classfile.specs.Faults.{SizeFault, HeadFault, PoolPass, LayoutFault, LinksFault, MembersFault, AttributesFault, IsCodeFault, CodesFault}
-use Rattle.jl_classfile.specs.Faults.{Pass, LaidFault, FailsWith, IsFault}
+use Rattle.jl_classfile.specs.Faults.{Pass, LaidFault, FailsWith, IsFaultUpTo}
 use Rattle.jl_classfile.specs.Faults.{Sizing, Heading, Pooling, Laying, Linking, Membership, Attribution, Coding}
 use Rattle.jl_classfile.proofs.AllLaws.{All-place, All-among}
 use Rattle.jl_pool.proofs.PoolFaultLaws.{no_pool_fault}
@@ -40,14 +40,14 @@ pub no_size : (bytes : List ℕ) (f : ClassFault) → length bytes ≤ most_byte
 no_size bytes TooLarge h = λ over. absurd (omega (arith, h, over))
 no_size bytes _ h = λ x. x
 
-pub no_head : (bytes rest : List ℕ) (minor major : ℕ) (f : ClassFault) → bytes ≡ head_text minor major ++ rest → minor < 2 ^ 16 → major < 2 ^ 16
-    → IsVersion minor major → ¬ HeadFault bytes f
-no_head bytes rest minor major Truncated e a b v = λ short. absurd (omega (arith, short, ap length e))
-no_head bytes rest minor major BadMagic e a b v = λ h. h.1 (ap (λ (t : List ℕ). take 4 t) e)
-no_head bytes rest minor major BadVersion e a b v = λ h.
+pub no_head : (newest : ℕ) (bytes rest : List ℕ) (minor major : ℕ) (f : ClassFault) → bytes ≡ head_text minor major ++ rest → minor < 2 ^ 16 → major < 2 ^ 16
+    → IsVersionUpTo newest minor major → ¬ HeadFault newest bytes f
+no_head newest bytes rest minor major Truncated e a b v = λ short. absurd (omega (arith, short, ap length e))
+no_head newest bytes rest minor major BadMagic e a b v = λ h. h.1 (ap (λ (t : List ℕ). take 4 t) e)
+no_head newest bytes rest minor major BadVersion e a b v = λ h.
     let same = head_one minor major h.0 h.1 rest h.2 a b h.4 h.5 (sym e ∙ h.3) in
-    h.6 (subst (λ (m : ℕ). IsVersion h.0 m) same.major (subst (λ (n : ℕ). IsVersion n major) same.minor v))
-no_head bytes rest minor major _ e a b v = λ x. x
+    h.6 (subst (λ (m : ℕ). IsVersionUpTo newest h.0 m) same.major (subst (λ (n : ℕ). IsVersionUpTo newest n major) same.minor v))
+no_head newest bytes rest minor major _ e a b v = λ x. x
 
 -- ---- the pool
 
@@ -179,21 +179,24 @@ no_codes p b codes _ h = λ x. x
 
 -- ---- a whole class file
 
-pub no_pass : (bytes : List ℕ) (p : Parts) (pass : Pass) (f : ClassFault) → IsClass bytes p → ¬ FailsWith pass bytes f
-no_pass bytes p Sizing f h = no_size bytes f h.few
-no_pass bytes p Heading f h = no_head bytes (pool_text p.layout.constants ++ body_text p.layout.body) p.layout.minor p.layout.major f h.spelled h.laid.minor
+pub no_pass : (newest : ℕ) (bytes : List ℕ) (p : Parts) (pass : Pass) (f : ClassFault) → IsClassUpTo newest bytes p → ¬ FailsWith newest pass bytes f
+no_pass newest bytes p Sizing f h = no_size bytes f h.few
+no_pass newest bytes p Heading f h = no_head newest bytes (pool_text p.layout.constants ++ body_text p.layout.body) p.layout.minor
+    p.layout.major f h.spelled h.laid.minor
     h.laid.major h.version
-no_pass bytes p Pooling f h =
+no_pass newest bytes p Pooling f h =
     no_pool bytes (pool_text p.layout.constants ++ body_text p.layout.body) p.layout.minor p.layout.major p.layout.constants
     (body_text p.layout.body) f h.spelled
     (record { bytes = refl; written = h.laid.pool }) h.pool
-no_pass bytes p Laying f h = no_layout bytes p.layout f h.spelled h.laid
-no_pass bytes p Linking f h = laid_here LinksFault bytes p.layout f h.spelled h.laid (no_links p.layout.major (pool_of p.layout) p.layout.body f h.links)
-no_pass bytes p Membership f h = laid_here (λ major. MembersFault) bytes p.layout f h.spelled h.laid (no_members (pool_of p.layout) p.layout.body f h.members)
-no_pass bytes p Attribution f h =
+no_pass newest bytes p Laying f h = no_layout bytes p.layout f h.spelled h.laid
+no_pass newest bytes p Linking f h = laid_here LinksFault bytes p.layout f h.spelled h.laid (no_links p.layout.major (pool_of p.layout) p.layout.body f h.links)
+no_pass newest bytes p Membership f h = laid_here (λ major. MembersFault) bytes p.layout f h.spelled h.laid (no_members (pool_of p.layout)
+    p.layout.body f h.members)
+no_pass newest bytes p Attribution f h =
     laid_here AttributesFault bytes p.layout f h.spelled h.laid (no_attributes p.layout.major (pool_of p.layout) p.layout.body p.nest_host p.nest_members f
     h.attributes h.nest)
-no_pass bytes p Coding f h = laid_here (λ major. CodesFault) bytes p.layout f h.spelled h.laid (no_codes (pool_of p.layout) p.layout.body p.codes f h.codes)
+no_pass newest bytes p Coding f h = laid_here (λ major. CodesFault) bytes p.layout f h.spelled h.laid (no_codes (pool_of p.layout)
+    p.layout.body p.codes f h.codes)
 
-pub no_fault : (bytes : List ℕ) (p : Parts) (f : ClassFault) → IsClass bytes p → ¬ IsFault bytes f
-no_fault bytes p f h = λ fault. no_pass bytes p fault.pass f h fault.fails
+pub no_fault : (newest : ℕ) (bytes : List ℕ) (p : Parts) (f : ClassFault) → IsClassUpTo newest bytes p → ¬ IsFaultUpTo newest bytes f
+no_fault newest bytes p f h = λ fault. no_pass newest bytes p fault.pass f h fault.fails

@@ -14,10 +14,11 @@ pub mod TwinLaws
 pub mod MemberLaws
 pub mod NestLaws
 pub mod CodeAttributeLaws
--- the whole file: what it shows, one reading, no fault
+-- the whole file: what it shows, one reading, no fault, another newest version
 pub mod ShownLaws
 pub mod ReadLaws
 pub mod ClassLaws
 pub mod FaultLaws
+pub mod VersionLaws
 -- worked rows
 pub mod Rows

@@ -18,11 +18,11 @@ use Rattle.jl_classfile.specs.Parts.{Parts}
 use Rattle.jl_pool.specs.Pools.{Pool, pool_text}
 use Rattle.jl_classfile.specs.Layouts.{Layout, head_text, body_text, file_text, BodySized, IsLayout}
 use Rattle.jl_classfile.specs.Conditions.{IsTextNumber, Links, Members, ClassAttributeLinks, Nest}
-use Rattle.jl_classfile.specs.ClassFiles.{most_bytes, pool_of, IsClass}
+use Rattle.jl_classfile.specs.ClassFiles.{most_bytes, pool_of, IsClassUpTo}
 use Rattle.jl_classfile.specs.Shown.{shown}
 use Rattle.jl_pool.specs.Faults.{IsPoolFault}
 use Rattle.jl_classfile.specs.Faults.{Pass, SizeFault, HeadFault, PoolPass, LayoutFault, LinksFault, MembersFault, AttributesFault, CodesFault}
-use Rattle.jl_classfile.specs.Faults.{LaidFault, FailsWith, rank, IsFault}
+use Rattle.jl_classfile.specs.Faults.{LaidFault, FailsWith, rank, IsFaultUpTo}
 use Rattle.jl_classfile.specs.Faults.{Sizing, Heading, Pooling, Laying, Linking, Membership, Attribution, Coding}
 use Rattle.jl_classfile.specs.ForProofs.Bodies.{body_at, Stops}
 use Rattle.jl_classfile.specs.ForProofs.Passes.{fault_of_pool, fault_of_broken, HasHead, HasPool, Lies, BodyShown}
@@ -33,53 +33,57 @@ use Rattle.jl_classfile.proofs.BodyLaws.{body-again}
 use Rattle.jl_classfile.proofs.LayoutLaws.{head_one, file_apart}
 
 -- no earlier pass fails than the one of this rank
-abbrev None_before : List ℕ → ℕ → Type 0
-None_before bytes n = (earlier : Pass) (g : ClassFault) → rank earlier < n → ¬ FailsWith earlier bytes g
+abbrev None_before : ℕ → List ℕ → ℕ → Type 0
+None_before newest bytes n = (earlier : Pass) (g : ClassFault) → rank earlier < n → ¬ FailsWith newest earlier bytes g
 
-before : (bytes : List ℕ) (n : ℕ) → n ≤ 8 → (1 < n → (g : ClassFault) → ¬ SizeFault bytes g) → (2 < n → (g : ClassFault) → ¬ HeadFault bytes g)
+before : (newest : ℕ) (bytes : List ℕ) (n : ℕ) → n ≤ 8 → (1 < n → (g : ClassFault) → ¬ SizeFault bytes g) → (2 < n → (g : ClassFault)
+    → ¬ HeadFault newest bytes g)
     → (3 < n → (g : ClassFault) → ¬ PoolPass bytes g)
     → (4 < n → (g : ClassFault) → ¬ LayoutFault bytes g) → (5 < n → (g : ClassFault) → ¬ LaidFault LinksFault bytes g)
     → (6 < n → (g : ClassFault) → ¬ LaidFault (λ major. MembersFault) bytes g)
-    → (7 < n → (g : ClassFault) → ¬ LaidFault AttributesFault bytes g) → None_before bytes n
-before bytes n top a b c d e f h Sizing g lt = a lt g
-before bytes n top a b c d e f h Heading g lt = b lt g
-before bytes n top a b c d e f h Pooling g lt = c lt g
-before bytes n top a b c d e f h Laying g lt = d lt g
-before bytes n top a b c d e f h Linking g lt = e lt g
-before bytes n top a b c d e f h Membership g lt = f lt g
-before bytes n top a b c d e f h Attribution g lt = h lt g
-before bytes n top a b c d e f h Coding g lt = absurd (omega (arith, lt, top))
+    → (7 < n → (g : ClassFault) → ¬ LaidFault AttributesFault bytes g) → None_before newest bytes n
+before newest bytes n top a b c d e f h Sizing g lt = a lt g
+before newest bytes n top a b c d e f h Heading g lt = b lt g
+before newest bytes n top a b c d e f h Pooling g lt = c lt g
+before newest bytes n top a b c d e f h Laying g lt = d lt g
+before newest bytes n top a b c d e f h Linking g lt = e lt g
+before newest bytes n top a b c d e f h Membership g lt = f lt g
+before newest bytes n top a b c d e f h Attribution g lt = h lt g
+before newest bytes n top a b c d e f h Coding g lt = absurd (omega (arith, lt, top))
 
 high : {P : Type 0} (k n : ℕ) → n ≤ k → k < n → P
 high k n le lt = absurd (omega (arith, le, lt))
 
 -- ---- the bytes up to the pool
 
-pub size_first : (bytes : List ℕ) → most_bytes < length bytes → IsFault bytes TooLarge
-size_first bytes over = record {
+pub size_first : (newest : ℕ) (bytes : List ℕ) → most_bytes < length bytes → IsFaultUpTo newest bytes TooLarge
+size_first newest bytes over = record {
   pass = Sizing;
   fails = over;
   first =
-      before bytes 1 (omega arith) (high 1 1 (omega arith)) (high 2 1 (omega arith)) (high 3 1 (omega arith)) (high 4 1 (omega arith)) (high 5 1 (omega arith))
+      before newest bytes 1 (omega arith) (high 1 1 (omega arith)) (high 2 1 (omega arith)) (high 3 1 (omega arith))
+      (high 4 1 (omega arith)) (high 5 1 (omega arith))
       (high 6 1 (omega arith)) (high 7 1 (omega arith));
 }
 
-pub head_first : (bytes : List ℕ) (f : ClassFault) → length bytes ≤ most_bytes → HeadFault bytes f → IsFault bytes f
-head_first bytes f few fault = record {
+pub head_first : (newest : ℕ) (bytes : List ℕ) (f : ClassFault) → length bytes ≤ most_bytes → HeadFault newest bytes f → IsFaultUpTo newest bytes f
+head_first newest bytes f few fault = record {
   pass = Heading;
   fails = fault;
   first =
-      before bytes 2 (omega arith) (λ lt g. no_size bytes g few) (high 2 2 (omega arith)) (high 3 2 (omega arith)) (high 4 2 (omega arith))
+      before newest bytes 2 (omega arith) (λ lt g. no_size bytes g few) (high 2 2 (omega arith)) (high 3 2 (omega arith)) (high 4 2 (omega arith))
       (high 5 2 (omega arith))
       (high 6 2 (omega arith)) (high 7 2 (omega arith));
 }
 
-pub pool_first : (bytes text : List ℕ) (major : ℕ) (f : PoolFault) → length bytes ≤ most_bytes → HasHead bytes text major → IsPoolFault text f
-    → fault_of_pool f ≢ Memory → IsFault bytes (fault_of_pool f)
-pool_first bytes text major f few head fault other = record {
+pub pool_first : (newest : ℕ) (bytes text : List ℕ) (major : ℕ) (f : PoolFault) → length bytes ≤ most_bytes → HasHead newest bytes text major
+    → IsPoolFault text f
+    → fault_of_pool f ≢ Memory → IsFaultUpTo newest bytes (fault_of_pool f)
+pool_first newest bytes text major f few head fault other = record {
   pass = Pooling;
   fails = passed f fault other;
-  first = before bytes 3 (omega arith) (λ lt g. no_size bytes g few) (λ lt g. no_head bytes text head.minor major g head.spelled head.minor_size head.major_size
+  first = before newest bytes 3 (omega arith) (λ lt g. no_size bytes g few)
+      (λ lt g. no_head newest bytes text head.minor major g head.spelled head.minor_size head.major_size
       head.version)
       (high 3 3 (omega arith)) (high 4 3 (omega arith)) (high 5 3 (omega arith)) (high 6 3 (omega arith)) (high 7 3 (omega arith));
 } where
@@ -93,34 +97,37 @@ pool_first bytes text major f few head fault other = record {
 
 -- ---- the layout
 
-laying_first : (bytes : List ℕ) (major : ℕ) (p : Pool) (left : List ℕ) (f : ClassFault) → HasPool bytes major p left → LayoutFault bytes f → IsFault bytes f
-laying_first bytes major p left f h fault = record {
+laying_first : (newest : ℕ) (bytes : List ℕ) (major : ℕ) (p : Pool) (left : List ℕ) (f : ClassFault) → HasPool newest bytes major p left
+    → LayoutFault bytes f → IsFaultUpTo newest bytes f
+laying_first newest bytes major p left f h fault = record {
   pass = Laying;
   fails = fault;
-  first = before bytes 4 (omega arith) (λ lt g. no_size bytes g h.few)
-      (λ lt g. no_head bytes h.text h.head.minor major g h.head.spelled h.head.minor_size h.head.major_size h.head.version)
+  first = before newest bytes 4 (omega arith) (λ lt g. no_size bytes g h.few)
+      (λ lt g. no_head newest bytes h.text h.head.minor major g h.head.spelled h.head.minor_size h.head.major_size h.head.version)
       (λ lt g. no_pool bytes h.text h.head.minor major h.constants left g h.head.spelled h.stands h.sound) (high 4 4 (omega arith)) (high 5 4 (omega arith))
       (high 6 4 (omega arith)) (high 7 4 (omega arith));
 }
 
-layout_of : (bytes : List ℕ) (major : ℕ) (p : Pool) (left : List ℕ) → HasPool bytes major p left → Body → Layout
-layout_of bytes major p left h b = record { minor = h.head.minor; major = major; constants = h.constants; body = b }
+layout_of : (newest : ℕ) (bytes : List ℕ) (major : ℕ) (p : Pool) (left : List ℕ) → HasPool newest bytes major p left → Body → Layout
+layout_of newest bytes major p left h b = record { minor = h.head.minor; major = major; constants = h.constants; body = b }
 
-laid_of : (bytes : List ℕ) (major : ℕ) (p : Pool) (left : List ℕ) (h : HasPool bytes major p left) (b : Body) → BodySized b
-    → IsLayout (layout_of bytes major p left h b)
+laid_of : (newest : ℕ) (bytes : List ℕ) (major : ℕ) (p : Pool) (left : List ℕ) (h : HasPool newest bytes major p left) (b : Body) → BodySized b
+    → IsLayout (layout_of newest bytes major p left h b)
 unfolding layout_of
-laid_of bytes major p left h b sized = record { minor = h.head.minor_size; major = h.head.major_size; pool = h.stands.written; body = sized }
+laid_of newest bytes major p left h b sized = record { minor = h.head.minor_size; major = h.head.major_size; pool = h.stands.written; body = sized }
 
-spelled_of : (bytes : List ℕ) (major : ℕ) (p : Pool) (left : List ℕ) (h : HasPool bytes major p left) (b : Body) (rest : List ℕ) → left ≡ body_text b ++ rest
-    → bytes ≡ file_text (layout_of bytes major p left h b) ++ rest
+spelled_of : (newest : ℕ) (bytes : List ℕ) (major : ℕ) (p : Pool) (left : List ℕ) (h : HasPool newest bytes major p left) (b : Body) (rest : List ℕ)
+    → left ≡ body_text b ++ rest
+    → bytes ≡ file_text (layout_of newest bytes major p left h b) ++ rest
 unfolding layout_of
-spelled_of bytes major p left h b rest e =
+spelled_of newest bytes major p left h b rest e =
     h.head.spelled
     ∙ ap (λ (t : List ℕ). head_text h.head.minor major ++ t) (h.stands.bytes ∙ ap (λ (t : List ℕ). pool_text h.constants ++ t) e)
-    ∙ sym (file_apart (layout_of bytes major p left h b) rest)
+    ∙ sym (file_apart (layout_of newest bytes major p left h b) rest)
 
-cut_first : (bytes : List ℕ) (major : ℕ) (p : Pool) (left : List ℕ) → HasPool bytes major p left → body_at left ≡ None → IsFault bytes Truncated
-cut_first bytes major p left h none = laying_first bytes major p left Truncated h never where
+cut_first : (newest : ℕ) (bytes : List ℕ) (major : ℕ) (p : Pool) (left : List ℕ) → HasPool newest bytes major p left → body_at left ≡ None
+    → IsFaultUpTo newest bytes Truncated
+cut_first newest bytes major p left h none = laying_first newest bytes major p left Truncated h never where
   never : LayoutFault bytes Truncated
   never l more laid e =
       let heads =
@@ -132,33 +139,34 @@ cut_first bytes major p left h none = laying_first bytes major p left Truncated 
       let clash : body_at left ≡ Some (l.body, more) = ap (λ (t : List ℕ). body_at t) pools.1 ∙ again in
       absurd (let same = sym none ∙ clash in cc)
 
-pub broken_first : (bytes : List ℕ) (major : ℕ) (p : Pool) (left : List ℕ) (e : Broken) → HasPool bytes major p left → Stops e (body_at left)
-    → fault_of_broken e ≢ Memory → IsFault bytes (fault_of_broken e)
-broken_first bytes major p left broken.Cut h stops other = cut_first bytes major p left h stops
-broken_first bytes major p left broken.Memory h stops other = absurd (other refl)
+pub broken_first : (newest : ℕ) (bytes : List ℕ) (major : ℕ) (p : Pool) (left : List ℕ) (e : Broken) → HasPool newest bytes major p left
+    → Stops e (body_at left)
+    → fault_of_broken e ≢ Memory → IsFaultUpTo newest bytes (fault_of_broken e)
+broken_first newest bytes major p left broken.Cut h stops other = cut_first newest bytes major p left h stops
+broken_first newest bytes major p left broken.Memory h stops other = absurd (other refl)
 
-pub trailing_first : (bytes : List ℕ) (major : ℕ) (p : Pool) (left : List ℕ) (b : Body) (rest : List ℕ) → HasPool bytes major p left
-    → BodySized b × (left ≡ body_text b ++ rest) → rest ≢ [] → IsFault bytes TrailingBytes
-trailing_first bytes major p left b rest h body more =
-    laying_first bytes major p left TrailingBytes h (
-      layout_of bytes major p left h b,
+pub trailing_first : (newest : ℕ) (bytes : List ℕ) (major : ℕ) (p : Pool) (left : List ℕ) (b : Body) (rest : List ℕ) → HasPool newest bytes major p left
+    → BodySized b × (left ≡ body_text b ++ rest) → rest ≢ [] → IsFaultUpTo newest bytes TrailingBytes
+trailing_first newest bytes major p left b rest h body more =
+    laying_first newest bytes major p left TrailingBytes h (
+      layout_of newest bytes major p left h b,
       rest,
-      laid_of bytes major p left h b body.0,
+      laid_of newest bytes major p left h b body.0,
       more,
-      spelled_of bytes major p left h b rest body.1,
+      spelled_of newest bytes major p left h b rest body.1,
     )
 
-pub lies : (bytes : List ℕ) (major : ℕ) (p : Pool) (left : List ℕ) (b : Body) (rest : List ℕ) → HasPool bytes major p left
-    → BodySized b × (left ≡ body_text b ++ rest) → rest ≡ [] → Lies bytes major p b
+pub lies : (newest : ℕ) (bytes : List ℕ) (major : ℕ) (p : Pool) (left : List ℕ) (b : Body) (rest : List ℕ) → HasPool newest bytes major p left
+    → BodySized b × (left ≡ body_text b ++ rest) → rest ≡ [] → Lies newest bytes major p b
 unfolding layout_of
-lies bytes major p left b rest h body none = record {
-  layout = layout_of bytes major p left h b;
+lies newest bytes major p left b rest h body none = record {
+  layout = layout_of newest bytes major p left h b;
   few = h.few;
   spelled =
-      spelled_of bytes major p left h b rest body.1
-      ∙ ap (λ (t : List ℕ). file_text (layout_of bytes major p left h b) ++ t) none
-      ∙ append-nil (file_text (layout_of bytes major p left h b));
-  laid = laid_of bytes major p left h b body.0;
+      spelled_of newest bytes major p left h b rest body.1
+      ∙ ap (λ (t : List ℕ). file_text (layout_of newest bytes major p left h b) ++ t) none
+      ∙ append-nil (file_text (layout_of newest bytes major p left h b));
+  laid = laid_of newest bytes major p left h b body.0;
   version = h.head.version;
   sound = h.sound;
   major_is = refl;
@@ -168,7 +176,7 @@ lies bytes major p left b rest h body none = record {
 
 -- ---- what lies so
 
-module _ (bytes : List ℕ) (major : ℕ) (p : Pool) (b : Body) (h : Lies bytes major p b) where
+module _ (newest : ℕ) (bytes : List ℕ) (major : ℕ) (p : Pool) (b : Body) (h : Lies newest bytes major p b) where
   here : (Fault : ℕ → Pool → Body → Type 0) → Fault major p b → Fault h.layout.major (pool_of h.layout) h.layout.body
   here Fault x = subst (λ (c : Body). Fault h.layout.major (pool_of h.layout) c) h.body_is
       (subst (λ (q : Pool). Fault h.layout.major q b) h.pool_is (subst (λ (n : ℕ). Fault n p b) h.major_is x))
@@ -176,8 +184,8 @@ module _ (bytes : List ℕ) (major : ℕ) (p : Pool) (b : Body) (h : Lies bytes 
   at_size : (g : ClassFault) → ¬ SizeFault bytes g
   at_size g = no_size bytes g h.few
 
-  at_head : (g : ClassFault) → ¬ HeadFault bytes g
-  at_head g = no_head bytes (pool_text h.layout.constants ++ body_text h.layout.body) h.layout.minor h.layout.major g h.spelled h.laid.minor h.laid.major
+  at_head : (g : ClassFault) → ¬ HeadFault newest bytes g
+  at_head g = no_head newest bytes (pool_text h.layout.constants ++ body_text h.layout.body) h.layout.minor h.layout.major g h.spelled h.laid.minor h.laid.major
       h.version
 
   at_pool : (g : ClassFault) → ¬ PoolPass bytes g
@@ -196,53 +204,59 @@ module _ (bytes : List ℕ) (major : ℕ) (p : Pool) (b : Body) (h : Lies bytes 
   at_members members g = laid_here (λ n. MembersFault) bytes h.layout g h.spelled h.laid
       (no_members (pool_of h.layout) h.layout.body g (here (λ n. Members) members))
 
-  pub links_first : (f : ClassFault) → LinksFault major p b f → IsFault bytes f
+  pub links_first : (f : ClassFault) → LinksFault major p b f → IsFaultUpTo newest bytes f
   links_first f fault = record {
     pass = Linking;
     fails = (h.layout, h.laid, h.spelled, here (λ n q c. LinksFault n q c f) fault);
-    first = before bytes 5 (omega arith) (λ lt. at_size) (λ lt. at_head) (λ lt. at_pool) (λ lt. at_layout) (high 5 5 (omega arith)) (high 6 5 (omega arith))
+    first = before newest bytes 5 (omega arith) (λ lt. at_size) (λ lt. at_head) (λ lt. at_pool) (λ lt. at_layout) (high 5 5 (omega arith))
+        (high 6 5 (omega arith))
         (high 7 5 (omega arith));
   }
 
-  pub members_first : (f : ClassFault) → Links major p b → MembersFault p b f → IsFault bytes f
+  pub members_first : (f : ClassFault) → Links major p b → MembersFault p b f → IsFaultUpTo newest bytes f
   members_first f links fault = record {
     pass = Membership;
     fails = (h.layout, h.laid, h.spelled, here (λ n q c. MembersFault q c f) fault);
-    first = before bytes 6 (omega arith) (λ lt. at_size) (λ lt. at_head) (λ lt. at_pool) (λ lt. at_layout) (λ lt. at_links links) (high 6 6 (omega arith))
+    first = before newest bytes 6 (omega arith) (λ lt. at_size) (λ lt. at_head) (λ lt. at_pool) (λ lt. at_layout) (λ lt. at_links links)
+        (high 6 6 (omega arith))
         (high 7 6 (omega arith));
   }
 
-  pub attributes_first : (f : ClassFault) → Links major p b → Members p b → AttributesFault major p b f → IsFault bytes f
+  pub attributes_first : (f : ClassFault) → Links major p b → Members p b → AttributesFault major p b f → IsFaultUpTo newest bytes f
   attributes_first f links members fault = record {
     pass = Attribution;
     fails = (h.layout, h.laid, h.spelled, here (λ n q c. AttributesFault n q c f) fault);
-    first = before bytes 7 (omega arith) (λ lt. at_size) (λ lt. at_head) (λ lt. at_pool) (λ lt. at_layout) (λ lt. at_links links) (λ lt. at_members members)
+    first = before newest bytes 7 (omega arith) (λ lt. at_size) (λ lt. at_head) (λ lt. at_pool) (λ lt. at_layout) (λ lt. at_links links)
+        (λ lt. at_members members)
         (high 7 7 (omega arith));
   }
 
-module _ (bytes : List ℕ) (major : ℕ) (p : Pool) (b : Body) (h : Lies bytes major p b) (host : Option ℕ) (members_of : Option (List ℕ))
+module _ (newest : ℕ) (bytes : List ℕ) (major : ℕ) (p : Pool) (b : Body) (h : Lies newest bytes major p b) (host : Option ℕ) (members_of : Option (List ℕ))
     (nest : Nest major p b host members_of) where
   nest_here : Nest h.layout.major (pool_of h.layout) h.layout.body host members_of
-  nest_here = here bytes major p b h (λ n q c. Nest n q c host members_of) nest
+  nest_here = here newest bytes major p b h (λ n q c. Nest n q c host members_of) nest
 
   at_attributes : ClassAttributeLinks p b → (g : ClassFault) → ¬ LaidFault AttributesFault bytes g
   at_attributes attributes g =
       laid_here AttributesFault bytes h.layout g h.spelled h.laid
-      (no_attributes h.layout.major (pool_of h.layout) h.layout.body host members_of g (here bytes major p b h (λ n. ClassAttributeLinks) attributes) nest_here)
+      (no_attributes h.layout.major (pool_of h.layout) h.layout.body host members_of g
+      (here newest bytes major p b h (λ n. ClassAttributeLinks) attributes) nest_here)
 
-  pub codes_first : (f : ClassFault) → Links major p b → Members p b → ClassAttributeLinks p b → CodesFault p b f → IsFault bytes f
+  pub codes_first : (f : ClassFault) → Links major p b → Members p b → ClassAttributeLinks p b → CodesFault p b f → IsFaultUpTo newest bytes f
   codes_first f links members attributes fault = record {
     pass = Coding;
-    fails = (h.layout, h.laid, h.spelled, here bytes major p b h (λ n q c. CodesFault q c f) fault);
-    first = before bytes 8 (omega arith) (λ lt. at_size bytes major p b h) (λ lt. at_head bytes major p b h) (λ lt. at_pool bytes major p b h)
-        (λ lt. at_layout bytes major p b h)
-        (λ lt. at_links bytes major p b h links) (λ lt. at_members bytes major p b h members) (λ lt. at_attributes attributes);
+    fails = (h.layout, h.laid, h.spelled, here newest bytes major p b h (λ n q c. CodesFault q c f) fault);
+    first = before newest bytes 8 (omega arith) (λ lt. at_size newest bytes major p b h) (λ lt. at_head newest bytes major p b h)
+        (λ lt. at_pool newest bytes major p b h)
+        (λ lt. at_layout newest bytes major p b h)
+        (λ lt. at_links newest bytes major p b h links) (λ lt. at_members newest bytes major p b h members) (λ lt. at_attributes attributes);
   }
 
   pub class_is : (file : ClassFile) → Links major p b → Members p b → ClassAttributeLinks p b → BodyShown p b host members_of file → (x : Parts)
-      × IsClass bytes x × (file ≡ shown x)
+      × IsClassUpTo newest bytes x × (file ≡ shown x)
   class_is file links members attributes s =
-      let there : BodyShown (pool_of h.layout) h.layout.body host members_of file = here bytes major p b h (λ n q c. BodyShown q c host members_of file) s in (
+      let there : BodyShown (pool_of h.layout) h.layout.body host members_of file =
+      here newest bytes major p b h (λ n q c. BodyShown q c host members_of file) s in (
         record { layout = h.layout; codes = there.codes; nest_host = host; nest_members = members_of },
         record {
           few = h.few;
@@ -250,9 +264,9 @@ module _ (bytes : List ℕ) (major : ℕ) (p : Pool) (b : Body) (h : Lies bytes 
           laid = h.laid;
           version = h.version;
           pool = h.sound;
-          links = here bytes major p b h Links links;
-          members = here bytes major p b h (λ n. Members) members;
-          attributes = here bytes major p b h (λ n. ClassAttributeLinks) attributes;
+          links = here newest bytes major p b h Links links;
+          members = here newest bytes major p b h (λ n. Members) members;
+          attributes = here newest bytes major p b h (λ n. ClassAttributeLinks) attributes;
           nest = nest_here;
           codes = there.have;
         },
@@ -281,14 +295,14 @@ pub nest_fault : (major : ℕ) (p : Pool) (b : Body) (f : ClassFault) → f ≢ 
     → (f ≢ Memory → (f ≡ BadNest) × ((host : Option ℕ) (members : Option (List ℕ)) → ¬ Nest major p b host members)) → AttributesFault major p b f
 nest_fault major p b f other h = let x = h other in subst (λ (g : ClassFault). AttributesFault major p b g) (sym x.0) x.1
 
-module _ (bytes : List ℕ) (major : ℕ) (p : Pool) (b : Body) (h : Lies bytes major p b) (links : Links major p b) (members : Members p b)
+module _ (newest : ℕ) (bytes : List ℕ) (major : ℕ) (p : Pool) (b : Body) (h : Lies newest bytes major p b) (links : Links major p b) (members : Members p b)
     (attributes : ClassAttributeLinks p b)
     (host : Option ℕ) (members_of : Option (List ℕ)) (nest : Nest major p b host members_of) where
   pub classes_are : (r : Result ClassFile ClassFault) → IfOk r (BodyShown p b host members_of)
-      → IfOk r (λ file. (x : Parts) × IsClass bytes x × (file ≡ shown x))
-  classes_are (Ok file) s = class_is bytes major p b h host members_of nest file links members attributes s
+      → IfOk r (λ file. (x : Parts) × IsClassUpTo newest bytes x × (file ≡ shown x))
+  classes_are (Ok file) s = class_is newest bytes major p b h host members_of nest file links members attributes s
   classes_are (Err f) s = tt
 
-  pub faults_are : (r : Result ClassFile ClassFault) → IfErr r (λ f. f ≢ Memory → CodesFault p b f) → IfErr r (λ f. f ≢ Memory → IsFault bytes f)
+  pub faults_are : (r : Result ClassFile ClassFault) → IfErr r (λ f. f ≢ Memory → CodesFault p b f) → IfErr r (λ f. f ≢ Memory → IsFaultUpTo newest bytes f)
   faults_are (Ok file) s = tt
-  faults_are (Err f) s = λ other. codes_first bytes major p b h host members_of nest f links members attributes (s other)
+  faults_are (Err f) s = λ other. codes_first newest bytes major p b h host members_of nest f links members attributes (s other)

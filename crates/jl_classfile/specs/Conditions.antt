@@ -18,11 +18,19 @@ use Rattle.jl_class.specs.Flags.{has_flag, object, PUBLIC, PRIVATE, PROTECTED, S
 
 -- ---- versions (JVMS 4.1)
 
--- 45 to 61; from 56 on without a minor
-pub record IsVersion (minor major : ℕ) : Type 0 where
+-- the newest major version of SE 17
+abbrev pub newest_of_17 : ℕ
+newest_of_17 = 61
+
+-- 45 to the newest one that is asked for; from 56 on without a minor
+pub record IsVersionUpTo (newest minor major : ℕ) : Type 0 where
   pub from : 45 ≤ major
-  pub to : major ≤ 61
+  pub to : major ≤ newest
   pub plain : 56 ≤ major → minor ≡ 0
+
+-- a version of SE 17
+abbrev pub IsVersion : ℕ → ℕ → Type 0
+IsVersion minor major = IsVersionUpTo newest_of_17 minor major
 
 -- ---- the class and its superclasses (JVMS 4.1)
 

@@ -16,7 +16,8 @@ use Rattle.jl_classfile.specs.declared.body.Member.{Member}
 use Rattle.jl_classfile.specs.declared.body.Body.{Body}
 use Rattle.jl_classfile.specs.Layouts.{Layout, head_text, file_text, IsLayout}
 use Rattle.jl_classfile.specs.CodeAttributes.{HoldsCode}
-use Rattle.jl_classfile.specs.Conditions.{IsVersion, is_interface, class_numbers, IsClassNumber, super_fits, is_module, IsTextNumber, member_numbers}
+use Rattle.jl_classfile.specs.Conditions.{newest_of_17, IsVersionUpTo, is_interface, class_numbers, IsClassNumber}
+use Rattle.jl_classfile.specs.Conditions.{super_fits, is_module, IsTextNumber, member_numbers}
 use Rattle.jl_classfile.specs.Conditions.{FieldFits, MethodFits, same_method, codes_of, Nest}
 use Rattle.jl_classfile.specs.ClassFiles.{most_bytes, pool_of}
 
@@ -28,12 +29,12 @@ SizeFault bytes _ = ⊥
 
 -- ---- 2: the first eight bytes
 
-abbrev pub HeadFault : List ℕ → ClassFault → Type 0
-HeadFault bytes Truncated = length bytes < 8
-HeadFault bytes BadMagic = (4 ≤ length bytes) × (take 4 bytes ≢ u4 0xcafebabe)
-HeadFault bytes BadVersion = (minor : ℕ) × (major : ℕ) × (rest : List ℕ) × (bytes ≡ head_text minor major ++ rest)
-    × (minor < 2 ^ 16) × (major < 2 ^ 16) × ¬ IsVersion minor major
-HeadFault bytes _ = ⊥
+abbrev pub HeadFault : ℕ → List ℕ → ClassFault → Type 0
+HeadFault newest bytes Truncated = length bytes < 8
+HeadFault newest bytes BadMagic = (4 ≤ length bytes) × (take 4 bytes ≢ u4 0xcafebabe)
+HeadFault newest bytes BadVersion = (minor : ℕ) × (major : ℕ) × (rest : List ℕ) × (bytes ≡ head_text minor major ++ rest)
+    × (minor < 2 ^ 16) × (major < 2 ^ 16) × ¬ IsVersionUpTo newest minor major
+HeadFault newest bytes _ = ⊥
 
 -- ---- 3: the pool
 
@@ -113,18 +114,22 @@ rank Coding = 8
 abbrev pub LaidFault : (ℕ → Pool → Body → ClassFault → Type 0) → List ℕ → ClassFault → Type 0
 LaidFault Fault bytes f = (l : Layout) × IsLayout l × (bytes ≡ file_text l) × Fault l.major (pool_of l) l.body f
 
-abbrev pub FailsWith : Pass → List ℕ → ClassFault → Type 0
-FailsWith Sizing bytes f = SizeFault bytes f
-FailsWith Heading bytes f = HeadFault bytes f
-FailsWith Pooling bytes f = PoolPass bytes f
-FailsWith Laying bytes f = LayoutFault bytes f
-FailsWith Linking bytes f = LaidFault LinksFault bytes f
-FailsWith Membership bytes f = LaidFault (λ major. MembersFault) bytes f
-FailsWith Attribution bytes f = LaidFault AttributesFault bytes f
-FailsWith Coding bytes f = LaidFault (λ major. CodesFault) bytes f
+abbrev pub FailsWith : ℕ → Pass → List ℕ → ClassFault → Type 0
+FailsWith newest Sizing bytes f = SizeFault bytes f
+FailsWith newest Heading bytes f = HeadFault newest bytes f
+FailsWith newest Pooling bytes f = PoolPass bytes f
+FailsWith newest Laying bytes f = LayoutFault bytes f
+FailsWith newest Linking bytes f = LaidFault LinksFault bytes f
+FailsWith newest Membership bytes f = LaidFault (λ major. MembersFault) bytes f
+FailsWith newest Attribution bytes f = LaidFault AttributesFault bytes f
+FailsWith newest Coding bytes f = LaidFault (λ major. CodesFault) bytes f
 
 -- the pass fails with the fault, and no earlier pass fails
-pub record IsFault (bytes : List ℕ) (f : ClassFault) : Type 0 where
+pub record IsFaultUpTo (newest : ℕ) (bytes : List ℕ) (f : ClassFault) : Type 0 where
   pub pass : Pass
-  pub fails : FailsWith pass bytes f
-  pub first : (earlier : Pass) (g : ClassFault) → rank earlier < rank pass → ¬ FailsWith earlier bytes g
+  pub fails : FailsWith newest pass bytes f
+  pub first : (earlier : Pass) (g : ClassFault) → rank earlier < rank pass → ¬ FailsWith newest earlier bytes g
+
+-- of SE 17
+abbrev pub IsFault : List ℕ → ClassFault → Type 0
+IsFault bytes f = IsFaultUpTo newest_of_17 bytes f

@@ -12,8 +12,12 @@ mod member;
 mod nest;
 mod read;
 mod twin;
+mod version;
 
 pub use fault::ClassFault;
 pub use member::CODE;
 pub use nest::{NEST_HOST, NEST_MEMBERS};
-pub use read::{no_fault_in_a_class, one_class, read_class};
+pub use read::{
+    later_versions_change_nothing, no_fault_in_a_class, one_class, read_class, read_class_up_to,
+};
+pub use version::{NEWEST_KNOWN, NEWEST_OF_17, Version, version_of};

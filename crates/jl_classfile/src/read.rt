@@ -3,13 +3,13 @@
 ghost use Rattle.std.specs.Prelude.{◌<◌, ◌≤◌, ◌^◌, ◌≡◌, ◌≢◌, length, map, [], slice_get, All, List, ℕ, Some, IsTrue, IfOk, OnOk, IfErr, MatchBool};
 ghost use Rattle.jl_classfile.specs.declared.fault.ClassFault.{ClassFault};
 ghost use Rattle.jl_classfile.specs.Parts.{Parts};
-ghost use Rattle.jl_classfile.specs.ClassFiles.{IsClass};
-ghost use Rattle.jl_classfile.specs.declared.fault.ClassFault.TheVariants.{Memory};
+ghost use Rattle.jl_classfile.specs.ClassFiles.{IsClass, IsClassUpTo};
+ghost use Rattle.jl_classfile.specs.declared.fault.ClassFault.TheVariants.{BadVersion, Memory};
 ghost use Rattle.jl_classfile.specs.declared.body.Member.{Member};
-ghost use Rattle.jl_classfile.specs.Faults.{HeadFault, CodesFault, IsFault};
+ghost use Rattle.jl_classfile.specs.Faults.{HeadFault, CodesFault, IsFault, IsFaultUpTo};
 ghost use Rattle.jl_pool.specs.Pools.{class_at};
 ghost use Rattle.jl_classfile.specs.Shown.{shown, name_or_nothing};
-ghost use Rattle.jl_classfile.specs.Conditions.{IsVersion, codes_of, super_fits};
+ghost use Rattle.jl_classfile.specs.Conditions.{codes_of, super_fits};
 ghost use Rattle.jl_classfile.specs.ForProofs.Passes.{HasHead, fault_of_code, IsMethodFault, SitesAdded, MethodAdded};
 ghost use Rattle.jl_classfile.specs.ForProofs.Passes.{MethodsKept, MethodsShown, NamesShown, BodyShown, HasPool, Lies};
 
@@ -18,6 +18,7 @@ use crate::fault::ClassFault;
 use crate::links::check_links;
 use crate::member::{CODE, check_attribute_names, check_members, first_called};
 use crate::nest::{NestNumbers, nest_of};
+use crate::version::{MAGIC, NEWEST_OF_17, is_version};
 use jl_class::{ClassFile, KeptMethod, KeptMethods, KeptSite};
 use jl_code::{CodeFault, scan};
 use jl_names::{Name, Seq};
@@ -27,8 +28,6 @@ use std::sync::Arc;
 
 /// The most bytes of a class file.
 const MOST_BYTES: usize = 1_000_000;
-
-const MAGIC: u32 = 0xcafe_babe;
 
 impl From<PoolFault> for ClassFault {
     ghost use Rattle.std.specs.Prelude.{◌≡◌};
@@ -44,17 +43,10 @@ impl From<PoolFault> for ClassFault {
     }
 }
 
-/// Whether a version is read (JVMS SE 17 §4.1): from 56 on without a minor.
-fn is_version(minor: u16, major: u16) -> bool
-    ensures { MatchBool result (IsVersion minor major) (¬ IsVersion minor major) }
-{
-    major >= 45 && major <= 61 && (major < 56 || minor == 0)
-}
-
 /// The major version, and what comes after the first eight bytes (JVMS SE 17 §4.1).
-fn head_at(bytes: &[u8]) -> Result<(u16, &[u8]), ClassFault>
-    ensures ok { IfOk result (λ x. HasHead bytes.now x.1.now x.0) }
-    ensures fault { IfErr result (HeadFault bytes.now) }
+fn head_at(newest: u16, bytes: &[u8]) -> Result<(u16, &[u8]), ClassFault>
+    ensures ok { IfOk result (λ x. HasHead newest bytes.now x.1.now x.0) }
+    ensures fault { IfErr result (HeadFault newest bytes.now) }
 {
     let Some((magic, after)) = u4_at(bytes) else {
         return Err(ClassFault::Truncated);
@@ -68,7 +60,7 @@ fn head_at(bytes: &[u8]) -> Result<(u16, &[u8]), ClassFault>
     let Some((major, rest)) = u2_at(after) else {
         return Err(ClassFault::Truncated);
     };
-    if !is_version(minor, major) {
+    if !is_version(newest, minor, major) {
         return Err(ClassFault::BadVersion);
     }
     Ok((major, rest))
@@ -260,24 +252,32 @@ fn shown(
 }
 
 /// The pool, and what comes after it (JVMS SE 17 §4.4).
-fn pool_at<'a>(alloc: Global, bytes: &'a [u8]) -> Result<(u16, Pool, &'a [u8]), ClassFault>
-    ensures ok { IfOk result (λ x. HasPool bytes.now x.0 x.1 x.2.now) }
-    ensures fault { IfErr result (λ f. f ≢ Memory → IsFault bytes.now f) }
+fn pool_at<'a>(
+    alloc: Global,
+    newest: u16,
+    bytes: &'a [u8],
+) -> Result<(u16, Pool, &'a [u8]), ClassFault>
+    ensures ok { IfOk result (λ x. HasPool newest bytes.now x.0 x.1 x.2.now) }
+    ensures fault { IfErr result (λ f. f ≢ Memory → IsFaultUpTo newest bytes.now f) }
 {
     if bytes.len() > MOST_BYTES {
         return Err(ClassFault::TooLarge);
     }
-    let (major, rest) = head_at(bytes)?;
+    let (major, rest) = head_at(newest, bytes)?;
     let (pool, used) = Pool::read(alloc, rest)?;
     Ok((major, pool, &rest[used..]))
 }
 
 /// The major version, the pool and what stands behind it, where nothing comes after.
-fn laid_at<'a>(alloc: Global, bytes: &'a [u8]) -> Result<(u16, Pool, Body<'a>), ClassFault>
-    ensures ok { IfOk result (λ x. Lies bytes.now x.0 x.1 x.2) }
-    ensures fault { IfErr result (λ f. f ≢ Memory → IsFault bytes.now f) }
+fn laid_at<'a>(
+    alloc: Global,
+    newest: u16,
+    bytes: &'a [u8],
+) -> Result<(u16, Pool, Body<'a>), ClassFault>
+    ensures ok { IfOk result (λ x. Lies newest bytes.now x.0 x.1 x.2) }
+    ensures fault { IfErr result (λ f. f ≢ Memory → IsFaultUpTo newest bytes.now f) }
 {
-    let (major, pool, behind) = pool_at(alloc, bytes)?;
+    let (major, pool, behind) = pool_at(alloc, newest, bytes)?;
     let (body, rest) = body_at(alloc, behind)?;
     if !rest.is_empty() {
         return Err(ClassFault::TrailingBytes);
@@ -285,17 +285,27 @@ fn laid_at<'a>(alloc: Global, bytes: &'a [u8]) -> Result<(u16, Pool, Body<'a>), 
     Ok((major, pool, body))
 }
 
-/// The class file that the bytes are (JVMS SE 17 §4), all of them.
+/// The class file that all of the bytes are (JVMS SE 17 §4): that of [`read_class_up_to`] with [`NEWEST_OF_17`](crate::NEWEST_OF_17).
+pub fn read_class(alloc: Global, bytes: &[u8]) -> Result<ClassFile, ClassFault>
+    ensures ok { IfOk result (λ file. (p : Parts) × IsClass bytes.now p × (file ≡ shown p)) }
+    ensures fault { IfErr result (λ f. f ≢ Memory → IsFault bytes.now f) }
+{
+    read_class_up_to(alloc, NEWEST_OF_17, bytes)
+}
+
+/// The class file that all of the bytes are, if its major version is at most `newest` (JVMS SE 17 §4). A version above
+/// [`NEWEST_OF_17`](crate::NEWEST_OF_17) is read as that one. Up to [`NEWEST_KNOWN`](crate::NEWEST_KNOWN) the editions say the same of all that
+/// is read; of later versions nothing is known.
 ///
 /// An error is that of the first pass that fails: `TooLarge`; `Truncated`, `BadMagic` or `BadVersion` for the first eight bytes (§4.1);
 /// `Pool` (§4.4); `Truncated` or `TrailingBytes` for the rest; `ModuleFile`, `BadLink` or `BadSuper` for the class and its superclasses
 /// (§4.1); `BadLink`, `BadMember`, `DuplicateMethod` or `TwoCodes` for fields and methods (§4.5, §4.6); `BadLink` or `BadNest` for the
 /// class's attributes (§4.7.28, §4.7.29); `Code` for the codes (§4.7.3). Or it is `Memory`.
-pub fn read_class(alloc: Global, bytes: &[u8]) -> Result<ClassFile, ClassFault>
-    ensures ok { IfOk result (λ file. (p : Parts) × IsClass bytes.now p × (file ≡ shown p)) }
-    ensures fault { IfErr result (λ f. f ≢ Memory → IsFault bytes.now f) }
+pub fn read_class_up_to(alloc: Global, newest: u16, bytes: &[u8]) -> Result<ClassFile, ClassFault>
+    ensures ok { IfOk result (λ file. (p : Parts) × IsClassUpTo newest bytes.now p × (file ≡ shown p)) }
+    ensures fault { IfErr result (λ f. f ≢ Memory → IsFaultUpTo newest bytes.now f) }
 {
-    let (major, pool, body) = laid_at(alloc, bytes)?;
+    let (major, pool, body) = laid_at(alloc, newest, bytes)?;
     check_links(major, &pool, &body)?;
     check_members(alloc, &pool, &body)?;
     check_attribute_names(&pool, &body.attributes)?;
@@ -306,6 +316,20 @@ pub fn read_class(alloc: Global, bytes: &[u8]) -> Result<ClassFile, ClassFault>
 /// Bytes are one class file at most.
 pub fn one_class()
     ensures { (bytes : List ℕ) (p q : Parts) → IsClass bytes p → IsClass bytes q → p ≡ q }
+{}
+
+/// Another newest version changes nothing but which files are refused for their version. A class file up to one version is the same one up
+/// to each later version, and up to each earlier one that its own version isn't above. Up to an earlier version than its own it has the fault
+/// `BadVersion`, and no other. Up to whichever versions, bytes are one class file at most, and a class file has no fault.
+pub fn later_versions_change_nothing()
+    ensures later { (newest later : ℕ) (bytes : List ℕ) (p : Parts) → newest ≤ later → IsClassUpTo newest bytes p → IsClassUpTo later bytes p }
+    ensures earlier { (newest later : ℕ) (bytes : List ℕ) (p : Parts) → p.layout.major ≤ newest → IsClassUpTo later bytes p → IsClassUpTo newest bytes p }
+    ensures refused { (newest later : ℕ) (bytes : List ℕ) (p : Parts) → newest < p.layout.major → IsClassUpTo later bytes p
+        → IsFaultUpTo newest bytes BadVersion }
+    ensures only { (newest later : ℕ) (bytes : List ℕ) (p : Parts) (fault : ClassFault) → newest < p.layout.major → IsClassUpTo later bytes p
+        → IsFaultUpTo newest bytes fault → fault ≡ BadVersion }
+    ensures one { (m n : ℕ) (bytes : List ℕ) (p q : Parts) → IsClassUpTo m bytes p → IsClassUpTo n bytes q → p ≡ q }
+    ensures no_fault { (newest : ℕ) (bytes : List ℕ) (p : Parts) (fault : ClassFault) → IsClassUpTo newest bytes p → ¬ IsFaultUpTo newest bytes fault }
 {}
 
 /// No class file has a fault.

@@ -4,7 +4,9 @@
 use crate::hostile::HostileRow::*;
 use crate::rows::{Row, assert_rows};
 use jl_class::ClassFile;
-use jl_classfile::{ClassFault, read_class};
+use jl_classfile::{
+    ClassFault, NEWEST_KNOWN, NEWEST_OF_17, Version, read_class, read_class_up_to, version_of,
+};
 use jl_code::CodeFault;
 use jl_names::Name;
 use jl_pool::PoolFault;
@@ -90,6 +92,9 @@ enum HostileRow {
     High([u8; 4], ClassFault),
     /// With an attribute that nothing reads, so long that it has so many bytes, the first file has this fault, or none.
     Sized(usize, Option<ClassFault>),
+    /// The first file with this major and this minor version is read up to each of these newest versions, and up to each of those it is
+    /// refused for its version.
+    OfVersion(u16, u16, &'static [u16], &'static [u16]),
     /// With this byte for the low one of its version the file shows this.
     Shows(&'static [u8], u8, Shown),
 }
@@ -165,6 +170,39 @@ fn sized(alloc: Global, len: usize) -> Result<Vec<u8>, AllocError> {
     with_attribute(alloc, &info_len.to_be_bytes()[4..], &info)
 }
 
+// ---- versions
+
+/// Whether the bytes have this fault, or none, up to each of these newest versions.
+fn have_fault(alloc: Global, bytes: &[u8], newest: &[u16], fault: Option<ClassFault>) -> bool {
+    for newest in newest {
+        if read_class_up_to(alloc, *newest, bytes).err() != fault {
+            return false;
+        }
+    }
+    true
+}
+
+/// Whether the first file with this version is a class file up to these newest versions, and isn't for its version up to those.
+fn is_of_version(alloc: Global, version: Version, read: &[u16], refused: &[u16]) -> bool {
+    let minor = version.minor.to_be_bytes();
+    let major = version.major.to_be_bytes();
+    match [
+        &OBJECT[..4],
+        minor.as_slice(),
+        major.as_slice(),
+        &OBJECT[8..],
+    ]
+    .concat(alloc)
+    {
+        Ok(bytes) => {
+            version_of(&bytes) == Some(version)
+                && have_fault(alloc, &bytes, read, None)
+                && have_fault(alloc, &bytes, refused, Some(ClassFault::BadVersion))
+        }
+        Err(_) => false,
+    }
+}
+
 // ---- shown
 
 /// Whether these are the names, one after another.
@@ -220,6 +258,13 @@ impl Row for HostileRow {
                 Ok(bytes) => fault_of(alloc, &bytes) == *fault,
                 Err(_) => false,
             },
+            OfVersion(major, minor, read, refused) => {
+                let version = Version {
+                    major: *major,
+                    minor: *minor,
+                };
+                is_of_version(alloc, version, read, refused)
+            }
             Shows(file, version, shown) => shows(alloc, file, *version, shown),
         }
     }
@@ -246,6 +291,19 @@ const HEADS: &[HostileRow] = &[
     Head(7, ClassFault::BadVersion, Some((0x2d, 0x3c))),
 ];
 
+/// The first file with versions of SE 17, of later editions and of none, of features that are previewed, too (JVMS SE 25 §4.1).
+const VERSIONS: &[HostileRow] = &[
+    OfVersion(44, 0, &[], &[44, NEWEST_OF_17, NEWEST_KNOWN]),
+    OfVersion(45, 3, &[45, NEWEST_OF_17, NEWEST_KNOWN], &[44]),
+    OfVersion(61, 0, &[NEWEST_OF_17, 65, NEWEST_KNOWN], &[60]),
+    OfVersion(61, 65535, &[], &[NEWEST_OF_17, 65, NEWEST_KNOWN]),
+    OfVersion(62, 0, &[62, 65, NEWEST_KNOWN], &[NEWEST_OF_17]),
+    OfVersion(65, 0, &[65, 66, NEWEST_KNOWN], &[NEWEST_OF_17, 64]),
+    OfVersion(69, 0, &[69, NEWEST_KNOWN], &[NEWEST_OF_17, 65, 68]),
+    OfVersion(69, 65535, &[], &[NEWEST_OF_17, 65, NEWEST_KNOWN]),
+    OfVersion(70, 0, &[70, u16::MAX], &[NEWEST_OF_17, 65, NEWEST_KNOWN]),
+];
+
 /// The tableswitch with a high that isn't its own, 0: below its low, and with one offset more than there is.
 const SWITCHES: &[HostileRow] = &[
     High(
@@ -269,6 +327,7 @@ const SIZES: &[HostileRow] = &[
 fn cut_and_changed_files(rt: HostRuntime) {
     assert_rows(&rt, "CUT", CUT);
     assert_rows(&rt, "HEADS", HEADS);
+    assert_rows(&rt, "VERSIONS", VERSIONS);
     assert_rows(&rt, "SWITCHES", SWITCHES);
     assert_rows(&rt, "SIZES", SIZES);
 }

@@ -25,7 +25,7 @@ use Rattle.jl_classfile.specs.declared.fault.ClassFault.{ClassFault}
 use Rattle.jl_classfile.specs.declared.fault.ClassFault.TheVariants.{Truncated, Pool as InPool, Code, BadLink, Memory}
 use Rattle.jl_pool.specs.Pools.{Pool, class_at, places, IsSoundPool}
 use Rattle.jl_classfile.specs.Layouts.{Layout, head_text, file_text, IsLayout}
-use Rattle.jl_classfile.specs.Conditions.{IsVersion, codes_of, HasCode, HaveCodes}
+use Rattle.jl_classfile.specs.Conditions.{IsVersionUpTo, codes_of, HasCode, HaveCodes}
 use Rattle.jl_classfile.specs.ClassFiles.{most_bytes, pool_of}
 use Rattle.jl_pool.specs.Faults.{PoolStands}
 use Rattle.jl_classfile.specs.Faults.{IsCodeFault}
@@ -40,34 +40,34 @@ fault_of_pool pool.Memory = Memory
 fault_of_pool f = InPool f
 
 -- the first eight bytes, of a version that is read
-pub record HasHead (bytes rest : List ℕ) (major : ℕ) : Type 0 where
+pub record HasHead (newest : ℕ) (bytes rest : List ℕ) (major : ℕ) : Type 0 where
   pub minor : ℕ
   pub spelled : bytes ≡ head_text minor major ++ rest
   pub minor_size : minor < 2 ^ 16
   pub major_size : major < 2 ^ 16
-  pub version : IsVersion minor major
+  pub version : IsVersionUpTo newest minor major
 
 -- the first of the numbers for which this doesn't hold
 abbrev pub IsBadLink : (ℕ → Type 0) → List ℕ → ClassFault → Type 0
 IsBadLink IsSo numbers f = (n : ℕ) × (f ≡ BadLink n) × Contains numbers n × ¬ IsSo n
 
 -- the bytes up to the end of a sound pool, and what comes after it
-pub record HasPool (bytes : List ℕ) (major : ℕ) (p : Pool) (left : List ℕ) : Type 0 where
+pub record HasPool (newest : ℕ) (bytes : List ℕ) (major : ℕ) (p : Pool) (left : List ℕ) : Type 0 where
   pub few : length bytes ≤ most_bytes
   pub text : List ℕ
-  pub head : HasHead bytes text major
+  pub head : HasHead newest bytes text major
   pub constants : List Constant
   pub stands : PoolStands text constants left
   pub sound : IsSoundPool constants
   pub pool_is : p ≡ places constants
 
 -- the bytes lie so, and their pool is sound
-pub record Lies (bytes : List ℕ) (major : ℕ) (p : Pool) (body : Body) : Type 0 where
+pub record Lies (newest : ℕ) (bytes : List ℕ) (major : ℕ) (p : Pool) (body : Body) : Type 0 where
   pub layout : Layout
   pub few : length bytes ≤ most_bytes
   pub spelled : bytes ≡ file_text layout
   pub laid : IsLayout layout
-  pub version : IsVersion layout.minor layout.major
+  pub version : IsVersionUpTo newest layout.minor layout.major
   pub sound : IsSoundPool layout.constants
   pub major_is : major ≡ layout.major
   pub pool_is : p ≡ pool_of layout
