@@ -7,6 +7,7 @@ import java.nio.file.FileSystems;
 import java.nio.file.Files;
 import java.nio.file.Path;
 import java.util.Arrays;
+import java.util.List;
 import java.util.Scanner;
 import java.util.Set;
 import java.util.TreeSet;
@@ -18,19 +19,21 @@ import java.util.zip.ZipFile;
 /**
  * Compares folders of class files with what this JVM finds.
  *
- *     Found               each line of the input is a folder and a class path, with tabs between them
- *     Found --jdk FOLDER  FOLDER has this JDK's own classes
+ *     Found                         each line of the input is a folder and a class path, with tabs between them
+ *     Found --jdk FOLDER MODULE..   FOLDER has this JDK's own classes, of all its modules unless some are named
  *
  * It ends with status 1 where a folder hasn't exactly the class files that a class loader of the class path, or the JDK, finds. A
- * folder that isn't there is right where the loader finds none.
+ * folder that isn't there is right where the loader finds none. Of a class of more than 1,000,000 bytes the first 1,000,001 are looked for.
  */
 class Found {
+    private static final int MOST_BYTES = 1_000_000;
+
     private static int wrong;
 
     public static void main(String[] args) throws IOException {
         int folders = 0, classes = 0;
-        if (args.length == 2) {
-            classes = jdk(Path.of(args[1]));
+        if (args.length > 1) {
+            classes = jdk(Path.of(args[1]), List.of(args).subList(2, args.length));
             folders = 1;
         } else {
             try (Scanner lines = new Scanner(System.in)) {
@@ -73,15 +76,15 @@ class Found {
         return count;
     }
 
-    /** Compares a folder with the classes of this JDK, and tells how many these are. */
-    private static int jdk(Path folder) throws IOException {
+    /** Compares a folder with the classes of this JDK, of all its modules unless some are named, and tells how many these are. */
+    private static int jdk(Path folder, List<String> named) throws IOException {
         Path modules = FileSystems.getFileSystem(URI.create("jrt:/")).getPath("/modules");
         Set<String> kept = files(folder);
         int count = 0;
         try (Stream<Path> all = Files.walk(modules)) {
             for (Path path : (Iterable<Path>) all::iterator) {
                 String name = path.getNameCount() < 3 ? "" : path.subpath(2, path.getNameCount()).toString();
-                if (isClass(name) && Files.isRegularFile(path)) {
+                if (isClass(name) && (named.isEmpty() || named.contains(path.getName(1).toString())) && Files.isRegularFile(path)) {
                     count++;
                     compare(folder, name, Files.readAllBytes(path));
                     kept.remove(name);
@@ -94,9 +97,10 @@ class Found {
 
     private static void compare(Path folder, String name, byte[] bytes) throws IOException {
         Path file = folder.resolve(name);
+        byte[] kept = bytes.length > MOST_BYTES ? Arrays.copyOf(bytes, MOST_BYTES + 1) : bytes;
         if (!Files.isRegularFile(file)) {
             tell(folder + " lacks " + name);
-        } else if (!Arrays.equals(bytes, Files.readAllBytes(file))) {
+        } else if (!Arrays.equals(kept, Files.readAllBytes(file))) {
             tell(folder + " has other bytes of " + name);
         }
     }

@@ -1,29 +1,37 @@
 #!/usr/bin/env python3
 """Makes a folder of class files out of a class path as people have it: the classes that a JVM finds there, a file for each.
 
-    tools/classes.py [--release N] [--limit BYTES] OUT PATH.. [--jdk [HOME]]
+    tools/classes.py [--release N] [--limit BYTES] OUT PATH.. [--jdk [HOME] [--modules NAME,..]]
 
-OUT/java/lang/Object.class is the file of java/lang/Object. A PATH is one of these, and of two files of one class the one that comes first
-is kept; the other is told on standard error:
+OUT/java/lang/Object.class is the file of java/lang/Object. A PATH is one of these:
 
     a folder     the .class files at and below it
-    a jar        the same; where its manifest says `Multi-Release: true`, with those below META-INF/versions/K over them, the highest K
-                 up to N last (by --release; 17), all as java.util.jar.JarFile reads it: K from 8 on, and of two members of one name
-                 the last
+    a jar        the same; where its manifest says `Multi-Release: true`, with those below META-INF/versions/K over them, for each K from 8
+                 to N, the highest last. N is 25 unless --release says another. All is as java.util.jar.JarFile of Java N reads it, so of
+                 two members of one name it is the last
     a .war       WEB-INF/classes, then the jars in WEB-INF/lib by their names
-    a jar of Spring Boot    BOOT-INF/classes, then the jars in BOOT-INF/lib, first those that BOOT-INF/classpath.idx names, in its
-                 order, then the others in the archive's; the classes of its launcher, which lie beside these folders, are left out
+    a jar of Spring Boot    BOOT-INF/classes, then the jars in BOOT-INF/lib: first those that BOOT-INF/classpath.idx names, in its order,
+                 then the others in the archive's. The classes of its launcher, which lie beside these folders, are left out
     a .jmod      what lies in its folder `classes`
 
 --jdk is a JDK's own classes, which come before all paths, as in a JVM: of HOME/lib/modules by HOME/bin/jimage, else of HOME/jmods. Without
-HOME it is JAVA_HOME, else that of the PATH's java. The script needs Python 3.8.
+HOME it is JAVA_HOME, else that of the PATH's java. With --modules only the classes of these modules of the JDK are taken, and not those of
+the modules that they require. The script needs Python 3.8.
 
-A class has the name of its place, as for a class loader. Files module-info.class and those below META-INF are no classes. Jars in
-libraries aren't unpacked, and the Class-Path of a manifest isn't followed; that is told on standard error.
-It ends with status 0 and a line that counts the classes; or with status 2 and a line that says why, and makes nothing: a path that isn't
-there or is none of these; an OUT that isn't empty, or lies in a PATH; a name that leads out of OUT; a symbolic link in a folder or an
+A class has the name of its place, as for a class loader. Files module-info.class and those below META-INF are no classes. Of two files of
+one class the first is kept. Of a file of more than 1,000,000 bytes, which `linkd report` tells as TooLarge, the first 1,000,001 bytes are
+read and kept; whether the others are damaged isn't looked at.
+
+These are told on standard error: a class that was found before, or that comes twice in an archive; a PATH that came before, by the same
+name or another one, and is left out; a jar that classpath.idx names and that is missing; the Class-Path of a manifest, which isn't
+followed; how many of the classes are of a later major version than 69, that of Java 25; how many are of more than 1,000,000 bytes.
+`linkd report` reads neither of the last two. Jars in the jars of a lib folder aren't unpacked.
+
+It ends with status 0 and a line that counts the classes; or with status 2 and a line that says why, and makes nothing: a PATH that is
+missing or is none of these; an OUT that isn't empty, or lies in a PATH; a name that leads out of OUT; a symbolic link in a folder or an
 archive; a .class that doesn't begin as a class file; an encrypted member; a damaged archive, or one in which a JVM finds nothing since its
-manifest is malformed; more than BYTES read (2,000,000,000), whatever the archives say; two classes that no file system has side by side.
+manifest is malformed; more than BYTES read (2,000,000,000), whatever the archives say; two classes that no file system has side by side;
+--modules without --jdk, or with a NAME that is empty or that no module of the JDK has.
 """
 
 import argparse
@@ -38,6 +46,10 @@ import zipfile
 import zlib
 
 MANIFEST = "META-INF/MANIFEST.MF"
+# The newest major version of class files that `linkd report` reads, its release of Java, and the most bytes of a file.
+NEWEST_KNOWN = 69
+NEWEST_RELEASE = NEWEST_KNOWN - 44
+MOST_BYTES = 1_000_000
 
 
 class Refused(Exception):
@@ -118,14 +130,19 @@ class Classes:
 
     def __init__(self, room, release, limit):
         self.room, self.release, self.limit = room, release, limit
-        self.count_read, self.sources = 0, {}
+        self.count_read, self.sources, self.later, self.large = 0, {}, [], []
+
+    def read(self, stream, most):
+        """The next bytes of a stream, up to so many, counted as they come."""
+        chunk = stream.read(most)
+        self.count_read += len(chunk)
+        if self.count_read > self.limit:
+            raise Refused(f"more than {self.limit} bytes of classes and libraries")
+        return chunk
 
     def chunks(self, stream):
-        """What a stream gives, counted as it comes."""
-        while chunk := stream.read(1 << 20):
-            self.count_read += len(chunk)
-            if self.count_read > self.limit:
-                raise Refused(f"more than {self.limit} bytes of classes and libraries")
+        """All that a stream gives."""
+        while chunk := self.read(stream, 1 << 20):
             yield chunk
 
     def take(self, name, source, stream):
@@ -136,14 +153,28 @@ class Classes:
             tell(f"{name[:-6]} is in {self.sources[name]} and in {source}, and the first is kept")
             return
         self.sources[name] = source
-        path, first = os.path.join(self.room, name), None
+        # One byte more than the most, from which `linkd report` tells that the file is too large.
+        text = self.read(stream, MOST_BYTES + 1)
+        if not text.startswith(b"\xca\xfe\xba\xbe"):
+            raise Refused(f"{source}: {name} is no class file")
+        path = os.path.join(self.room, name)
         os.makedirs(os.path.dirname(path), exist_ok=True)
         with open(path, "xb") as file:
-            for chunk in self.chunks(stream):
-                first = first or chunk[:4]
-                file.write(chunk)
-        if first != b"\xca\xfe\xba\xbe":
-            raise Refused(f"{source}: {name} is no class file")
+            file.write(text)
+        major = int.from_bytes(text[6:8], "big")
+        if len(text) >= 8 and major > NEWEST_KNOWN:
+            self.later.append(major)
+        if len(text) > MOST_BYTES:
+            self.large.append(name)
+
+    def tell_unread(self):
+        """Tells of the taken classes that `linkd report` doesn't read."""
+        if self.later:
+            newest = f"{NEWEST_KNOWN}, that of Java {NEWEST_RELEASE}"
+            tell(f"classes of later versions than {newest}: {len(self.later)}, up to {max(self.later)}; linkd report doesn't read them")
+        if self.large:
+            example = f"{self.large[0][:-6]} of {self.sources[self.large[0]]}"
+            tell(f"classes of more than {MOST_BYTES:,} bytes: {len(self.large)}, such as {example}; linkd report tells them as TooLarge")
 
     def folder(self, top, source):
         """Takes the class files of a folder."""
@@ -228,18 +259,40 @@ class Classes:
         else:
             raise Refused(f"{path}: there is no such folder or archive")
 
-    def jdk(self, home, room):
-        """Takes the classes of a JDK, with room for all that its modules have."""
-        jimage, modules, jmods = (f"{home}/{place}" for place in ("bin/jimage", "lib/modules", "jmods"))
-        if os.path.isfile(jimage) and os.path.isfile(modules):
-            subprocess.run([jimage, "extract", "--dir", room, modules], stdout=subprocess.DEVNULL, check=True)
-            for module in sorted(os.listdir(room)):
+    def jdk(self, home, modules, room):
+        """Takes the classes of a JDK, of all its modules unless some are named, with room for all that these have."""
+        jimage, image, jmods = (f"{home}/{place}" for place in ("bin/jimage", "lib/modules", "jmods"))
+        if os.path.isfile(jimage) and os.path.isfile(image):
+            include = ["--include", ",".join(f"regex:/{re.escape(module)}/.*" for module in modules)] if modules else []
+            os.mkdir(room)
+            subprocess.run([jimage, "extract", "--dir", room, *include, image], stdout=subprocess.DEVNULL, check=True)
+            for module in chosen(os.listdir(room), modules, home):
                 self.folder(f"{room}/{module}", f"{module} of {home}")
         elif os.path.isdir(jmods):
-            for name in sorted(name for name in os.listdir(jmods) if name.endswith(".jmod")):
-                self.path(f"{jmods}/{name}")
+            for module in chosen([name[:-5] for name in os.listdir(jmods) if name.endswith(".jmod")], modules, home):
+                self.path(f"{jmods}/{module}.jmod")
         else:
             raise Refused(f"{home}: neither jimage with lib/modules nor jmods is there")
+
+
+def chosen(found, modules, home):
+    """The modules to take of those that are found in a JDK: all, unless some are named."""
+    for module in modules:
+        if module not in found:
+            raise Refused(f"{home}: it has no module {module!r}")
+    return sorted(set(modules or found))
+
+
+def distinct(paths):
+    """The paths, each once, whatever its names; tells of those that come again."""
+    first = {}
+    for path in paths:
+        place = os.path.realpath(path)
+        if place in first:
+            tell(f"{path}: it came before, as {first[place]}, and is left out")
+        else:
+            first[place] = path
+    return list(first.values())
 
 
 def check_out(out, paths):
@@ -251,9 +304,10 @@ def check_out(out, paths):
             raise Refused(f"{out}: it lies in {path}")
 
 
-def make(words, out):
+def make(words, modules, out):
     """Makes the folder, and tells how many classes it has."""
-    check_out(out, words.paths)
+    paths = distinct(words.paths)
+    check_out(out, paths)
     is_new = not os.path.isdir(out)
     os.makedirs(out, exist_ok=True)
     room = tempfile.mkdtemp(prefix=".unfinished-", dir=out)
@@ -262,9 +316,10 @@ def make(words, out):
         os.mkdir(made)
         classes = Classes(made, words.release, words.limit)
         if words.jdk:
-            classes.jdk(words.jdk, image)
-        for path in words.paths:
+            classes.jdk(words.jdk, modules, image)
+        for path in paths:
             classes.path(path)
+        classes.tell_unread()
         for name in os.listdir(made):
             os.rename(os.path.join(made, name), os.path.join(out, name))
         is_new = False
@@ -272,23 +327,30 @@ def make(words, out):
         shutil.rmtree(room)
         if is_new:
             os.rmdir(out)
-    print(f"{len(classes.sources)} classes of {len(words.paths) + bool(words.jdk)} paths")
+    print(f"{len(classes.sources)} classes of {len(paths) + bool(words.jdk)} paths")
 
 
 def main():
-    read = argparse.ArgumentParser(usage="tools/classes.py [--release N] [--limit BYTES] OUT PATH.. [--jdk [HOME]], or --help")
+    usage = "tools/classes.py [--release N] [--limit BYTES] OUT PATH.. [--jdk [HOME] [--modules NAME,..]], or --help"
+    read = argparse.ArgumentParser(usage=usage)
     read.print_help = lambda file=None: print(__doc__.strip(), file=file)
-    read.add_argument("--release", type=int, default=17)
+    read.add_argument("--release", type=int, default=NEWEST_RELEASE)
     java = os.path.realpath(shutil.which("java") or "java")
     read.add_argument("--jdk", nargs="?", const=os.environ.get("JAVA_HOME") or os.path.dirname(os.path.dirname(java)))
+    read.add_argument("--modules")
     read.add_argument("--limit", type=int, default=2_000_000_000)
     read.add_argument("out")
     read.add_argument("paths", nargs="*")
     words = read.parse_intermixed_args()
     if not words.paths and not words.jdk:
         read.error("no PATH, and no JDK")
+    if words.modules is not None and not words.jdk:
+        read.error(f"--modules {words.modules} without --jdk")
+    modules = [] if words.modules is None else words.modules.split(",")
+    if "" in modules:
+        read.error(f"an empty name in --modules {words.modules!r}")
     try:
-        make(words, os.path.realpath(words.out))
+        make(words, modules, os.path.realpath(words.out))
     except (Refused, OSError, subprocess.SubprocessError) as error:
         tell(error)
         return 2
