@@ -6,6 +6,7 @@ import java.nio.file.Files;
 import java.nio.file.Path;
 import java.util.HashMap;
 import java.util.HexFormat;
+import java.util.List;
 import java.util.Map;
 import jdk.internal.org.objectweb.asm.ClassReader;
 import jdk.internal.org.objectweb.asm.ClassVisitor;
@@ -14,14 +15,15 @@ import jdk.internal.org.objectweb.asm.MethodVisitor;
 import jdk.internal.org.objectweb.asm.Opcodes;
 
 /**
- * What this JVM does at an invocation in sketched classes.
+ * What a JVM does at an invocation in sketched classes.
  *
- * <p>{@code AsmHotspot LINES CALLER TIMES RECEIVER..} defines the classes of LINES, in hexadecimal, by one loader, makes an object of
- * each RECEIVER without a constructor (none for {@code null}), and has CALLER's static method {@code call} invoke on each in turn, TIMES
- * times. Each other method with a code tells its name when it runs. It prints what came of the last time: {@code C.m}, or the error's
- * name; of an inherited method without such a code only that it returned.
+ * <p>{@code AsmHotspot tell LINES} reads the class files of LINES, in hexadecimal. It writes code into them: each method with a code, other
+ * than {@code call}, tells its name when it runs. It prints a line for each class, with its name and its file in hexadecimal. It needs ASM.
  *
- * <p>It needs {@code -XX:-BytecodeVerificationRemote}, since no receiver is cast.
+ * <p>{@code AsmHotspot run TOLD CALLER TIMES RECEIVER..} needs no ASM. It defines the classes of those printed lines by one loader. It
+ * makes an object of each RECEIVER without a constructor, none for {@code null}. CALLER's static method {@code call} invokes on each in
+ * turn, TIMES times. It prints what came of the last time: {@code C.m}, or the error's name. Of an inherited method without such a code it
+ * prints only that it returned. It needs {@code -XX:-BytecodeVerificationRemote}, since no receiver is cast.
  */
 public final class AsmHotspot {
     private static String ran;
@@ -78,16 +80,23 @@ public final class AsmHotspot {
         }
     }
 
-    /** The classes of the lines, by name. */
+    private static void tell(Path lines) throws IOException {
+        for (String line : Files.readAllLines(lines)) {
+            ClassReader reader = new ClassReader(HexFormat.of().parseHex(line));
+            ClassWriter writer = new ClassWriter(0);
+            reader.accept(new Telling(writer), 0);
+            System.out.println(reader.getClassName() + " " + HexFormat.of().formatHex(writer.toByteArray()));
+        }
+    }
+
+    /** The classes of the printed lines, by name. */
     private static final class Sketches extends ClassLoader {
         private final Map<String, byte[]> files = new HashMap<>();
 
-        Sketches(Path lines) throws IOException {
-            for (String line : Files.readAllLines(lines)) {
-                ClassReader reader = new ClassReader(HexFormat.of().parseHex(line));
-                ClassWriter writer = new ClassWriter(0);
-                reader.accept(new Telling(writer), 0);
-                files.put(reader.getClassName().replace('/', '.'), writer.toByteArray());
+        Sketches(Path told) throws IOException {
+            for (String line : Files.readAllLines(told)) {
+                String[] words = line.split(" ");
+                files.put(words[0].replace('/', '.'), HexFormat.of().parseHex(words[1]));
             }
         }
 
@@ -118,17 +127,25 @@ public final class AsmHotspot {
         }
     }
 
-    public static void main(String[] words) throws IOException, ReflectiveOperationException {
-        Sketches loader = new Sketches(Path.of(words[0]));
-        Method call = loader.loadClass(words[1].replace('/', '.')).getDeclaredMethod("call", Object.class);
+    private static void run(Path told, String caller, int times, List<String> receivers) throws IOException, ReflectiveOperationException {
+        Sketches loader = new Sketches(told);
+        Method call = loader.loadClass(caller.replace('/', '.')).getDeclaredMethod("call", Object.class);
         call.setAccessible(true);
         String last = "";
-        for (int at = 3; at < words.length; at++) {
-            Object receiver = words[at].equals("null") ? null : made(loader.loadClass(words[at].replace('/', '.')));
-            for (int time = 0; time < Integer.parseInt(words[2]); time++) {
+        for (String name : receivers) {
+            Object receiver = name.equals("null") ? null : made(loader.loadClass(name.replace('/', '.')));
+            for (int time = 0; time < times; time++) {
                 last = came(call, receiver);
             }
         }
         System.out.println(last);
+    }
+
+    public static void main(String[] words) throws IOException, ReflectiveOperationException {
+        if (words[0].equals("tell")) {
+            tell(Path.of(words[1]));
+        } else {
+            run(Path.of(words[1]), words[2], Integer.parseInt(words[3]), List.of(words).subList(4, words.length));
+        }
     }
 }

@@ -3,8 +3,10 @@
 #
 #     bench/hotspot.sh PROGRAM       PROGRAM is the built linkd
 #
-# JAVA_HOME chooses the JDK (else java of the PATH), which has to have ASM inside (17 to 23). It needs python3. hotspot.py tells how a row
-# is read. It ends with status 0 only where each answer is the page's.
+# JAVA_HOME chooses the JDK (else java of the PATH). It has to have ASM inside (17 to 23). JAVA2 is the home of a second JDK, as new as the
+# first or newer. It needs no ASM: it runs the class files that the first one has written. The script tells in which rows the second JVM
+# answers otherwise than the first, and whether the page says so. Without JAVA2 it says that it looked at no second JVM. It needs python3.
+# hotspot.py tells how the page is read. The script ends with status 0 only where each answer is the page's.
 set -eu
 here=$(cd "$(dirname "$0")" && pwd)
 . "$here/common.sh"
@@ -15,5 +17,9 @@ if [ "$has_asm" = 0 ]; then
     echo "this JDK has no ASM" >&2
     exit 2
 fi
-java -version 2>&1 | sed -n 2p
-python3 "$here/hotspot.py" "$program" java "${exports[@]}" -cp "$built" AsmHotspot
+javas=(java)
+if [ -n "${JAVA2:-}" ]; then
+    [ -x "$JAVA2/bin/java" ] || { echo "no bin/java in JAVA2, $JAVA2" >&2; exit 2; }
+    javas+=("$(cd "$JAVA2" && pwd)/bin/java")
+fi
+python3 "$here/hotspot.py" "$program" "$built" "${javas[@]}"
