@@ -26,7 +26,10 @@ FARM_OF_NONE = b'{"links":[],"reports":[]}\n'
 OBJECT = b'{"do":"define","loader":0,"sketch":{"name":"java/lang/Object","flags":33}}\n'
 BAD_WORDS, FARM_FAILED = (1, b"linkd: bad words\n"), (1, b"linkd: farm failed\n")
 TOO_LONG, FAILED, NO_MEMORY = (2, b"linkd: line too long\n"), (3, b"linkd: input or output failed\n"), (4, b"linkd: out of memory\n")
+NOTHING = (5, b"linkd: nothing to report\n")
 ENDED = (0, b"")
+# What the standard output says of bad words that ask for no help begins so, and ends with one of these.
+WRONG, ALL_COMMANDS, ALL_OPTIONS = b"error: ", b"\n`linkd --help` has all commands.\n", b"\n`linkd report --help` has all options.\n"
 MODES = (["scan"], ["sketch"], ["run"], ["farm", "--workers", "2"])
 BAD_LINE = b'{"error":"BadCommand"}\n'
 # A class file, its sketch and a command, which tell the modes apart; and what each mode answers.
@@ -44,7 +47,7 @@ ASKING = (
     "farm --workers=4 --, farm --workers +4, farm --workers=0004"
 )
 ASKING_NOTHING = (
-    "--, -- scan, scan -- scan, sketch scan, sketches, run scan, Scan, sc, --version, -V, scan scan, scan -- --help, scan -- help, "
+    "--, -- scan, scan -- scan, sketch scan, sketches, run scan, Scan, sc, --version x, -V scan, scan --version, scan scan, scan -- --help, scan -- help, "
     "sc help, scan scan help, helps, --hel, scan --workers 2, farm, farm --, farm 4, farm --workers, farm --workers=, farm --workers 0, "
     "farm --workers 17, farm --workers 260, farm --workers -1, farm --workers=-1, farm --workers four, farm --workers 4.0, "
     "farm --workers=4=4, farm --workers 4 --workers 4, farm --workers=4 --workers=4, farm --workers --workers 4, farm --workers 4 5, "
@@ -52,7 +55,26 @@ ASKING_NOTHING = (
     "farms --workers 4"
 )
 NONE = ([""], ["scan", "run"], ["Scan"], ["farm"], ["farm", "--workers"], ["farm", "2"])
-NO_REPORTS = (["report"], ["report", "--only", "any", "/"], ["report", "--lines", "/"])
+NO_REPORTS = (
+    "report, report --only any /, report --lines /, report --site /, report --only Direct /, report --only open,direct /, report --sites --json /, "
+    "report --classes /, report --html, report --release 16 /, report --release 26 /, report --release x /, report --release 21 --release 25 /, "
+    "report / --html /p.html, report --html A.class /none, report --with / --html /p.html /none, report --breaks / --html /p.html /none"
+)
+# Bad words, and what the standard output says of them: the word, and one that is near it.
+SAID = {
+    "reprot": ("reprot", "report"),
+    "sacn": ("sacn", "scan"),
+    "run scan": ("scan",),
+    "farm --worker 4": ("--worker", "--workers"),
+    "farm --workers 17": ("17", "--workers"),
+    "report --site /": ("--site", "--sites"),
+    "report --only Direct /": ("Direct", "direct"),
+    "report --sites --json /": ("--sites", "--json"),
+    "report --classes /": ("--json",),
+    "report --release 26 /": ("26", "--release"),
+    "report": ("PATH",),
+    "report / --html /p.html": ("/p.html", "'/'"),
+}
 # Words that ask for help, by the subcommand whose usage it is, if any; and the sections of docs/FORMATS.md that name its options.
 HELP = {
     "": ", help, --help, -h, help help, help unknown, help -- scan, help --help, --help scan, -h report /, --workers 4 --help, sc --help",
@@ -63,7 +85,9 @@ HELP = {
     "report": "help report, report --help, report -h, report / --help, report help --help, report --only --help, report --html x -h -- /",
 }
 OPTIONS_IN = {"farm": "Commands", "report": "Reports"}
-NO_CLASSES = b"0 invocations in 0 methods of 0 classes\n"
+NO_CLASSES = (
+    b"no class of these paths was read: they have no files whose names end in .class\n0 invocations in 0 methods of 0 classes\n"
+)
 COUNTS = ("0", "17", "-1", "two", "", "256")
 MEGABYTE = 1 << 20
 NOBODY = 65534
@@ -93,16 +117,25 @@ def words(rows, program):
     for mode in MODES:
         rows.expect(f"{mode} without input", run(program, mode), (ENDED, FARM_OF_NONE if mode[0] == "farm" else b""))
     for asked in [*NONE, *(["farm", "--workers", count] for count in COUNTS), *map(str.split, ASKING_NOTHING.split(","))]:
-        rows.expect(f"the words {asked}", run(program, asked, LINKS), (BAD_WORDS, b""))
+        told_wrong(rows, program, asked, ALL_COMMANDS)
     for asked in map(str.split, ASKING.split(",")):
         rows.expect(f"the words {asked}", run(program, asked, FILE + SKETCH + LINKS), (ENDED, MODE_ANSWERS[asked[0]]))
 
 
+def told_wrong(rows, program, asked, last):
+    """The words are bad ones, and the standard output says what is wrong with them, and no more."""
+    end, text = run(program, asked, LINKS)
+    rows.expect(f"the words {asked}", (end, text.startswith(WRONG), text.endswith(last)), (BAD_WORDS, True, True))
+
+
 def reports(rows, program):
-    for asked in NO_REPORTS:
-        rows.expect(f"the words {asked}", run(program, asked), (BAD_WORDS, b""))
+    for asked in map(str.split, NO_REPORTS.split(", ")):
+        told_wrong(rows, program, asked, ALL_OPTIONS)
+    for asked, wanted in SAID.items():
+        text = run(program, asked.split())[1].decode()
+        rows.expect(f"what is said of {asked}", [word for word in wanted if word not in text], [])
     with tempfile.TemporaryDirectory() as folder:
-        rows.expect("a report of nothing", run(program, ["report", folder]), (ENDED, NO_CLASSES))
+        rows.expect("a report of nothing", run(program, ["report", folder]), (NOTHING, NO_CLASSES))
         nowhere = f"{folder}/nowhere"
         told = f"linkd: {nowhere}: entity not found\n".encode() + FAILED[1]
         rows.expect("a report of no path", run(program, ["report", nowhere, folder]), ((FAILED[0], told), NO_CLASSES))
@@ -111,10 +144,12 @@ def reports(rows, program):
             rows.expect(f"a report of the path {asked}", run(program, ["report", *asked], cwd=folder), ((FAILED[0], told), NO_CLASSES))
         with open("/dev/full", "wb") as full:
             rows.expect("a report into a full device", run(program, ["report", folder], stdout=full)[0], FAILED)
-        reader, writer = os.pipe()
-        os.close(reader)
-        rows.expect("a report into a closed pipe", run(program, ["report", folder], stdout=writer)[0], ENDED)
-        os.close(writer)
+        page = pathlib.Path(folder, "page.html")
+        for asked, wanted, is_written in ((["report", "/dev/null"], ENDED, False), (["report", "--html", page, "/dev/null"], NOTHING, True)):
+            reader, writer = os.pipe()
+            os.close(reader)
+            rows.expect(f"{asked} into a closed pipe", (run(program, asked, stdout=writer)[0], page.exists()), (wanted, is_written))
+            os.close(writer)
 
 
 def usage(rows, program, topic):
@@ -151,6 +186,8 @@ def examples(rows, program, text):
 
 def helps(rows, program):
     version = re.search("^Version: (.*)$", (TOP / "tools/install.sh").read_text(), re.MULTILINE)[1]
+    for asked in ("--version", "-V"):
+        rows.expect(asked, run(program, [asked]), (ENDED, f"linkd {version}\n".encode()))
     page = (TOP / "docs/linkd.1").read_text().replace("\\-", "-")
     usages, taken = {topic: usage(rows, program, topic) for topic in HELP}, {"--help"}
     for topic, text in usages.items():
@@ -167,7 +204,7 @@ def helps(rows, program):
     for topic in filter(None, HELP):
         about = usages[topic].split("\n")[2]
         rows.expect(f"what the program's usage says of {topic}", re.findall(f"^  {topic} +(.*)", usages[""], re.MULTILINE), [about])
-    rows.expect("the options of docs/linkd.1", options_in(re.sub(r"(?s)\n\.EX\n.*?\n\.EE\n", "\n", page)), taken)
+    rows.expect("the options of docs/linkd.1", options_in(re.sub(r"(?s)\n\.EX\n.*?\n\.EE\n", "\n", page)), taken | {"--version"})
     rows.expect("the version of docs/linkd.1", f'"linkd {version}"' in page, True)
     rows.expect("the version of docs/FORMATS.md", f"`linkd {version}`" in section("Usage"), True)
     with open("/dev/full", "wb") as full:

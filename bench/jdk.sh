@@ -47,16 +47,20 @@ memory() {
 reader() {
     bytes=$(awk '{ n += $NF } END { printf "%d", n }' "$data/classes.names")
     : > "$work/ours"
+    : > "$work/known"
     : > "$work/theirs"
     for turn in $(seq "${TURNS:-7}"); do
         "$program" read < "$data/classes.hex" 2> "$work/passes" > "$work/totals"
-        awk '{ print $4 / 1000 }' "$work/passes" > "$work/ms"
+        awk '$2 == "classes" { print $4 / 1000 }' "$work/passes" > "$work/ms"
+        awk '$2 == "known" { print $4 / 1000 }' "$work/passes" > "$work/ms-known"
         middle "$work/ms" >> "$work/ours"
+        middle "$work/ms-known" >> "$work/known"
         run_java AsmSpeed 6 10 | awk -v b="$bytes" '/pass 10/ { for (i = 1; i <= NF; i++) if ($i == "MB") print b / 1e3 / $(i - 1) }' >> "$work/theirs"
         echo "turn $turn: read_class $(tail -n 1 "$work/ours") ms, ASM $(tail -n 1 "$work/theirs") ms"
     done
     awk -v a="$(middle "$work/ours")" -v b="$(middle "$work/theirs")" -v c="$(sort -n "$work/ours" | head -n 1)" -v d="$(sort -n "$work/theirs" | head -n 1)" \
         'BEGIN { printf "read_class is %.2f times as fast as ASM by the middles, %.2f by the best\n", b / a, d / c }'
+    awk -v a="$(middle "$work/ours")" -v b="$(middle "$work/known")" 'BEGIN { printf "up to the newest known version it takes %.3f times as long\n", b / a }'
     memory "all class files" "$data/classes.hex"
     awk 'length($0) > length(most) { most = $0 } END { for (i = 0; i < 50; i++) print most }' "$data/classes.hex" > "$work/largest.hex"
     memory "the largest, 50 times" "$work/largest.hex"

@@ -1,7 +1,8 @@
 #!/usr/bin/env python3
 """Holds the pages to the sources. Of docs/PROMISES.md each call is a public function of the file that it leads to, with a clause of each
 name that stands behind it in brackets, and so is each of README.md's promises; each crate and script is there; docs/DEFINITIONS.md
-names each file of definitions; docs/CRATES.md names each crate below those that it uses; and each link of a page leads to a file.
+names each file of definitions; docs/CRATES.md names each crate below those that it uses; each link of a page leads to a file; and the newest
+known version of class files is the same wherever it has to be written again.
 
     bench/promises.py     at the top of the repository; prints what isn't so, and ends with status 0 where all is
 """
@@ -10,6 +11,14 @@ import re
 import sys
 
 TOP = pathlib.Path(".")
+# Where the newest known version of class files stands: first where it is said, then in what isn't Rattle.
+NEWEST = {
+    "crates/jl_classfile/src/version.rt": r"pub const NEWEST_KNOWN: u16 = (\d+);",
+    "include/linkd.h": r"#define LINKD_NEWEST_KNOWN (\d+)\n",
+    "bindings/rust/src/lib.rs": r"pub const NEWEST_KNOWN: u16 = (\d+);",
+    "bindings/java/src/linkd/Linker.java": r"int NEWEST_KNOWN = (\d+);",
+    "tools/classes.py": r"\nNEWEST_KNOWN = (\d+)\n",
+}
 
 
 def clauses():
@@ -64,6 +73,13 @@ def crates():
     ]
 
 
+def newest():
+    """The places that have another newest known version than the first, or none."""
+    said = {path: re.findall(pattern, (TOP / path).read_text()) for path, pattern in NEWEST.items()}
+    first, *others = said
+    return [f"{path}: the newest known version is {said[path]}, and in {first} {said[first]}" for path in others if said[path] != said[first]]
+
+
 def promised(page, rows, found, are_named):
     """What the tables' calls aren't: public functions of the files that they lead to, each with a clause and with those that are named."""
     wrong = []
@@ -85,7 +101,7 @@ def promised(page, rows, found, are_named):
 
 def main():
     page, found = (TOP / "docs/PROMISES.md").read_text(), clauses()
-    wrong = definitions() + crates()
+    wrong = definitions() + crates() + newest()
     wrong += promised(TOP / "docs/PROMISES.md", page.split("## What no clause says")[0], found, True)
     first = (TOP / "README.md").read_text().split("## What is proved")[1].split("\n## ")[0]
     wrong += promised(TOP / "README.md", first, found, False)

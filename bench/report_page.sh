@@ -3,11 +3,12 @@
 #
 #     bench/report_page.sh PROGRAM FOLDER [PICTURES]     PROGRAM is the built linkd; FOLDER has class files, as rows/reports/classes does
 #
-# A picture of the page, closed, opened, and opened on a narrow screen, is written to the folder PICTURES, if it is named. CHROMIUM chooses
-# the browser (else chromium of the PATH; Debian's is `apt-get install chromium`). Compared are the six numbers of the whole with the sums
-# over the instructions, those of each package, class and method with the sums of what is below it, the invocations of each method with its
-# numbers, and the files that are left out. Words of --only, --in and --with may stand in REPORT_WORDS. It ends with status 0 only where all
-# are alike.
+# Pictures of the page, closed and opened, 1280 and 390 pixels wide, each with and without dark colours, are written to the folder PICTURES, if
+# it is named. CHROMIUM chooses the browser (else chromium of the PATH; Debian's is `apt-get install chromium`). Compared are the six numbers
+# of the whole with the sums over the instructions, those of each package, class and method with the sums of what is below it, the invocations
+# of each method with its numbers, and the files that are left out. Each method that a row names is pressed: who calls it has to have that row
+# among them, and its own row has to be shown, if it has one. Of what is megamorphic, and of what a further class may change, as many are shown
+# as the report has. Words of --only, --in, --with and --breaks may stand in REPORT_WORDS. It ends with status 0 only if all are alike.
 set -eu
 
 if [ $# != 2 ] && [ $# != 3 ]; then
@@ -35,12 +36,51 @@ browse() {
 if [ $# = 3 ]; then
     mkdir -p "$3"
     pictures=$(cd "$3" && pwd)
-    browse --window-size=1200,900 --screenshot="$pictures/page.png" "file://$work/page.html" > "$work/said-too"
-    browse --window-size=1200,2400 --screenshot="$pictures/open.png" "file://$work/page.html#open" > "$work/said-too"
-    browse --window-size=420,2400 --screenshot="$pictures/narrow.png" "file://$work/page.html#open" > "$work/said-too"
+    dark=(--force-dark-mode --enable-features=WebContentsForceDark:inversion_method/none)
+    for width in 1280 390; do
+        for end in "" "#open"; do
+            name=$pictures/$width${end/\#/-}
+            browse --window-size=$width,1800 --screenshot="$name.png" "file://$work/page.html$end" > "$work/said-too"
+            browse "${dark[@]}" --window-size=$width,1800 --screenshot="$name-dark.png" "file://$work/page.html$end" > "$work/said-too"
+        done
+    done
 fi
 browse --dump-dom "file://$work/page.html#open" > "$work/dom.html"
-python3 - "$work/dom.html" "$work/report.json" <<'END'
+
+# Presses what can be pressed, and tells what comes of it.
+python3 - "$work/page.html" "$work/pressed.html" <<'END'
+import sys
+
+PRESSES = r"""<script>
+const wrong = [];
+for (const site of document.querySelectorAll(".site")) for (const named of site.querySelectorAll("button")) {
+  const caller = site.parentElement.querySelector("summary .name").textContent;
+  named.click();
+  const panel = at("about"), listed = [...panel.querySelectorAll("li")].map(one => one.textContent);
+  if (panel.hidden || listed.length <= MOST_CALLERS && !listed.some(one => one.includes(": " + caller + ", "))) wrong.push(named.textContent + " isn't called by " + caller);
+  const own = [...panel.querySelectorAll("button")].find(one => one.textContent === "its invocations");
+  if (!own) continue;
+  own.click();
+  const shown = document.querySelector(".met > summary .name");
+  if (!shown || !shown.textContent.includes(named.textContent.slice(named.textContent.lastIndexOf(".") + 1))) wrong.push("no row of " + named.textContent);
+}
+const counts = {};
+for (const one of ["mega", "open"]) {
+  at("chosen").value = one;
+  show();
+  counts[one] = [...document.querySelectorAll("#all > .row:first-child b")].reduce((all, cell) => all + Number(cell.textContent), 0);
+}
+const result = document.createElement("pre");
+result.id = "pressed";
+result.textContent = JSON.stringify({ wrong, counts });
+document.body.append(result);
+</script></body></html>"""
+page = open(sys.argv[1], encoding="utf-8").read()
+open(sys.argv[2], "w", encoding="utf-8").write(page.replace("</body></html>", PRESSES))
+END
+browse --virtual-time-budget=20000 --dump-dom "file://$work/pressed.html#open" | sed -n 's|.*<pre id="pressed">\(.*\)</pre>.*|\1|p' > "$work/pressed.json"
+python3 - "$work/dom.html" "$work/report.json" "$work/pressed.json" <<'END'
+import html
 import html.parser
 import json
 import sys
@@ -97,7 +137,7 @@ for shapes in lines[-1]["totals"].values():
 wrong = []
 if not reader.rows or reader.rows[0][2] != wanted:
     wrong.append(f"the whole: the page has {reader.rows[:1]}, the report {wanted}")
-if sum(wanted) != sum("kind" in line for line in lines):
+if sum(wanted) != sum("kind" in line and "dropped" not in line for line in lines):
     wrong.append("the totals aren't as many as the lines")
 for place, (depth, name, numbers, sites) in enumerate(reader.rows):
     below = []
@@ -114,10 +154,16 @@ left = [one[0] for one in json.loads(reader.data)["leftOut"][:-1]]
 files = [line["file"] for line in lines if line.get("refused") not in (None, "ModuleFile") and "file" in line]
 if left != files:
     wrong.append(f"the page has {left} left out, the report {files}")
-classes = {line["class"] for line in lines if "kind" in line}
+classes = {line["class"] for line in lines if "kind" in line and "dropped" not in line}
 shown = sum(row[0] == 2 for row in reader.rows)
 if shown != len(classes):
     wrong.append(f"the page shows {shown} classes, the report {len(classes)}")
+pressed = json.loads(html.unescape(open(sys.argv[3], encoding="utf-8").read()))
+wrong += pressed["wrong"]
+rows = [line for line in lines if "kind" in line and "dropped" not in line]
+counts = {"mega": sum("mega" in line.get("link", {}) for line in rows), "open": sum("restsOn" in line for line in rows)}
+if pressed["counts"] != counts:
+    wrong.append(f"the page shows {pressed['counts']}, the report has {counts}")
 for text in wrong:
     print(text, file=sys.stderr)
 if not wrong:

@@ -1,19 +1,26 @@
 #!/usr/bin/env bash
 # Compares reports of folders that no test of a crate can make with what was worked out by hand.
 #
-#     bench/report_rows.sh PROGRAM       PROGRAM is the built linkd
+#     bench/report_rows.sh PROGRAM                  PROGRAM is the built linkd
+#     bench/report_rows.sh PROGRAM FOLDER BESIDE    only that the class files of FOLDER have the same report in later versions; the
+#                                                   classes of BESIDE are there, too
 #
 # 2,000 classes, each below the one whose name comes next, so that files by name have children first; links in folders, to a file, to a
-# folder and to nothing; a name that isn't UTF-8; class by class what further classes drop, whose files come in such an order, too. It
+# folder and to nothing; a name that isn't UTF-8; class by class what further classes drop, whose files come in such an order, too; class
+# files of which 65 and 69 are written as the major version, whose reports differ from those of before only in what tells of later ones. It
 # ends with status 0 only where each report is as it must be. It takes a minute, most of it the links of the chain and their methods, each of
 # which walks up from each receiver.
 set -eu
 
-if [ $# != 1 ]; then
+if [ $# != 1 ] && [ $# != 3 ]; then
     sed -n '2,/^set/{/^#/s/^# \{0,1\}//p;}' "$0" >&2
     exit 2
 fi
 program=$(cd "$(dirname "$1")" && pwd)/$(basename "$1")
+if [ $# = 3 ]; then
+    folder=$(cd "$2" && pwd)
+    beside=$(cd "$3" && pwd)
+fi
 export LC_ALL=C
 work=$(mktemp -d)
 trap 'rm -rf "$work"' EXIT
@@ -36,6 +43,42 @@ for sketch, text in zip(open("sketches"), open("hex")):
 END
 }
 
+# Writes the major version into each class file of a folder.
+written_as() {
+    python3 - "$1" "$2" <<'END'
+import pathlib
+import sys
+
+for path in pathlib.Path(sys.argv[1]).rglob("*.class"):
+    text = bytearray(path.read_bytes())
+    text[6:8] = int(sys.argv[2]).to_bytes(2, "big")
+    path.write_bytes(text)
+END
+}
+
+# Compares the reports of a folder's class files as 61, 65 and 69.
+later() {
+    for major in 61 65 69; do
+        mkdir "as-$major"
+        cp -r "$1" "as-$major/app"
+        written_as "as-$major/app" "$major"
+        for form in --json --sites; do
+            options=("$form" --all-receivers)
+            [ "$form" != --json ] || options+=(--classes)
+            (cd "as-$major" && "$program" report "${options[@]}" --with "$2" app) > "as-$major/told$form"
+            sed -e 's/"later":[0-9]*,//' -e 's/"linkedAs":"SE 17",//' -e '/^class files above 61\.0 /d' "as-$major/told$form" > "as-$major/rest$form"
+            count=$((count + 1))
+            if ! cmp "as-61/rest$form" "as-$major/rest$form" || { [ "$major" = 61 ] && ! cmp "as-61/told$form" "as-61/rest$form"; } ||
+                { [ "$major" != 61 ] && cmp -s "as-$major/told$form" "as-$major/rest$form"; }; then
+                echo "$1 as $major: the report $form isn't that of 61 and a line of later versions" >&2
+                wrong=1
+            fi
+        done
+    done
+    echo "$(grep -c '"kind"' as-61/told--json) invocations, as 61, 65 and 69"
+    rm -rf as-61 as-65 as-69
+}
+
 # Compares a report's output, its line on the standard error and its status with those that are wanted.
 expect() {
     told=$1 status=$2 errors=$3
@@ -51,6 +94,11 @@ expect() {
         printf '%s' "$errors" | diff - said >&2 || true
     fi
 }
+
+if [ $# = 3 ]; then
+    later "$folder" "$beside"
+    exit "$wrong"
+fi
 
 object='{"name":"java/lang/Object","flags":33}'
 echo "$object" | classes lang
@@ -150,4 +198,5 @@ invokevirtual                          2
     table                              1    50.0 %
       of two methods                   1    50.0 %
 END
+later "$work/two" "$work/lang"
 [ "$wrong" = 0 ] && echo "$count reports are as they must be"

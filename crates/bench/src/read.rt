@@ -1,8 +1,9 @@
-//! Measures the reader of class files alone: reads each of them eleven times over. With the word `keep` it reads each once and keeps what was
-//! read, so that the most memory of such a run beside that of a run without words tells what class files take.
+//! Measures the reader of class files alone: reads each of them eleven times over, and in turn with the newest known version for the newest of
+//! SE 17. With the word `keep` it reads each once and keeps what was read, so that the most memory of such a run beside that of a run without
+//! words tells what class files take.
 
 use crate::told::tell;
-use jl_classfile::read_class;
+use jl_classfile::{NEWEST_KNOWN, read_class, read_class_up_to};
 use std::alloc::Global;
 use std::io;
 use std::time::Instant;
@@ -21,11 +22,24 @@ pub(crate) fn read_each(alloc: Global, files: &[Vec<u8>]) -> u64 {
     read
 }
 
+/// How many of the class files are read up to the newest known version.
+fn read_each_known(alloc: Global, files: &[Vec<u8>]) -> u64 {
+    let mut read: u64 = 0;
+    for bytes in files {
+        if read_class_up_to(alloc, NEWEST_KNOWN, bytes).is_ok() {
+            read = read.saturating_add(1);
+        }
+    }
+    read
+}
+
 /// Reads the class files over and over.
 pub(crate) fn measure(rt: &HostRuntime, files: &[Vec<u8>]) -> io::Result<()> {
     for _ in 0..TIMES {
         let start = Instant::now(rt)?;
         tell(rt, "classes", read_each(rt.alloc(), files), &start)?;
+        let start = Instant::now(rt)?;
+        tell(rt, "known", read_each_known(rt.alloc(), files), &start)?;
     }
     Ok(())
 }

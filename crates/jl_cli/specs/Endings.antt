@@ -1,7 +1,7 @@
 -- How the program ends: its exit status, and the line that it writes on the standard error.
 use Rattle.std.specs.Prelude.{ℕ, List, [], codes, Result, Ok, Err}
 use Rattle.jl_cli.specs.declared.ending.Ending.{Ending}
-use Rattle.jl_cli.specs.declared.ending.Ending.TheVariants.{InputEnded, BadWords, FarmFailed, LineTooLong, DeviceFailed, OutOfMemory}
+use Rattle.jl_cli.specs.declared.ending.Ending.TheVariants.{InputEnded, BadWords, FarmFailed, LineTooLong, DeviceFailed, OutOfMemory, NothingReported}
 use Rattle.jl_lines.specs.declared.line_fault.LineFault.{LineFault}
 use Rattle.jl_lines.specs.declared.line_fault.LineFault.TheVariants.{TooLong, Device}
 use Rattle.jl_lines.specs.declared.line_fault.LineFault.TheVariants as lines
@@ -19,6 +19,7 @@ status_of FarmFailed = 1
 status_of LineTooLong = 2
 status_of DeviceFailed = 3
 status_of OutOfMemory = 4
+status_of NothingReported = 5
 
 -- what is written on the standard error: a line, but where the input ended
 abbrev pub line_of : Ending → List ℕ
@@ -28,6 +29,7 @@ line_of FarmFailed = ended (codes "linkd: farm failed")
 line_of LineTooLong = ended (codes "linkd: line too long")
 line_of DeviceFailed = ended (codes "linkd: input or output failed")
 line_of OutOfMemory = ended (codes "linkd: out of memory")
+line_of NothingReported = ended (codes "linkd: nothing to report")
 
 -- ---- how each fault ends it
 

@@ -21,6 +21,8 @@ pub enum Ending {
     LineTooLong,
     /// A read or a write failed.
     DeviceFailed,
+    /// A report has no class.
+    NothingReported,
     /// Want of memory for the words, a line or its answer, or a farm's server or last line.
     OutOfMemory,
 }
@@ -39,6 +41,7 @@ impl Ending {
             Ending::LineTooLong => 2,
             Ending::DeviceFailed => 3,
             Ending::OutOfMemory => 4,
+            Ending::NothingReported => 5,
         }
     }
 
@@ -53,6 +56,7 @@ impl Ending {
             Ending::LineTooLong => "linkd: line too long\n",
             Ending::DeviceFailed => "linkd: input or output failed\n",
             Ending::OutOfMemory => "linkd: out of memory\n",
+            Ending::NothingReported => "linkd: nothing to report\n",
         }
     }
 

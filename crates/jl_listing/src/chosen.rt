@@ -5,6 +5,9 @@ use jl_hierarchy::Classes;
 use jl_report::{Row, Shape, is_open};
 use std::alloc::{AllocError, Global};
 
+/// The words for what an invocation comes to.
+pub(crate) const FORMS: &[&str] = &["direct", "table", "mega", "fault", "waits", "open"];
+
 /// What an invocation comes to, as it is asked for.
 #[derive(Clone, Copy, Debug, PartialEq, Eq)]
 pub enum Choice {

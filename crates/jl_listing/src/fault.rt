@@ -11,6 +11,12 @@ pub enum ReportFault {
     /// A path couldn't be read, and was told, or the report couldn't be written.
     #[error("input or output failed")]
     Device,
+    /// No class was there to be reported.
+    #[error("nothing to report")]
+    Nothing,
+    /// The page would be written over class files, and this was told.
+    #[error("bad words")]
+    BadWords,
     /// Whoever read the report closed the pipe.
     #[error("closed pipe")]
     Closed,

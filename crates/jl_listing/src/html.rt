@@ -4,4 +4,4 @@
 mod page_text;
 mod rows;
 
-pub(crate) use rows::{HtmlPage, Read};
+pub(crate) use rows::{HtmlPage, PageEnd, Read};

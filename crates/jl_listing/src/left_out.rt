@@ -1,10 +1,11 @@
 //! Files that are left out.
 
+use crate::releases::release_that_takes;
 use crate::texts::MissingClasses;
-use jl_classfile::ClassFault;
+use jl_classfile::{ClassFault, Version};
 use jl_json::{FileRefusal, event_refusal_value};
 use jl_names::Name;
-use jl_paths::{NoClass, NoClassReason, Source, are_reported};
+use jl_paths::{NoClass, NoClassReason, Source, Special, are_reported};
 use jl_report::Refused;
 use jl_types::{DefineFault, Refusal};
 use serde_json::{Map, Value, put};
@@ -73,17 +74,44 @@ pub(crate) fn add_no_classes(
 fn no_class_answer(alloc: Global, reason: NoClassReason) -> Result<Value, AllocError> {
     match reason {
         NoClassReason::Malformed(fault) => FileRefusal::from(fault).to_value(alloc),
-        NoClassReason::Archive => {
-            let mut members = Map::new(alloc);
-            put(
-                &mut members,
-                alloc,
-                "refused",
-                Value::try_from_str(alloc, "Archive")?,
-            )?;
-            Ok(Value::Object(members))
-        }
+        NoClassReason::OfVersion(version) => of_version(alloc, version),
+        NoClassReason::Archive => refused_as(alloc, "Archive"),
+        NoClassReason::Special(Special::Fifo) => refused_as(alloc, "Fifo"),
+        NoClassReason::Special(Special::Socket) => refused_as(alloc, "Socket"),
+        NoClassReason::Special(Special::Device) => refused_as(alloc, "Device"),
     }
+}
+
+/// The answer that refuses a file for what it is. Want of memory is an error.
+fn refused_as(alloc: Global, name: &str) -> Result<Value, AllocError> {
+    let mut members = Map::new(alloc);
+    put(
+        &mut members,
+        alloc,
+        "refused",
+        Value::try_from_str(alloc, name)?,
+    )?;
+    Ok(Value::Object(members))
+}
+
+/// The answer that refuses a file for its version, with the version and the release that takes it, if one does. Want of memory is an error.
+fn of_version(alloc: Global, version: Version) -> Result<Value, AllocError> {
+    let mut answer = FileRefusal::from(ClassFault::BadVersion).to_value(alloc)?;
+    if let Value::Object(members) = &mut answer {
+        if let Some(release) = release_that_takes(version) {
+            put(members, alloc, "release", Value::from(release))?;
+        }
+        let Version { major, minor } = version;
+        let mut text = String::new(alloc);
+        write!(text, "{major}.{minor}")?;
+        put(
+            members,
+            alloc,
+            "version",
+            Value::try_from_str(alloc, text.as_str())?,
+        )?;
+    }
+    Ok(answer)
 }
 
 /// Adds the file of which no class was made. Want of memory is an error.

@@ -21,12 +21,14 @@ mod breaks;
 mod fault;
 mod left_out;
 mod page;
+mod page_file;
 mod progress;
+mod releases;
 mod report;
 mod told;
 
 pub use chosen::{Choice, Chosen};
 pub use fault::ReportFault;
 pub use report::run_report;
-pub use report_words::{Form, ReportWords, read_report_words};
+pub use report_words::{Form, ReportWords, read_report_words, wrong_in_report};
 pub use usage::report_usage;

@@ -2,12 +2,13 @@
 
 use crate::chosen::Chosen;
 use crate::fault::ReportFault;
-use crate::html::{HtmlPage, Read};
+use crate::html::{HtmlPage, PageEnd, Read};
 use crate::left_out::LeftOut;
 use crate::report_words::{Form, ReportWords};
 use crate::texts::{
-    Former, MissingClasses, Summary, push_all_left_out, push_dropped, push_left_out_line,
-    push_method_line, push_site_line, write_class_line, write_line, write_totals,
+    Elsewhere, Former, MissingClasses, Summary, push_all_left_out, push_dropped,
+    push_left_out_line, push_line, push_method_line, push_nothing_line, push_site_line,
+    write_class_line, write_line, write_totals,
 };
 use crate::told::{Note, notes_of};
 use jl_class::{ClassFile, Method, Site};
@@ -27,9 +28,14 @@ pub(crate) struct Page {
     form: Form,
     text: String,
     bytes: Vec<u8>,
-    summary: Summary,
+    pub(crate) summary: Summary,
     pub(crate) missing: MissingClasses,
+    pub(crate) elsewhere: Elsewhere,
+    /// Why no class is there, or nothing.
+    nothing: String,
     html: Option<HtmlPage>,
+    /// Whether whoever read the report closed the pipe, and a page is still to be written.
+    is_closed: bool,
     /// Whether further classes come.
     keeps_rows: bool,
     /// The invocations whose links a further class may drop.
@@ -49,7 +55,10 @@ impl Drop for Page {
             bytes: _bytes,
             summary: _summary,
             missing: _missing,
+            elsewhere: _elsewhere,
+            nothing: _nothing,
             html: _html,
+            is_closed: _is_closed,
             keeps_rows: _keeps_rows,
             kept: _kept,
             further: _further,
@@ -67,6 +76,9 @@ impl Page {
             bytes: Vec::new(alloc),
             summary: Summary::new(),
             missing: MissingClasses::new(alloc),
+            elsewhere: Elsewhere::new(alloc),
+            nothing: String::new(alloc),
+            is_closed: false,
             html: asked.html.is_some().then(|| HtmlPage::new(alloc)),
             keeps_rows: !asked.breaks.is_empty(),
             kept: Vec::new(alloc),
@@ -121,6 +133,9 @@ impl Page {
         let Some(site) = method.sites().at_pc(place.pc) else {
             return Ok(());
         };
+        if let Some(html) = &mut self.html {
+            html.add_dropped(alloc, classes, class, one, &method, &site)?;
+        }
         match self.form {
             Form::Totals => Ok(()),
             Form::Sites => {
@@ -269,6 +284,11 @@ impl Page {
                         is_begun = true;
                     }
                     self.add_row(alloc, report, method, &site, row, note)?;
+                } else {
+                    self.summary.other_invocations = self
+                        .summary
+                        .other_invocations
+                        .saturating_add(1);
                 }
             }
         }
@@ -324,21 +344,23 @@ impl Page {
         Ok(())
     }
 
-    /// Adds that no class is there, since a parent of each is missing, and what to do.
-    pub(crate) fn add_advice(&mut self, alloc: Global) -> Result<(), ReportFault> {
-        if self.form == Form::Json {
-            return Ok(());
+    /// Adds why no class is there, as the first line.
+    pub(crate) fn add_nothing(
+        &mut self,
+        alloc: Global,
+        nothing: String,
+    ) -> Result<(), ReportFault> {
+        match self.form {
+            Form::Json => push_nothing_line(alloc, nothing.as_str(), &mut self.bytes)?,
+            _ => push_line(nothing.as_str(), &mut self.text)?,
         }
-        if let Some(root) = self.missing.sorted(alloc)?.first() {
-            let name = root.name;
-            self.text
-                .push_str("no class of these paths has its parents: ")?;
-            self.text.push_str(name)?;
-            self.text.push_str(
-                " is missing, and --with takes the classes of a JDK or a library\n",
-            )?;
-        }
+        self.nothing = nothing;
         Ok(())
+    }
+
+    /// Whether there was a class to be reported.
+    pub(crate) fn has_classes(&self) -> bool {
+        self.nothing.is_empty()
     }
 
     /// The page of HTML, if there is one. Want of memory is an error.
@@ -347,8 +369,15 @@ impl Page {
         alloc: Global,
         read: &Read<'_>,
     ) -> Result<Option<String>, ReportFault> {
+        let end = PageEnd {
+            nothing: self.nothing.as_str(),
+            summary: &self.summary,
+            missing: &self.missing,
+            elsewhere: &self.elsewhere,
+            further: self.further,
+        };
         match &self.html {
-            Some(html) => Ok(Some(html.text(alloc, read, &self.missing)?)),
+            Some(html) => Ok(Some(html.text(alloc, read, &end)?)),
             None => Ok(None),
         }
     }
@@ -367,6 +396,7 @@ impl Page {
         }
         self.summary.push(&mut self.text)?;
         self.missing.push(alloc, &mut self.text)?;
+        self.elsewhere.push(alloc, &mut self.text)?;
         let is_each_told = self.form == Form::Sites;
         push_all_left_out(alloc, &left_out, is_each_told, &mut self.text)?;
         Ok(())
@@ -379,7 +409,7 @@ impl Page {
             push_left_out_line(alloc, one, &mut self.bytes)?;
         }
         let mut out = Writer::new(mem::replace(&mut self.bytes, Vec::new(alloc)));
-        write_totals(&self.summary, count, &mut out)?;
+        write_totals(&self.summary, &self.elsewhere, count, &mut out)?;
         self.bytes = out.into_inner();
         self.bytes.push(b'\n')?;
         Ok(())
@@ -393,12 +423,23 @@ impl Page {
         Ok(())
     }
 
-    /// Writes what there is.
+    /// Writes what there is. Where the pipe is closed, and a page is asked for, nothing more is written but the page.
     pub(crate) fn write<W: Write>(&mut self, out: &mut W) -> Result<(), ReportFault> {
-        out.write_all(self.text.as_bytes())?;
-        out.write_all(self.bytes.as_slice())?;
+        if !self.is_closed {
+            match write_both(self.text.as_bytes(), self.bytes.as_slice(), out) {
+                Err(ReportFault::Closed) if self.html.is_some() => self.is_closed = true,
+                written => written?,
+            }
+        }
         self.text.clear();
         self.bytes.clear();
         Ok(())
     }
+}
+
+/// Writes the one, and then the other.
+fn write_both<W: Write>(first: &[u8], second: &[u8], out: &mut W) -> Result<(), ReportFault> {
+    out.write_all(first)?;
+    out.write_all(second)?;
+    Ok(())
 }

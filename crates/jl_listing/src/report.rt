@@ -6,34 +6,39 @@ use crate::fault::ReportFault;
 use crate::html::Read;
 use crate::left_out::{LeftOut, add_no_classes, add_refused};
 use crate::page::Page;
+use crate::page_file::{write_page, written_over};
 use crate::progress::Progress;
 use crate::report_words::ReportWords;
-use crate::texts::MissingClasses;
+use crate::texts::{Elsewhere, push_nothing, push_shown};
 use jl_class::ClassFile;
 use jl_hierarchy::Classes;
 use jl_names::Name;
-use jl_paths::{Gathered, NoClass, PathFault, read_all};
+use jl_paths::{Gathered, NoClass, PathFault, Source, read_all};
 use jl_report::{Made, Report, define_all, order_by_name};
 use jl_types::{ClassId, LoaderId};
 use std::alloc::Global;
-use std::fs;
 use std::io::{ErrorKind, IsTerminal, Write};
 use std::rt::Files;
 use std::time::{Clock, SystemTime, UNIX_EPOCH};
 
-/// What isn't in a report: files that are left out, and paths that couldn't be read.
+/// What is told of the files beside their invocations.
 #[derive(Drop)]
 struct Missed {
+    /// Those that are left out.
     left_out: Vec<LeftOut>,
+    /// The paths that couldn't be read.
     faults: Vec<PathFault>,
+    /// How many class files are of a version above those of SE 17.
+    later: u64,
 }
 
-/// Reads the class files of the paths, and writes what their invocations come to. A path that can't be read is told to `errors`. It ends
-/// early, and without an error, where `out` is a closed pipe.
+/// Reads the class files of the paths, and writes what their invocations come to. A path that can't be read is told to `errors`. If `out` is
+/// a closed pipe, it ends early and without an error, but writes the page that is asked for.
 ///
 /// # Errors
 ///
-/// A path that couldn't be read, behind the report of the others; a failed write; want of memory.
+/// A page that would be written over class files, before anything is read; a path that couldn't be read, after the report of the others;
+/// no class to be reported, after the report of why; a failed write; want of memory.
 pub fn run_report<R: Files + AllocGlobal + Clock + Clone + Drop, W: Write, E: Write + IsTerminal>(
     rt: &R,
     asked: &ReportWords,
@@ -53,13 +58,44 @@ fn report<R: Files + AllocGlobal + Clock + Clone + Drop, W: Write, E: Write + Is
     out: &mut W,
     errors: &mut E,
 ) -> Result<(), ReportFault> {
+    if let Some(path) = written_over(rt, asked)? {
+        return refuse_page(rt.alloc(), asked, path, out);
+    }
     let mut page = Page::new(rt.alloc(), asked);
     let mut missed = Missed {
         left_out: Vec::new(rt.alloc()),
         faults: Vec::new(rt.alloc()),
+        later: 0,
     };
     add_all(rt, asked, &mut page, &mut missed, out, errors)?;
     write_end(rt, asked, &mut page, missed, out, errors)
+}
+
+/// Tells that the page would be written over what is at this path.
+///
+/// # Errors
+///
+/// Always: that, unless it can't be told.
+fn refuse_page<W: Write>(
+    alloc: Global,
+    asked: &ReportWords,
+    path: &str,
+    out: &mut W,
+) -> Result<(), ReportFault> {
+    let mut text = String::from_str(alloc, "error: the page '--html ")?;
+    if let Some(page) = &asked.html {
+        push_shown(page.as_str(), &mut text)?;
+    }
+    text.push_str("' would be written over class files, in '")?;
+    push_shown(path, &mut text)?;
+    text.push_str("'\n\n`linkd report --help` has all options.\n")?;
+    match out.write_all(text.as_bytes()) {
+        Ok(()) => Err(ReportFault::BadWords),
+        Err(error) => match ReportFault::from(error) {
+            ReportFault::Closed => Err(ReportFault::BadWords),
+            fault => Err(fault),
+        },
+    }
 }
 
 /// Adds all invocations that are reported, and what further classes drop, and writes most of it.
@@ -90,13 +126,36 @@ fn listed_of<R: Files + AllocGlobal + Clone + Drop>(
     page: &mut Page,
     missed: &mut Missed,
 ) -> Result<Vec<ClassId>, ReportFault> {
-    let own = read_all(rt, &asked.paths, &asked.beside)?;
-    let own = define_gathered(rt.alloc(), classes, own, &mut page.missing, missed)?;
+    let own = read_all(rt, &asked.paths, &asked.beside, asked.newest)?;
+    let own = define_gathered(rt.alloc(), classes, own, page, missed)?;
     page.missing.count_classes(rt.alloc())?;
-    if own.is_empty() {
-        page.add_advice(rt.alloc())?;
+    let count = own.len();
+    let listed = chosen_of(rt.alloc(), classes, own, &asked.chosen)?;
+    page.summary.other_classes = count.saturating_sub(listed.len()) as u64;
+    if listed.is_empty() {
+        let nothing = why_nothing(rt.alloc(), count, page, &missed.left_out)?;
+        page.add_nothing(rt.alloc(), nothing)?;
     }
-    chosen_of(rt.alloc(), classes, own, &asked.chosen)
+    Ok(listed)
+}
+
+/// Why none of so many classes is reported.
+fn why_nothing(
+    alloc: Global,
+    count: usize,
+    page: &Page,
+    left_out: &[LeftOut],
+) -> Result<String, ReportFault> {
+    let mut text = String::new(alloc);
+    if count == 0 {
+        push_nothing(alloc, left_out, &page.missing, &mut text)?;
+    } else {
+        write!(
+            text,
+            "--in takes none of the {count} classes of these paths"
+        )?;
+    }
+    Ok(text)
 }
 
 /// Writes what is left of the report, its end, and the page of HTML, and tells of paths that couldn't be read.
@@ -108,14 +167,24 @@ fn write_end<R: Files + AllocGlobal + Clock, W: Write, E: Write>(
     out: &mut W,
     errors: &mut E,
 ) -> Result<(), ReportFault> {
-    let Missed { left_out, faults } = missed;
+    let Missed {
+        left_out,
+        faults,
+        later,
+    } = missed;
     let mut faults = faults;
+    page.summary.later = later;
     add_end(rt.alloc(), page, left_out)?;
     page.write(out)?;
     if let Some(path) = &asked.html {
         write_html(rt, asked, path.as_str(), page, &mut faults)?;
     }
-    tell_faults(&faults, errors)
+    tell_faults(rt.alloc(), &faults, errors)?;
+    if page.has_classes() {
+        Ok(())
+    } else {
+        Err(ReportFault::Nothing)
+    }
 }
 
 /// Seconds since 1970, or 0 where no clock tells them.
@@ -145,6 +214,7 @@ fn write_html<R: Files + AllocGlobal + Clock>(
     faults: &mut Vec<PathFault>,
 ) -> Result<(), ReportFault> {
     let read = Read {
+        words: &asked.words,
         paths: &asked.paths,
         beside: &asked.beside,
         seconds: seconds_now(rt),
@@ -152,7 +222,7 @@ fn write_html<R: Files + AllocGlobal + Clock>(
     let Some(text) = page.html_text(rt.alloc(), &read)? else {
         return Ok(());
     };
-    match fs::write(rt, path, text.as_str()) {
+    match write_page(rt, path, text.as_str()) {
         Ok(()) => Ok(()),
         Err(error) => match error.kind() {
             ErrorKind::OutOfMemory => Err(ReportFault::Memory),
@@ -199,8 +269,9 @@ fn add_breaks<R: Files + AllocGlobal + Clone + Drop, W: Write>(
         sources,
         no_classes,
         faults,
-    } = read_all(rt, &asked.breaks, &[])?;
-    add_missed(rt.alloc(), no_classes, faults, missed)?;
+        later,
+    } = read_all(rt, &asked.breaks, &[], asked.newest)?;
+    add_missed(rt.alloc(), no_classes, faults, later, missed)?;
     let refused = add_further(rt.alloc(), report, &asked.chosen, files, page, out)?;
     let _is_listed = add_refused(
         rt.alloc(),
@@ -218,7 +289,7 @@ fn define_gathered(
     alloc: Global,
     classes: &mut Classes,
     gathered: Gathered,
-    missing: &mut MissingClasses,
+    page: &mut Page,
     missed: &mut Missed,
 ) -> Result<Vec<ClassId>, ReportFault> {
     let Gathered {
@@ -226,30 +297,49 @@ fn define_gathered(
         sources,
         no_classes,
         faults,
+        later,
     } = gathered;
-    add_missed(alloc, no_classes, faults, missed)?;
+    add_missed(alloc, no_classes, faults, later, missed)?;
     let names = names_of(alloc, &files)?;
+    count_elsewhere(alloc, &sources, &names, &mut page.elsewhere)?;
     let refused = define_all(alloc, classes, files)?;
     let is_listed = add_refused(
         alloc,
         &sources,
         &names,
         refused,
-        missing,
+        &mut page.missing,
         &mut missed.left_out,
     )?;
     listed_by_name(alloc, classes, &names, &is_listed)
 }
 
-/// Adds the files that are no class files, and the paths that couldn't be read.
+/// Adds the files that are no class files, the paths that couldn't be read, and how many class files are of a version above those of SE 17.
 fn add_missed(
     alloc: Global,
     no_classes: Vec<NoClass>,
     faults: Vec<PathFault>,
+    later: u64,
     missed: &mut Missed,
 ) -> Result<(), ReportFault> {
+    missed.later = missed.later.saturating_add(later);
     add_no_classes(alloc, no_classes, &mut missed.left_out)?;
     Ok(missed.faults.extend(faults)?)
+}
+
+/// Counts the files that would be reported and aren't at the places of their classes, of these names.
+fn count_elsewhere(
+    alloc: Global,
+    sources: &[Source],
+    names: &[Name],
+    elsewhere: &mut Elsewhere,
+) -> Result<(), ReportFault> {
+    for (source, name) in sources.iter().zip(names) {
+        if source.is_reported {
+            elsewhere.add(alloc, source.path.as_str(), name.as_slice())?;
+        }
+    }
+    Ok(())
 }
 
 /// The classes of the names that are marked.
@@ -303,14 +393,20 @@ fn chosen_of(
 /// # Errors
 ///
 /// There is one.
-fn tell_faults<E: Write>(faults: &[PathFault], errors: &mut E) -> Result<(), ReportFault> {
+fn tell_faults<E: Write>(
+    alloc: Global,
+    faults: &[PathFault],
+    errors: &mut E,
+) -> Result<(), ReportFault> {
     if faults.is_empty() {
         return Ok(());
     }
     for fault in faults {
-        let path = fault.path.as_str();
         let kind = fault.kind;
-        writeln!(errors, "linkd: {path}: {kind}")?;
+        let mut line = String::from_str(alloc, "linkd: ")?;
+        push_shown(fault.path.as_str(), &mut line)?;
+        write!(line, ": {kind}\n")?;
+        errors.write_all(line.as_bytes())?;
     }
     Err(ReportFault::Device)
 }

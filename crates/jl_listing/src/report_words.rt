@@ -1,10 +1,12 @@
 //! What the words behind `linkd report` ask for.
 
-use crate::chosen::{Choice, Chosen};
+use crate::chosen::{Choice, Chosen, FORMS};
 use crate::fault::ReportFault;
+use crate::releases::{FIRST_RELEASE, LAST_RELEASE, newest_of};
 use crate::usage;
+use clap::builder::ValueParser;
 use clap::error::ErrorKind;
-use clap::{Arg, ArgAction, ArgMatches, Command};
+use clap::{Arg, ArgAction, ArgMatches, Command, value_parser};
 use std::alloc::{AllocError, Global};
 
 /// How a report is written.
@@ -21,6 +23,8 @@ pub enum Form {
 /// What the words of a report ask for.
 #[derive(Debug)]
 pub struct ReportWords {
+    /// The words themselves, `report` first.
+    pub words: Vec<String>,
     pub form: Form,
     /// Whether each class is told, too, with what it declares.
     pub classes: bool,
@@ -36,12 +40,15 @@ pub struct ReportWords {
     pub breaks: Vec<String>,
     /// The file into which a page of HTML is written.
     pub html: Option<String>,
+    /// The newest major version of the class files that are read.
+    pub newest: u16,
 }
 
 /// Written out, so that what drops one makes one call of it and doesn't take apart what it holds.
 impl Drop for ReportWords {
     fn drop(self) {
         let ReportWords {
+            words: _words,
             form: _form,
             classes: _classes,
             all_receivers: _all_receivers,
@@ -50,6 +57,7 @@ impl Drop for ReportWords {
             beside: _beside,
             breaks: _breaks,
             html: _html,
+            newest: _newest,
         } = self;
     }
 }
@@ -71,6 +79,18 @@ fn option<'a>(alloc: Global, name: &'a str, value: &'a str, help: &'a str) -> Ar
         .help(help)
 }
 
+/// The option that says up to which release class files are read.
+fn release<'a>(alloc: Global) -> Arg<'a> {
+    let first = i64::from(FIRST_RELEASE);
+    let last = i64::from(LAST_RELEASE);
+    Arg::new(alloc, "release")
+        .long("release")
+        .action(ArgAction::Set)
+        .value_parser(value_parser!(u16).range(first..=last))
+        .value_name("N")
+        .help(usage::RELEASE)
+}
+
 /// The paths, of which there is one at least.
 fn paths<'a>(alloc: Global) -> Arg<'a> {
     Arg::new(alloc, "paths")
@@ -85,7 +105,7 @@ fn paths<'a>(alloc: Global) -> Arg<'a> {
 fn with_flags<'a>(alloc: Global) -> Result<Command<'a>, AllocError> {
     Command::new(alloc, "report")
         .disable_help_flag(true)
-        .arg(flag(alloc, "sites", usage::SITES))?
+        .arg(flag(alloc, "sites", usage::SITES).conflicts_with("json")?)?
         .arg(flag(alloc, "json", usage::JSON))?
         .arg(flag(alloc, "classes", usage::CLASSES).requires_arg("json")?)?
         .arg(flag(alloc, "all-receivers", usage::ALL_RECEIVERS))
@@ -94,11 +114,12 @@ fn with_flags<'a>(alloc: Global) -> Result<Command<'a>, AllocError> {
 /// The words of the subcommand, as clap takes them.
 pub(crate) fn command<'a>(alloc: Global) -> Result<Command<'a>, AllocError> {
     with_flags(alloc)?
-        .arg(option(alloc, "only", "FORM", usage::ONLY))?
+        .arg(option(alloc, "only", "FORM", usage::ONLY).value_parser(ValueParser::Names(FORMS)))?
         .arg(option(alloc, "in", "PREFIX", usage::IN))?
         .arg(option(alloc, "with", "PATH", usage::WITH))?
         .arg(option(alloc, "breaks", "PATH", usage::BREAKS))?
         .arg(option(alloc, "html", "FILE", usage::HTML))?
+        .arg(release(alloc))?
         .arg(paths(alloc))
 }
 
@@ -149,7 +170,7 @@ pub fn read_report_words(
     words: &[String],
 ) -> Result<Option<ReportWords>, ReportFault> {
     match command(alloc)?.try_get_matches_from(words) {
-        Ok(matches) => asked_by(alloc, &matches),
+        Ok(matches) => asked_by(alloc, words, &matches),
         Err(error) => match error.kind() {
             ErrorKind::OutOfMemory => Err(ReportFault::Memory),
             _ => Ok(None),
@@ -157,14 +178,34 @@ pub fn read_report_words(
     }
 }
 
+/// What is wrong with words that ask for nothing, `report` first, in words of clap.
+///
+/// # Errors
+///
+/// Want of memory.
+pub fn wrong_in_report(alloc: Global, words: &[String]) -> Result<String, ReportFault> {
+    let mut text = String::new(alloc);
+    let command = command(alloc)?.bin_name("linkd report")?;
+    if let Err(error) = command.try_get_matches_from(words) {
+        write!(text, "{error}")?;
+    }
+    text.push_str("\n`linkd report --help` has all options.\n")?;
+    Ok(text)
+}
+
 /// What the words ask for that are matched so.
-fn asked_by(alloc: Global, matches: &ArgMatches) -> Result<Option<ReportWords>, ReportFault> {
+fn asked_by(
+    alloc: Global,
+    words: &[String],
+    matches: &ArgMatches,
+) -> Result<Option<ReportWords>, ReportFault> {
     let Some(choices) = choices(alloc, matches)? else {
         return Ok(None);
     };
     let prefixes = texts(alloc, matches, "in")?;
     let chosen = Chosen::new(alloc, choices, prefixes)?;
     let mut asked = ReportWords {
+        words: Vec::new(alloc),
         form: form_of(matches),
         classes: matches.get_flag("classes"),
         all_receivers: matches.get_flag("all-receivers"),
@@ -173,7 +214,11 @@ fn asked_by(alloc: Global, matches: &ArgMatches) -> Result<Option<ReportWords>, 
         beside: Vec::new(alloc),
         breaks: Vec::new(alloc),
         html: None,
+        newest: newest_of(matches.get_one::<u16>("release").unwrap_or(LAST_RELEASE)),
     };
+    for word in words {
+        asked.words.push(String::from_str(alloc, word.as_str())?)?;
+    }
     asked.paths = texts(alloc, matches, "paths")?;
     asked.beside = texts(alloc, matches, "with")?;
     asked.breaks = texts(alloc, matches, "breaks")?;

@@ -22,6 +22,8 @@ pub(crate) enum Methods {
 /// What is told of an invocation beside what it comes to.
 pub(crate) struct Note {
     pub(crate) methods: Methods,
+    /// Whether the methods of a megamorphic one are told by their names.
+    pub(crate) are_named: bool,
     /// Whether an invokedynamic may make further receivers.
     pub(crate) is_made: bool,
 }
@@ -31,6 +33,7 @@ impl Drop for Note {
     fn drop(self) {
         let Note {
             methods: _methods,
+            are_named: _are_named,
             is_made: _is_made,
         } = self;
     }
@@ -41,6 +44,7 @@ impl Note {
     pub(crate) fn nothing() -> Note {
         Note {
             methods: Methods::Unasked,
+            are_named: false,
             is_made: false,
         }
     }
@@ -67,6 +71,7 @@ pub(crate) fn notes_of(
         let mut note = Note::nothing();
         if asked.chosen.takes_row(report.classes(), row) {
             note.methods = methods_of(alloc, report, asked, row)?;
+            note.are_named = asked.all_receivers;
             note.is_made = made.meets(row);
         }
         notes.push(note)?;

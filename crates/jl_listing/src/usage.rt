@@ -9,7 +9,7 @@ pub(crate) const SITES: &str =
     "List each method that invokes, with its invocations, before the totals";
 
 pub(crate) const JSON: &str =
-    "Write each invocation as a line of JSON, and the totals as the last one";
+    "Write each invocation as a line of JSON, and the totals as the last one; not with --sites";
 
 pub(crate) const CLASSES: &str = "\
 With --json, write a line for each class, too: its superclass, its
@@ -17,7 +17,7 @@ interfaces, its flags and the methods that it declares";
 
 pub(crate) const ALL_RECEIVERS: &str = "\
 Look at all receivers of megamorphic invocations, which are otherwise only
-counted, and tell the methods that run for them";
+counted, and name the methods that run for them";
 
 pub(crate) const ONLY: &str = "\
 Take only invocations that come to FORM, which is direct, table, mega,
@@ -36,14 +36,20 @@ pub(crate) const BREAKS: &str = "\
 Class files that are defined last: tells each link that such a class drops;
 may come again";
 
-pub(crate) const HTML: &str = "Write a page of HTML into FILE, besides";
+pub(crate) const HTML: &str = "\
+Write a page of HTML into FILE, besides, which may be none of the PATHs
+nor below one";
+
+pub(crate) const RELEASE: &str = "\
+Read the class files of Java up to N, from 17 to 25, and to 25 without
+this option; those above 17 are linked as Java 17 links its own";
 
 pub(crate) const PATHS: &str =
     "Class files, and folders, of which all files are read whose names end in .class";
 
-/// What stands behind the options.
-const BEHIND: &str = "\
-`linkd report --help` prints this. Behind a word `--` each word is a PATH.
+/// What stands after the options.
+const AFTER: &str = "\
+`linkd report --help` prints this. After a word `--` each word is a PATH.
 
 To report a jar, unpack it and the classes of a JDK beside it:
   unzip -q app.jar -d app
@@ -67,6 +73,6 @@ pub fn report_usage(alloc: Global, heading: &str, about: &str) -> Result<String,
         .bin_name("linkd report")?
         .before_help(heading)
         .about(about)
-        .after_help(BEHIND)
+        .after_help(AFTER)
         .render_help()
 }

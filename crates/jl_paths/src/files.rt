@@ -3,17 +3,19 @@
 ghost use Rattle.std.specs.Prelude.{◌≡◌, map, IfOk};
 
 use crate::order::parents_first;
-use crate::paths::{PathFault, Paths};
+use crate::paths::{Named, PathFault, Paths, Special};
 use jl_class::ClassFile;
-use jl_classfile::{ClassFault, read_class};
+use jl_classfile::{ClassFault, NEWEST_OF_17, Version, read_class_up_to, version_of};
 use std::alloc::{AllocError, Global};
 use std::fs::File;
 use std::io::{ErrorKind, Read};
 use std::rt::Files;
 use std::{fs, io};
 
-/// A class file longer than this isn't read.
-const MOST_BYTES: u64 = 1_000_000;
+/// A class file longer than this isn't read to its end.
+const MOST_BYTES: usize = 1_000_000;
+/// So many bytes are read at a time.
+const BYTES_AT_ONCE: usize = 16_384;
 /// What a zip file begins with, and so a jar.
 const ARCHIVE_START: &[u8] = b"PK";
 
@@ -29,6 +31,10 @@ pub struct Source {
 pub enum NoClassReason {
     /// It is an archive, as a jar, whose classes have to be unpacked first.
     Archive,
+    /// It is no file of bytes, so it isn't opened.
+    Special(Special),
+    /// It begins as one does, and isn't read for its version.
+    OfVersion(Version),
     /// It isn't one by this fault.
     Malformed(ClassFault),
 }
@@ -40,7 +46,7 @@ pub struct NoClass {
     pub reason: NoClassReason,
 }
 
-/// A class file that was read.
+/// A class file that was found.
 #[derive(Drop)]
 pub(crate) struct Found {
     pub(crate) file: ClassFile,
@@ -56,6 +62,8 @@ pub struct Gathered {
     pub sources: Vec<Source>,
     pub no_classes: Vec<NoClass>,
     pub faults: Vec<PathFault>,
+    /// How many of the class files are of a version above those of SE 17.
+    pub later: u64,
 }
 
 impl Gathered {
@@ -74,6 +82,7 @@ struct Reading {
     found: Vec<Found>,
     no_classes: Vec<NoClass>,
     faults: Vec<PathFault>,
+    later: u64,
 }
 
 /// Written out, so that what drops one makes one call of it and doesn't take apart what it holds.
@@ -83,6 +92,7 @@ impl Drop for Reading {
             found: _found,
             no_classes: _no_classes,
             faults: _faults,
+            later: _later,
         } = self;
     }
 }
@@ -94,6 +104,7 @@ impl Reading {
         rt: &R,
         paths: &[String],
         is_reported: bool,
+        newest: u16,
     ) -> Result<(), AllocError> {
         for path in paths {
             let mut below = Paths {
@@ -101,8 +112,15 @@ impl Reading {
                 faults: Vec::new(rt.alloc()),
             };
             below.add(rt, path.as_str())?;
-            for path in below.found {
-                self.add(rt, Source { path, is_reported })?;
+            for Named { path, special } in below.found {
+                let source = Source { path, is_reported };
+                match special {
+                    Some(special) => self.no_classes.push(NoClass {
+                        source,
+                        reason: NoClassReason::Special(special),
+                    })?,
+                    None => self.add(rt, source, newest)?,
+                }
             }
             self.faults.extend(below.faults)?;
         }
@@ -114,13 +132,17 @@ impl Reading {
         &mut self,
         rt: &R,
         source: Source,
+        newest: u16,
     ) -> Result<(), AllocError> {
-        match read_file(rt, source.path.as_str()) {
-            Ok(Ok(file)) => self.found.push(Found {
-                file,
-                source,
-                rank: 0,
-            })?,
+        match read_file(rt, source.path.as_str(), newest) {
+            Ok(Ok(ReadFile { file, is_later })) => {
+                self.later = self.later.saturating_add(u64::from(is_later));
+                self.found.push(Found {
+                    file,
+                    source,
+                    rank: 0,
+                })?
+            }
             Ok(Err(NoClassReason::Malformed(ClassFault::Memory))) => return Err(AllocError),
             Ok(Err(reason)) => self.no_classes.push(NoClass { source, reason })?,
             Err(error) => match error.kind() {
@@ -140,41 +162,71 @@ impl Reading {
             found,
             no_classes,
             faults,
+            later,
         } = self;
         let mut gathered = Gathered {
             files: Vec::new(alloc),
             sources: Vec::new(alloc),
             no_classes,
             faults,
+            later,
         };
         gathered.add_all(found)?;
         Ok(gathered)
     }
 }
 
-/// The class file of this path, or why it is none.
+/// A class file, and whether its version is above those of SE 17.
+#[derive(Drop)]
+struct ReadFile {
+    file: ClassFile,
+    is_later: bool,
+}
+
+/// The class file of this path, up to this newest major version, or why it is none.
 fn read_file<R: Files + AllocGlobal>(
     rt: &R,
     path: &str,
-) -> io::Result<Result<ClassFile, NoClassReason>> {
-    if fs::metadata(rt, path)?.len() > MOST_BYTES {
-        return Ok(Err(too_large(rt, path)?));
-    }
-    let bytes = fs::read(rt, path)?;
+    newest: u16,
+) -> io::Result<Result<ReadFile, NoClassReason>> {
+    let bytes = first_bytes(rt, path)?;
     if bytes.starts_with(ARCHIVE_START) {
         return Ok(Err(NoClassReason::Archive));
     }
-    Ok(read_class(rt.alloc(), &bytes).map_err(NoClassReason::Malformed))
+    Ok(read_bytes(rt.alloc(), newest, &bytes))
 }
 
-/// Why a file is none that is longer than a class file may be, by its first bytes.
-fn too_large<R: Files>(rt: &R, path: &str) -> io::Result<NoClassReason> {
-    let mut start = [0u8; 2];
-    let count = File::open(rt, path)?.read(&mut start)?;
-    if count == ARCHIVE_START.len() && start.starts_with(ARCHIVE_START) {
-        return Ok(NoClassReason::Archive);
+/// The bytes of the file, of a longer one no more than [`MOST_BYTES`] and what was read with the last of these. So a file that never ends is
+/// too large.
+fn first_bytes<R: Files + AllocGlobal>(rt: &R, path: &str) -> io::Result<Vec<u8>> {
+    let mut file = File::open(rt, path)?;
+    let mut bytes = Vec::new(rt.alloc());
+    let mut part = [0u8; BYTES_AT_ONCE];
+    for _ in 0..u64::MAX {
+        let count = match file.read(&mut part) {
+            Ok(count) => count,
+            Err(error) if error.kind() == ErrorKind::Interrupted => continue,
+            Err(error) => return Err(error),
+        };
+        bytes.extend_from_slice(&part[..count])?;
+        if count == 0 || bytes.len() > MOST_BYTES {
+            break;
+        }
     }
-    Ok(NoClassReason::Malformed(ClassFault::TooLarge))
+    Ok(bytes)
+}
+
+/// The class file that the bytes are, or why they are none.
+fn read_bytes(alloc: Global, newest: u16, bytes: &[u8]) -> Result<ReadFile, NoClassReason> {
+    let version = version_of(bytes);
+    match (read_class_up_to(alloc, newest, bytes), version) {
+        (Ok(file), _) => Ok(ReadFile {
+            file,
+            is_later: matches!(version, Some(Version { major, .. }) if major > NEWEST_OF_17),
+        }),
+        (Err(ClassFault::BadVersion), Some(version)) => Err(NoClassReason::OfVersion(version)),
+        (Err(fault), _) => Err(NoClassReason::Malformed(fault)),
+    }
 }
 
 /// Whether the class of each source is reported, if it is there. Want of memory is an error.
@@ -188,20 +240,22 @@ pub fn are_reported(alloc: Global, sources: &[Source]) -> Result<Vec<bool>, Allo
     Ok(reported)
 }
 
-/// Reads what is below the paths, and what is below those beside them. Parents come first, else names are in order, and of two files of
-/// one name the one of the earlier path comes first.
+/// Reads what is below the paths, and what is below those beside them, up to this newest major version. Parents come first, else names are in
+/// order, and of two files of one name the one of the earlier path comes first.
 pub fn read_all<R: Files + AllocGlobal + Clone + Drop>(
     rt: &R,
     paths: &[String],
     beside: &[String],
+    newest: u16,
 ) -> Result<Gathered, AllocError> {
     let mut reading = Reading {
         found: Vec::new(rt.alloc()),
         no_classes: Vec::new(rt.alloc()),
         faults: Vec::new(rt.alloc()),
+        later: 0,
     };
-    reading.add_all(rt, paths, true)?;
-    reading.add_all(rt, beside, false)?;
+    reading.add_all(rt, paths, true, newest)?;
+    reading.add_all(rt, beside, false, newest)?;
     sort_all(rt.alloc(), &mut reading.found)?;
     reading.gathered(rt.alloc())
 }

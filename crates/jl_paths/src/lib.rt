@@ -8,4 +8,4 @@ mod order;
 mod paths;
 
 pub use files::{Gathered, NoClass, NoClassReason, Source, are_reported, read_all};
-pub use paths::PathFault;
+pub use paths::{PathFault, Special};

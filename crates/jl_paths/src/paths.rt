@@ -1,8 +1,9 @@
 //! Class files below paths.
 
 use std::alloc::{AllocError, Global};
-use std::fs::DirEntry;
+use std::fs::{DirEntry, FileType};
 use std::io::ErrorKind;
+use std::os::unix::fs::FileTypeExt;
 use std::rt::Files;
 use std::{fs, io};
 
@@ -13,10 +14,28 @@ pub struct PathFault {
     pub kind: ErrorKind,
 }
 
+/// What is no file of bytes, and no folder. Some of these never end, and some are waited for.
+#[derive(Clone, Copy, Debug, PartialEq, Eq)]
+pub enum Special {
+    /// A pipe.
+    Fifo,
+    /// A socket.
+    Socket,
+    /// A device, as a terminal or a disk.
+    Device,
+}
+
+/// The path of a file, and what else it is, if it is no file of bytes.
+#[derive(Drop)]
+pub(crate) struct Named {
+    pub(crate) path: String,
+    pub(crate) special: Option<Special>,
+}
+
 /// Paths of class files, in order, and those that couldn't be read.
 #[derive(Drop)]
 pub(crate) struct Paths {
-    pub(crate) found: Vec<String>,
+    pub(crate) found: Vec<Named>,
     pub(crate) faults: Vec<PathFault>,
 }
 
@@ -45,7 +64,12 @@ impl Paths {
         let own = String::from_str(rt.alloc(), path)?;
         match fs::metadata(rt, path) {
             Ok(metadata) if metadata.is_dir() => self.add_folder(rt, own),
-            Ok(_) => Ok(self.found.push(own)?),
+            Ok(metadata) => Ok(
+                self.found.push(Named {
+                    path: own,
+                    special: special_of(metadata.file_type()),
+                })?,
+            ),
             Err(error) => self.fail(own, error),
         }
     }
@@ -78,7 +102,12 @@ impl Paths {
         waiting: &mut Vec<Entry>,
     ) -> Result<(), AllocError> {
         if !entry.is_folder {
-            return Ok(self.found.push(entry.path)?);
+            return Ok(
+                self.found.push(Named {
+                    path: entry.path,
+                    special: None,
+                })?,
+            );
         }
         match entries_of(rt, entry.path.as_str()) {
             Ok(listed) => {
@@ -99,6 +128,19 @@ impl Paths {
             ErrorKind::OutOfMemory => Err(AllocError),
             kind => Ok(self.faults.push(PathFault { path, kind })?),
         }
+    }
+}
+
+/// What it is, if it is no file of bytes, and no folder.
+fn special_of(kind: FileType) -> Option<Special> {
+    if kind.is_fifo() {
+        Some(Special::Fifo)
+    } else if kind.is_socket() {
+        Some(Special::Socket)
+    } else if kind.is_char_device() || kind.is_block_device() {
+        Some(Special::Device)
+    } else {
+        None
     }
 }
 

@@ -11,5 +11,5 @@ mod words;
 
 pub use help::{Topic, help_asked};
 pub use laws::asking_words_want_no_help;
-pub use usage::{HEADING, REPORT, usage_of};
+pub use usage::{HEADING, REPORT, usage_of, wrong_words};
 pub use words::{Mode, Words, WordsFault, read_words};

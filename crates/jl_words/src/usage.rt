@@ -6,7 +6,7 @@ use crate::words::{Mode, command, farm, lines};
 use clap::Command;
 use std::alloc::{AllocError, Global};
 
-/// The first line of each usage: the program's name and its version.
+/// The program's name and its version, which is the first line of each usage.
 pub const HEADING: &str = "linkd 0.1.0";
 
 /// What the subcommand `report` is for, whose words another crate reads.
@@ -26,6 +26,21 @@ fn command_of<'a>(alloc: Global, topic: Topic) -> Result<Command<'a>, AllocError
         Topic::Farm => farm(alloc),
         Topic::Program | Topic::Report => whole(alloc),
     }
+}
+
+/// What is wrong with words that ask for nothing, the program's name first, in words of clap.
+///
+/// # Errors
+///
+/// Want of memory.
+pub fn wrong_words(alloc: Global, words: &[String]) -> Result<String, AllocError> {
+    let mut text = String::new(alloc);
+    let command = whole(alloc)?.bin_name("linkd")?;
+    if let Err(error) = command.try_get_matches_from(words) {
+        write!(text, "{error}")?;
+    }
+    text.push_str("\n`linkd --help` has all commands.\n")?;
+    Ok(text)
 }
 
 /// The usage of the topic, made by clap from what reads the words; of `report`, whose words another crate reads, that of the program.

@@ -12,14 +12,19 @@ ghost use Rattle.std.specs.Process.{exit_status};
 ghost use Rattle.jl_cli.specs.Endings.{status_of};
 
 use jl_cli::{Counted, Ending, Mode, Words, WordsFault, read_words, run_farm, run_lines};
-use jl_listing::{ReportFault, ReportWords, read_report_words, report_usage, run_report};
-use jl_words::{HEADING, REPORT, Topic, help_asked, usage_of};
+use jl_listing::{
+    ReportFault, ReportWords, read_report_words, report_usage, run_report, wrong_in_report,
+};
+use jl_words::{HEADING, REPORT, Topic, help_asked, usage_of, wrong_words};
 use std::alloc::{AllocError, Global};
 use std::env;
 use std::io::{ErrorKind, Write};
 use std::process::ExitCode;
 use std::sync::Wait;
 use std::thread::Threads;
+
+/// What is said of words that are no texts.
+const NO_TEXT: &str = "error: a word isn't UTF-8\n\n`linkd --help` has all commands.\n";
 
 /// The words of this process, the program's name first.
 fn own_words(rt: &HostRuntime) -> Result<Vec<String>, WordsFault> {
@@ -61,6 +66,8 @@ fn report(rt: &HostRuntime, asked: &ReportWords) -> Ending {
 fn ending_of(fault: ReportFault) -> Ending {
     match fault {
         ReportFault::Device => Ending::DeviceFailed,
+        ReportFault::Nothing => Ending::NothingReported,
+        ReportFault::BadWords => Ending::BadWords,
         ReportFault::Closed => Ending::InputEnded,
         ReportFault::Memory => Ending::OutOfMemory,
     }
@@ -70,7 +77,10 @@ fn ending_of(fault: ReportFault) -> Ending {
 fn obey_report(rt: &HostRuntime, words: &[String]) -> Ending {
     match read_report_words(rt.alloc(), words) {
         Ok(Some(asked)) => report(rt, &asked),
-        Ok(None) => Ending::BadWords,
+        Ok(None) => match wrong_in_report(rt.alloc(), words) {
+            Ok(text) => say(rt, text.as_str(), Ending::BadWords),
+            Err(fault) => ending_of(fault),
+        },
         Err(fault) => ending_of(fault),
     }
 }
@@ -80,7 +90,28 @@ fn obey(rt: &HostRuntime, threads: &(impl Threads + Wait + Sync), words: &[Strin
     match read_words(rt.alloc(), words) {
         Ok(Words::Lines(mode)) => answer_lines(rt, mode),
         Ok(Words::Farm(workers)) => farm(rt, threads, workers),
-        Err(fault) => fault.into(),
+        Err(WordsFault::BadWords) => answer_bad_words(rt, words),
+        Err(WordsFault::Memory) => Ending::OutOfMemory,
+    }
+}
+
+/// Answers words that ask for no answers to lines.
+fn answer_bad_words(rt: &HostRuntime, words: &[String]) -> Ending {
+    match said_of(rt.alloc(), words) {
+        Ok((text, ending)) => say(rt, text.as_str(), ending),
+        Err(_) => Ending::OutOfMemory,
+    }
+}
+
+/// What is said of such words: the version, if they ask for it, or else what is wrong with them. Want of memory is an error.
+fn said_of(alloc: Global, words: &[String]) -> Result<(String, Ending), AllocError> {
+    match words.last() {
+        Some(word) if words.len() == 2 && matches!(word.as_str(), "--version" | "-V") => {
+            let mut text = String::from_str(alloc, HEADING)?;
+            text.push('\n')?;
+            Ok((text, Ending::InputEnded))
+        }
+        _ => Ok((wrong_words(alloc, words)?, Ending::BadWords)),
     }
 }
 
@@ -92,22 +123,27 @@ fn usage(alloc: Global, topic: Topic) -> Result<String, AllocError> {
     }
 }
 
-/// Writes the usage of the topic. The words that ask for it are bad words nonetheless, also where its reader closed the pipe.
+/// Writes the usage of the topic. The words that ask for it are bad words nonetheless.
 fn explain(rt: &HostRuntime, topic: Topic) -> Ending {
-    let Ok(text) = usage(rt.alloc(), topic) else {
-        return Ending::OutOfMemory;
-    };
+    match usage(rt.alloc(), topic) {
+        Ok(text) => say(rt, text.as_str(), Ending::BadWords),
+        Err(_) => Ending::OutOfMemory,
+    }
+}
+
+/// Writes the text, and ends so, also if its reader closed the pipe.
+fn say(rt: &HostRuntime, text: &str, ending: Ending) -> Ending {
     match rt.stdout().write_all(text.as_bytes()) {
-        Ok(()) => Ending::BadWords,
+        Ok(()) => ending,
         Err(error) => match error.kind() {
-            ErrorKind::BrokenPipe => Ending::BadWords,
+            ErrorKind::BrokenPipe => ending,
             ErrorKind::OutOfMemory => Ending::OutOfMemory,
             _ => Ending::DeviceFailed,
         },
     }
 }
 
-/// The words behind the program's name, where the first of them is `report`.
+/// The words after the program's name, if the first of them is `report`.
 fn report_words(words: &[String]) -> Option<&[String]> {
     let (_name, rest) = words.split_first()?;
     if rest.first()?.as_str() == "report" {
@@ -132,7 +168,8 @@ fn main(rt: HostRuntime) -> ExitCode {
             (None, Some(rest)) => obey_report(&rt, rest),
             (None, None) => obey(&rt, &rt, &words),
         },
-        Err(fault) => fault.into(),
+        Err(WordsFault::BadWords) => say(&rt, NO_TEXT, Ending::BadWords),
+        Err(WordsFault::Memory) => Ending::OutOfMemory,
     };
     told(&rt, ending)
 }

@@ -7,22 +7,37 @@
 
 use crate::html::page_text::{BEFORE_ROWS, BEHIND_ROWS};
 use crate::left_out::{LeftOut, Whose};
-use crate::texts::{MissingClasses, push_finding, push_name, push_reason};
+use crate::texts::{Elsewhere, MissingClasses, Summary, push_finding, push_name, push_reason};
 use crate::told::Note;
 use indexmap::IndexSet;
 use jl_class::{Method, Operand, Site};
 use jl_hierarchy::Classes;
 use jl_json::instruction;
-use jl_report::{Row, Shape};
+use jl_report::{Dropped, Row, Shape};
+use jl_types::ClassId;
 use std::alloc::{AllocError, Global};
 
 /// What was read, and when.
 #[derive(Clone, Copy)]
 pub(crate) struct Read<'a> {
+    /// The words that asked for the report.
+    pub(crate) words: &'a [String],
     pub(crate) paths: &'a [String],
     pub(crate) beside: &'a [String],
     /// Seconds since 1970, or 0 where no clock tells them.
     pub(crate) seconds: u64,
+}
+
+/// What is told of a report in its page, beside its invocations and files.
+#[derive(Clone, Copy)]
+pub(crate) struct PageEnd<'a> {
+    /// Why no class is there, or nothing.
+    pub(crate) nothing: &'a str,
+    pub(crate) summary: &'a Summary,
+    pub(crate) missing: &'a MissingClasses,
+    pub(crate) elsewhere: &'a Elsewhere,
+    /// How many further classes there are.
+    pub(crate) further: u64,
 }
 
 /// The invocations of a page.
@@ -34,6 +49,8 @@ pub(crate) struct HtmlPage {
     class: String,
     /// The files that are left out.
     left_out: String,
+    /// The invocations whose links further classes drop.
+    dropped: String,
 }
 
 /// Written out, so that what drops one makes one call of it and doesn't take apart what it holds.
@@ -44,6 +61,7 @@ impl Drop for HtmlPage {
             classes: _classes,
             class: _class,
             left_out: _left_out,
+            dropped: _dropped,
         } = self;
     }
 }
@@ -98,6 +116,7 @@ impl HtmlPage {
             classes: String::new(alloc),
             class: String::new(alloc),
             left_out: String::new(alloc),
+            dropped: String::new(alloc),
         }
     }
 
@@ -172,10 +191,60 @@ impl HtmlPage {
                 self.push_named(alloc, specifier.ty.as_slice())?;
             }
         }
-        let mut words = String::new(alloc);
-        push_finding(alloc, classes, site, row, note, &mut words)?;
-        let words = self.place_of(words)?;
+        let words = self.place_of_finding(alloc, classes, site, row, note)?;
         write!(self.class, "{words}],")
+    }
+
+    /// The place of what the invocation comes to, in words. Want of memory is an error.
+    fn place_of_finding(
+        &mut self,
+        alloc: Global,
+        classes: &Classes,
+        site: &Site<'_>,
+        row: &Row,
+        note: &Note,
+    ) -> Result<usize, AllocError> {
+        let mut words = String::new(alloc);
+        push_finding(alloc, classes, site, row, note, usize::MAX, &mut words)?;
+        self.place_of(words)
+    }
+
+    /// The place of the name of a class. Want of memory is an error.
+    fn place_of_class(
+        &mut self,
+        alloc: Global,
+        classes: &Classes,
+        class: ClassId,
+    ) -> Result<usize, AllocError> {
+        match classes.class_at(class) {
+            Some(row) => self.place_of_name(alloc, row.file().name().as_slice()),
+            None => self.place_of(String::new(alloc)),
+        }
+    }
+
+    /// Adds an invocation of the method whose link this class drops. Want of memory is an error.
+    pub(crate) fn add_dropped(
+        &mut self,
+        alloc: Global,
+        classes: &Classes,
+        class: ClassId,
+        one: &Dropped,
+        method: &Method<'_>,
+        site: &Site<'_>,
+    ) -> Result<(), AllocError> {
+        let by = self.place_of_class(alloc, classes, class)?;
+        let caller = self.place_of_class(alloc, classes, one.before.place.class)?;
+        let name = self.place_of_name(alloc, method.name().as_slice())?;
+        let ty = self.place_of_name(alloc, method.ty().as_slice())?;
+        let kind = self.place_of_name(alloc, instruction(one.before.kind).as_bytes())?;
+        let nothing = Note::nothing();
+        let before = self.place_of_finding(alloc, classes, site, &one.before, &nothing)?;
+        let after = self.place_of_finding(alloc, classes, site, &one.after, &nothing)?;
+        let pc = site.pc();
+        write!(
+            self.dropped,
+            "[{by},{caller},{name},{ty},{pc},{kind},{before},{after}],\n"
+        )
     }
 
     /// Appends the place of a name. Want of memory is an error.
@@ -210,16 +279,20 @@ impl HtmlPage {
         &self,
         alloc: Global,
         read: &Read<'_>,
-        missing: &MissingClasses,
+        end: &PageEnd<'_>,
     ) -> Result<String, AllocError> {
         let mut out = String::from_str(alloc, BEFORE_ROWS)?;
-        let seconds = read.seconds;
-        write!(out, "{{\"seconds\":{seconds},\n")?;
+        push_numbers(read.seconds, end, &mut out)?;
+        push_texts("words", read.words, &mut out)?;
         push_texts("paths", read.paths, &mut out)?;
         push_texts("beside", read.beside, &mut out)?;
-        push_missing(alloc, missing, &mut out)?;
+        push_texts("circles", &end.missing.circles(alloc)?, &mut out)?;
+        push_missing(alloc, end.missing, &mut out)?;
+        push_elsewhere(end.elsewhere, &mut out)?;
         push_texts("texts", self.texts.as_slice(), &mut out)?;
-        out.push_str("\"leftOut\":[")?;
+        out.push_str("\"dropped\":[")?;
+        out.push_str(self.dropped.as_str())?;
+        out.push_str("0],\n\"leftOut\":[")?;
         out.push_str(self.left_out.as_str())?;
         out.push_str("0],\n\"classes\":[")?;
         out.push_str(self.classes.as_str())?;
@@ -227,6 +300,37 @@ impl HtmlPage {
         out.push_str(BEHIND_ROWS)?;
         Ok(out)
     }
+}
+
+/// Appends what is counted, when that was, and why nothing is, if it is nothing. Want of memory is an error.
+fn push_numbers(seconds: u64, end: &PageEnd<'_>, out: &mut String) -> Result<(), AllocError> {
+    let Summary {
+        later,
+        other_invocations,
+        other_classes,
+        ..
+    } = end.summary;
+    let further = end.further;
+    write!(
+        out,
+        "{{\"seconds\":{seconds},\"later\":{later},\"otherInvocations\":{other_invocations},"
+    )?;
+    write!(
+        out,
+        "\"otherClasses\":{other_classes},\"further\":{further},\"nothing\":"
+    )?;
+    push_json(end.nothing, out)?;
+    out.push_str(",\n")
+}
+
+/// Appends how many class files aren't at their classes' places, and the first of them. Want of memory is an error.
+fn push_elsewhere(elsewhere: &Elsewhere, out: &mut String) -> Result<(), AllocError> {
+    let count = elsewhere.count;
+    write!(out, "\"elsewhere\":[{count},")?;
+    push_json(elsewhere.path.as_str(), out)?;
+    out.push(',')?;
+    push_json(elsewhere.class.as_str(), out)?;
+    out.push_str("],\n")
 }
 
 /// Appends the classes that aren't there, each with how many invocations wait for it and how many classes are left out below it. Want of

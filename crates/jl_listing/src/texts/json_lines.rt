@@ -1,6 +1,7 @@
 //! A report as JSON, an object a line.
 
 use crate::left_out::LeftOut;
+use crate::texts::elsewhere::Elsewhere;
 use crate::texts::links::open_class;
 use crate::texts::names::push_name;
 use crate::texts::totals::{KINDS_BY_NAME, SHAPES_BY_KEY, Summary};
@@ -308,15 +309,37 @@ pub(crate) fn push_left_out_line(
     Ok(out.push(b'\n')?)
 }
 
+/// Appends why no class is there, as a line. Want of memory is an error.
+pub(crate) fn push_nothing_line(
+    alloc: Global,
+    nothing: &str,
+    out: &mut Vec<u8>,
+) -> Result<(), AllocError> {
+    let mut line = Writer::new(Vec::new(alloc));
+    line.begin_object()?;
+    write_text("nothing", nothing, &mut line)?;
+    line.end_object()?;
+    out.extend_from_slice(line.into_inner().as_slice())?;
+    Ok(out.push(b'\n')?)
+}
+
 /// Writes the totals. Want of memory is an error.
 pub(crate) fn write_totals(
     summary: &Summary,
+    elsewhere: &Elsewhere,
     left_out: u64,
     out: &mut Writer,
 ) -> Result<(), AllocError> {
     out.begin_object()?;
     write_number("classes", summary.classes, out)?;
+    elsewhere.write(out)?;
+    if summary.later > 0 {
+        write_number("later", summary.later, out)?;
+    }
     write_number("leftOut", left_out, out)?;
+    if summary.later > 0 {
+        write_text("linkedAs", "SE 17", out)?;
+    }
     write_kinds("made", &summary.made, out)?;
     write_kinds("oneMethod", &summary.one_method, out)?;
     write_kinds("totals", &summary.totals, out)?;

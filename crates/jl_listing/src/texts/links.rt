@@ -123,6 +123,7 @@ fn push_link(
     row: &Row,
     note: &Note,
     link: &Link,
+    most: usize,
     out: &mut String,
 ) -> Result<(), AllocError> {
     match link {
@@ -137,7 +138,8 @@ fn push_link(
             };
             write!(out, "mega ({count} receivers")?;
             push_methods(", ", note, out)?;
-            out.push(')')
+            out.push(')')?;
+            push_named_methods(alloc, classes, note, most, out)
         }
     }
 }
@@ -165,6 +167,28 @@ fn push_methods(before: &str, note: &Note, out: &mut String) -> Result<(), Alloc
         }
         Methods::Several => write!(out, "{before}3 methods or more"),
     }
+}
+
+/// Appends the methods that can run, so many at the most, if all receivers were asked for them. Want of memory is an error.
+fn push_named_methods(
+    alloc: Global,
+    classes: &Classes,
+    note: &Note,
+    most: usize,
+    out: &mut String,
+) -> Result<(), AllocError> {
+    let (true, Methods::All(methods)) = (note.are_named, &note.methods) else {
+        return Ok(());
+    };
+    for (place, method) in methods.iter().take(most).enumerate() {
+        out.push_str(if place == 0 { ": " } else { ", " })?;
+        push_method(alloc, classes, method, out)?;
+    }
+    let more = methods.len().saturating_sub(most);
+    if more > 0 {
+        write!(out, " and {more} more")?;
+    }
+    Ok(())
 }
 
 /// The class or interface of which a further one below may change the row's link, if there is one.
@@ -218,18 +242,19 @@ fn push_host(
     }
 }
 
-/// Appends what the invocation comes to. Want of memory is an error.
+/// Appends what the invocation comes to, with so many of the methods of a megamorphic one at the most. Want of memory is an error.
 pub(crate) fn push_finding(
     alloc: Global,
     classes: &Classes,
     site: &Site<'_>,
     row: &Row,
     note: &Note,
+    most: usize,
     out: &mut String,
 ) -> Result<(), AllocError> {
     match &row.finding {
         Finding::Linked(link) => {
-            push_link(alloc, classes, row, note, link, out)?;
+            push_link(alloc, classes, row, note, link, most, out)?;
             if let Some(class) = open_class(classes, row) {
                 out.push_str("; rests on the subclasses of ")?;
                 push_class(alloc, classes, class, out)?;

@@ -1,6 +1,6 @@
 //! Classes that aren't there, and what hangs on each: invocations that wait, and classes that are left out.
 
-use crate::texts::names::push_name;
+use crate::texts::names::{push_line, push_name};
 use indexmap::{IndexMap, IndexSet};
 use jl_class::{Operand, Site};
 use jl_names::Name;
@@ -165,13 +165,86 @@ impl MissingClasses {
         Ok(sorted)
     }
 
-    /// Appends the classes on which most hangs, if there are any. Want of memory is an error.
-    pub(crate) fn push(&self, alloc: Global, out: &mut String) -> Result<(), AllocError> {
-        if self.hanging.is_empty() {
-            return Ok(());
+    /// The circles of classes that are each other's parents. Want of memory is an error.
+    pub(crate) fn circles(&self, alloc: Global) -> Result<Vec<String>, AllocError> {
+        let mut circles = Vec::new(alloc);
+        // The turn in which a class was met first.
+        let mut met = IndexMap::new(alloc);
+        for (turn, name) in self.parents.keys().enumerate() {
+            if let Some(first) = self.met_again(&mut met, turn, name.as_str())? {
+                circles.push(self.circle_at(alloc, first)?)?;
+            }
         }
-        let sorted = self.sorted(alloc)?;
-        push_missing_classes(&sorted, out)
+        Ok(circles)
+    }
+
+    /// The class that is met again in this turn, from the class of this name upward, where no earlier turn has met one. Want of memory is an
+    /// error.
+    fn met_again<'a>(
+        &'a self,
+        met: &mut IndexMap<&'a str, usize>,
+        turn: usize,
+        name: &'a str,
+    ) -> Result<Option<&'a str>, AllocError> {
+        let mut at = name;
+        for _ in 0..self.parents.len().saturating_add(1) {
+            match met.get(at) {
+                Some(first) if *first == turn => return Ok(Some(at)),
+                Some(_) => return Ok(None),
+                None => {}
+            }
+            met.insert(at, turn)?;
+            match self.parents.get(at) {
+                Some(parent) => at = parent.as_str(),
+                None => return Ok(None),
+            }
+        }
+        Ok(None)
+    }
+
+    /// The least name on the circle on which this class is.
+    fn least_on_circle<'a>(&'a self, first: &'a str) -> &'a str {
+        let mut least = first;
+        let mut at = first;
+        for _ in 0..self.parents.len() {
+            match self.parents.get(at) {
+                Some(parent) => at = parent.as_str(),
+                None => break,
+            }
+            if at == first {
+                break;
+            }
+            if at < least {
+                least = at;
+            }
+        }
+        least
+    }
+
+    /// The circle on which this class is, from its least name on, each class before its parent. Want of memory is an error.
+    fn circle_at(&self, alloc: Global, met: &str) -> Result<String, AllocError> {
+        let first = self.least_on_circle(met);
+        let mut text = String::from_str(alloc, first)?;
+        let mut at = first;
+        for _ in 0..self.parents.len() {
+            let Some(parent) = self.parents.get(at) else {
+                break;
+            };
+            at = parent.as_str();
+            write!(text, " below {at}")?;
+            if at == first {
+                break;
+            }
+        }
+        Ok(text)
+    }
+
+    /// Appends the classes on which most hangs, and those that are each other's parents, if there are any. Want of memory is an error.
+    pub(crate) fn push(&self, alloc: Global, out: &mut String) -> Result<(), AllocError> {
+        if !self.hanging.is_empty() {
+            push_missing_classes(alloc, &self.sorted(alloc)?, out)?;
+        }
+        push_circles(alloc, &self.circles(alloc)?, out)
     }
 }
 
@@ -184,22 +257,46 @@ impl<'a> MissingClass<'a> {
 
 /// Appends how many classes there are, and of the first of them how many invocations wait for each, and how many classes are left out below it.
 /// Want of memory is an error.
-fn push_missing_classes(sorted: &[MissingClass<'_>], out: &mut String) -> Result<(), AllocError> {
+fn push_missing_classes(
+    alloc: Global,
+    sorted: &[MissingClass<'_>],
+    out: &mut String,
+) -> Result<(), AllocError> {
     let all = sorted.len();
     let head = "classes that are missing";
     write!(out, "{head:<28}{all:>12}\n")?;
     for one in sorted.iter().take(MOST_TOLD) {
         let name = one.name;
         let invocations = one.invocations;
-        write!(out, "    {invocations:>12}  {name}")?;
+        let mut line = String::new(alloc);
+        write!(line, "    {invocations:>12}  {name}")?;
         if one.classes > 0 {
             let classes = one.classes;
-            write!(out, ", below which {classes} classes are left out")?;
+            write!(line, ", below which {classes} classes are left out")?;
         }
-        out.push('\n')?;
+        push_line(line.as_str(), out)?;
     }
     if all > MOST_TOLD {
         out.push_str("              ..\n")?;
+    }
+    Ok(())
+}
+
+/// Appends how many circles of parents there are, and the first of them. Want of memory is an error.
+fn push_circles(alloc: Global, circles: &[String], out: &mut String) -> Result<(), AllocError> {
+    let all = circles.len();
+    if all == 0 {
+        return Ok(());
+    }
+    let head = "circles of parents";
+    write!(out, "{head:<28}{all:>12}\n")?;
+    for circle in circles.iter().take(MOST_TOLD) {
+        let mut line = String::from_str(alloc, "    ")?;
+        line.push_str(circle.as_str())?;
+        push_line(line.as_str(), out)?;
+    }
+    if all > MOST_TOLD {
+        out.push_str("    ..\n")?;
     }
     Ok(())
 }

@@ -2,7 +2,7 @@
 
 use crate::left_out::{LeftOut, Whose};
 use crate::texts::links::{push_class, push_finding, push_number, push_operand};
-use crate::texts::names::push_name;
+use crate::texts::names::{push_line, push_name};
 use crate::told::Note;
 use indexmap::IndexMap;
 use jl_class::{ClassFile, Method, Site};
@@ -20,16 +20,17 @@ pub(crate) fn push_method_line(
     method: &Method<'_>,
     out: &mut String,
 ) -> Result<(), AllocError> {
-    push_name(alloc, file.name().as_slice(), out)?;
-    push_method_end(alloc, method, out)
+    let mut line = String::new(alloc);
+    push_name(alloc, file.name().as_slice(), &mut line)?;
+    push_method_end(alloc, method, &mut line)?;
+    push_line(line.as_str(), out)
 }
 
-/// Appends the method behind its class. Want of memory is an error.
+/// Appends the method after its class. Want of memory is an error.
 fn push_method_end(alloc: Global, method: &Method<'_>, out: &mut String) -> Result<(), AllocError> {
     out.push('.')?;
     push_name(alloc, method.name().as_slice(), out)?;
-    push_name(alloc, method.ty().as_slice(), out)?;
-    out.push('\n')
+    push_name(alloc, method.ty().as_slice(), out)
 }
 
 /// Appends the invocation and what it comes to. Want of memory is an error.
@@ -43,11 +44,12 @@ pub(crate) fn push_site_line(
 ) -> Result<(), AllocError> {
     let pc = site.pc();
     let name = instruction(row.kind);
-    write!(out, "{pc:>7} {name} ")?;
-    push_operand(alloc, site.operand(), out)?;
-    out.push_str("  ")?;
-    push_finding(alloc, classes, site, row, note, out)?;
-    out.push('\n')
+    let mut line = String::new(alloc);
+    write!(line, "{pc:>7} {name} ")?;
+    push_operand(alloc, site.operand(), &mut line)?;
+    line.push_str("  ")?;
+    push_finding(alloc, classes, site, row, note, MOST_NAMED, &mut line)?;
+    push_line(line.as_str(), out)
 }
 
 /// Appends the invocation, which stands in this method, and what it comes to once this class drops its link. Want of memory is an error.
@@ -60,17 +62,24 @@ pub(crate) fn push_dropped(
     site: &Site<'_>,
     out: &mut String,
 ) -> Result<(), AllocError> {
-    out.push_str("dropped by ")?;
-    push_class(alloc, classes, class, out)?;
-    out.push_str(": ")?;
-    push_class(alloc, classes, one.before.place.class, out)?;
-    push_method_end(alloc, method, out)?;
+    let mut line = String::from_str(alloc, "dropped by ")?;
+    push_class(alloc, classes, class, &mut line)?;
+    line.push_str(": ")?;
+    push_class(alloc, classes, one.before.place.class, &mut line)?;
+    push_method_end(alloc, method, &mut line)?;
+    push_line(line.as_str(), out)?;
     let nothing = Note::nothing();
     push_site_line(alloc, classes, site, &one.before, &nothing, out)?;
-    out.push_str("        now  ")?;
-    push_finding(alloc, classes, site, &one.after, &nothing, out)?;
-    out.push('\n')
+    line.clear();
+    line.push_str("        now  ")?;
+    push_finding(
+        alloc, classes, site, &one.after, &nothing, MOST_NAMED, &mut line,
+    )?;
+    push_line(line.as_str(), out)
 }
+
+/// So many methods are named in a line.
+const MOST_NAMED: usize = 8;
 
 /// What to do with an archive.
 const ADVICE: &str = ": its classes have to be unpacked first (unzip, or tools/classes.py)";
@@ -78,7 +87,7 @@ const ADVICE: &str = ": its classes have to be unpacked first (unzip, or tools/c
 /// Appends why a file is left out: the name of the refusal, what it is about, and what to do, if that is known. Want of memory is an error.
 pub(crate) fn push_reason(answer: &Value, out: &mut String) -> Result<(), AllocError> {
     let name = text_in(answer, "refused").unwrap_or("");
-    out.push_str(name)?;
+    push_kind(name, answer, out)?;
     if let Some(about) = text_in(answer, "name") {
         out.push(' ')?;
         out.push_str(about)?;
@@ -88,16 +97,31 @@ pub(crate) fn push_reason(answer: &Value, out: &mut String) -> Result<(), AllocE
     push_advice(name, out)
 }
 
+/// Appends the name of the refusal, and of a version that isn't read the version, with the option that takes it, if one does. Want of memory
+/// is an error.
+pub(crate) fn push_kind(name: &str, answer: &Value, out: &mut String) -> Result<(), AllocError> {
+    out.push_str(name)?;
+    let Some(version) = text_in(answer, "version") else {
+        return Ok(());
+    };
+    write!(out, " {version}")?;
+    if answer.get("release").is_none() {
+        return Ok(());
+    }
+    push_place(" (--release ", answer, "release", out)?;
+    out.push_str(" takes it)")
+}
+
 /// Appends what to do with files that are refused so, if that is known. Want of memory is an error.
-fn push_advice(name: &str, out: &mut String) -> Result<(), AllocError> {
+pub(crate) fn push_advice(name: &str, out: &mut String) -> Result<(), AllocError> {
     if name == "Archive" {
         out.push_str(ADVICE)?;
     }
     Ok(())
 }
 
-/// Appends how many files are left out: those of classes that would be reported, each or how many for each reason, and how many others.
-/// Want of memory is an error.
+/// Appends how many files are left out: those of classes that would be reported, each or how many for each reason, and how many others,
+/// with how many of these are of which version that isn't read. Want of memory is an error.
 pub(crate) fn push_all_left_out(
     alloc: Global,
     left_out: &[LeftOut],
@@ -109,18 +133,18 @@ pub(crate) fn push_all_left_out(
         for one in left_out {
             if one.whose == Whose::Reported {
                 let path = one.path.as_str();
-                write!(out, "    {path}  ")?;
-                push_reason(&one.answer, out)?;
-                out.push('\n')?;
+                let mut line = String::new(alloc);
+                write!(line, "    {path}  ")?;
+                push_reason(&one.answer, &mut line)?;
+                push_line(line.as_str(), out)?;
             }
         }
     } else {
-        let mut reasons = IndexMap::new(alloc);
-        count_reasons(left_out, &mut reasons)?;
-        push_reasons(&reasons, out)?;
+        push_reasons(alloc, left_out, Whose::Reported, out)?;
     }
     push_count("files of modules", left_out, Whose::Module, out)?;
-    push_count("left out beside them", left_out, Whose::Beside, out)
+    push_count("left out beside them", left_out, Whose::Beside, out)?;
+    push_reasons(alloc, left_out, Whose::Beside, out)
 }
 
 /// Appends how many of the files that are left out are such, where there are any. Want of memory is an error.
@@ -137,38 +161,75 @@ fn push_count(
     write!(out, "{head:<28}{count:>12}\n")
 }
 
-/// Counts the files for each reason that are left out and whose classes would be reported, and keeps the first of them. Want of memory is an
-/// error.
-fn count_reasons<'a>(
+/// By what files are counted that are left out: the version that isn't read, or the name of the refusal. Of files beside the others only
+/// those are counted that aren't read for their version.
+fn counted_by(one: &LeftOut, whose: Whose) -> Option<&str> {
+    if one.whose != whose {
+        return None;
+    }
+    match text_in(&one.answer, "version") {
+        Some(version) => Some(version),
+        None if whose == Whose::Beside => None,
+        None => text_in(&one.answer, "refused"),
+    }
+}
+
+/// How many files are left out for a reason, and the first of them.
+#[derive(Clone, Copy)]
+pub(crate) struct Reason<'a> {
+    pub(crate) count: u64,
+    pub(crate) first: &'a LeftOut,
+}
+
+/// Counts the files that are left out and are such, for each reason. Want of memory is an error.
+pub(crate) fn count_reasons<'a>(
     left_out: &'a [LeftOut],
-    reasons: &mut IndexMap<&'a str, (u64, &'a str)>,
+    whose: Whose,
+    reasons: &mut IndexMap<&'a str, Reason<'a>>,
 ) -> Result<(), AllocError> {
     for one in left_out {
-        if one.whose != Whose::Reported {
-            continue;
+        if let Some(name) = counted_by(one, whose) {
+            let reason = match reasons.get(name) {
+                Some(Reason { count, first }) => Reason {
+                    count: count.saturating_add(1),
+                    first: *first,
+                },
+                None => Reason {
+                    count: 1,
+                    first: one,
+                },
+            };
+            reasons.insert(name, reason)?;
         }
-        let name = text_in(&one.answer, "refused").unwrap_or("");
-        let (count, first) = match reasons.get(name) {
-            Some((count, first)) => (count.saturating_add(1), *first),
-            None => (1, one.path.as_str()),
-        };
-        reasons.insert(name, (count, first))?;
     }
     Ok(())
 }
 
-/// Appends the reasons, each with its count and the first of its files. Want of memory is an error.
-fn push_reasons(reasons: &IndexMap<&str, (u64, &str)>, out: &mut String) -> Result<(), AllocError> {
-    for (name, (count, first)) in reasons {
-        write!(out, "    {count:>12}  {name}, {first}")?;
-        push_advice(name, out)?;
-        out.push('\n')?;
+/// Appends for which reasons such files are left out, each with its count and the first of its files. Want of memory is an error.
+fn push_reasons(
+    alloc: Global,
+    left_out: &[LeftOut],
+    whose: Whose,
+    out: &mut String,
+) -> Result<(), AllocError> {
+    let mut reasons = IndexMap::new(alloc);
+    count_reasons(left_out, whose, &mut reasons)?;
+    for (_, reason) in &reasons {
+        let Reason { count, first } = *reason;
+        let name = text_in(&first.answer, "refused").unwrap_or("");
+        let path = first.path.as_str();
+        let mut line = String::new(alloc);
+        write!(line, "    {count:>12}  ")?;
+        push_kind(name, &first.answer, &mut line)?;
+        write!(line, ", {path}")?;
+        push_advice(name, &mut line)?;
+        push_line(line.as_str(), out)?;
     }
     Ok(())
 }
 
 /// The text under the key.
-fn text_in<'a>(answer: &'a Value, key: &str) -> Option<&'a str> {
+pub(crate) fn text_in<'a>(answer: &'a Value, key: &str) -> Option<&'a str> {
     answer.get(key)?.as_str()
 }
 

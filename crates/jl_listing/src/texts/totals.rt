@@ -59,6 +59,12 @@ pub(crate) struct Summary {
     pub(crate) made: Totals,
     pub(crate) classes: u64,
     pub(crate) methods: u64,
+    /// How many class files are of a version above those of SE 17, those that aren't reported among them.
+    pub(crate) later: u64,
+    /// How many invocations of these classes aren't reported, since others are asked for.
+    pub(crate) other_invocations: u64,
+    /// How many classes aren't reported, since others are asked for.
+    pub(crate) other_classes: u64,
 }
 
 /// Written out, so that what drops one makes one call of it and doesn't take apart what it holds.
@@ -71,6 +77,9 @@ impl Drop for Summary {
             made: _made,
             classes: _classes,
             methods: _methods,
+            later: _later,
+            other_invocations: _other_invocations,
+            other_classes: _other_classes,
         } = self;
     }
 }
@@ -85,6 +94,9 @@ impl Summary {
             made: Totals::new(),
             classes: 0,
             methods: 0,
+            later: 0,
+            other_invocations: 0,
+            other_classes: 0,
         }
     }
 
@@ -130,7 +142,18 @@ impl Summary {
         for kind in &KINDS {
             self.push_kind(*kind, out)?;
         }
-        Ok(())
+        self.push_later(out)
+    }
+
+    /// Appends how many class files are of a version above those of SE 17, and how they are linked, if there are any. Want of memory is an
+    /// error.
+    fn push_later(&self, out: &mut String) -> Result<(), AllocError> {
+        if self.later == 0 {
+            return Ok(());
+        }
+        let head = "class files above 61.0";
+        let count = self.later;
+        write!(out, "{head:<28}{count:>12}  linked as SE 17 says\n")
     }
 
     fn push_kind(&self, kind: Kind, out: &mut String) -> Result<(), AllocError> {
