@@ -6,11 +6,12 @@
 #     bench/agent.sh [FOLDER]
 #
 # It needs what tools/library.sh needs, and java, javac, jar and jvmti.h of one JDK, that of JAVA_HOME or else of java of the PATH. The agent is
-# for 11 to 17; the programs want 17. Tomcat is Debian's libtomcat10-java, whose jars are in the folder that TOMCAT names; else apt-get and
-# dpkg-deb fetch it without being root, and install nothing. ENTRIES (10000000) is how many method entries are looked at in each; Tomcat's
-# last deployment is behind nine million. With all of them it takes ten minutes. The reports are left in FOLDER, if it is given, as
-# streams.json, javac.json, loaders.json, dropping.json, tomcat.json and others. It ends with status 0 only where no call differs, at least as
-# many were compared as stand behind each program, and dropped loaders were retired with their classes and sites.
+# for 11 to 25; the programs want 17. Then all is done once more with the JDK whose home JAVA2 names, if it is set. Tomcat is Debian's
+# libtomcat10-java, whose jars are in the folder that TOMCAT names; else apt-get and dpkg-deb fetch it without being root, and install nothing.
+# ENTRIES (10000000) is how many method entries are looked at in each. These are all deployments of Tomcat with JDK 17, and 16 of 21 with
+# JDK 25. It takes ten minutes a JDK. The reports are left in FOLDER, if it is given, as streams.json, javac.json, loaders.json, dropping.json,
+# tomcat.json and others; those of JAVA2 are in FOLDER/second. It ends with status 0 only where no call differs, at least as many were compared
+# as stand behind each program, and dropped loaders were retired with their classes and sites.
 set -eu
 top=$(cd "$(dirname "$0")/.." && pwd)
 export LC_ALL=C
@@ -33,10 +34,11 @@ for file in "$home/bin/java" "$home/bin/javac" "$home/include/jvmti.h"; do
     fi
 done
 version=$("$home/bin/java" -version 2>&1 | sed -nE '1s/.*"([0-9]+).*/\1/p')
-if [ "$version" -lt 11 ] || [ "$version" -gt 17 ]; then
-    echo "$home is of version $version, and the agent is for 11 to 17" >&2
+if [ "$version" -lt 11 ] || [ "$version" -gt 25 ]; then
+    echo "$home is of version $version, and the agent is for 11 to 25" >&2
     exit 2
 fi
+echo "== $home, of version $version"
 mkdir -p "$reports"
 "$sources/build.sh" "$work"
 agent="$work/liblinkd_agent.so"
@@ -170,13 +172,15 @@ if [ "$(number_of many retired_loaders)" -lt 1000 ] || [ "$(number_of many LINKD
     status=1
 fi
 
-# The loaders of HotSpot's accessors for reflective calls, which are more than 1,024, too, take none.
+# The loaders of HotSpot's accessors for reflective calls, which are more than 1,024, too, take none. From 18 on it makes no such loaders.
+accessors=1100
+if [ "$version" -ge 18 ]; then accessors=0; fi
 "$home/bin/java" -Xshare:off -Dsun.reflect.noInflation=true -agentpath:"$agent=json,report=$reports/reflecting.json" -cp "$work/classes" \
     Reflecting
-if [ "$(number_of reflecting classes_without_loader)" -lt 1100 ] || [ "$(number_of reflecting retired_loaders)" -lt 2 ] ||
+if [ "$(number_of reflecting classes_without_loader)" -lt $accessors ] || [ "$(number_of reflecting retired_loaders)" -lt 2 ] ||
     grep -q LINKD_LOADERS_FULL "$reports/reflecting.json"; then
     cat "$reports/reflecting.json" >&2
-    echo "reflecting: behind 1,100 accessors two loaders have numbers, and are retired" >&2
+    echo "reflecting: after $accessors accessors two loaders have numbers, and are retired" >&2
     status=1
 fi
 
@@ -216,6 +220,9 @@ for program in Loaders Dropping; do
         status=1
     fi
 done
+if [ -n "${JAVA2:-}" ]; then
+    JAVA_HOME=$JAVA2 JAVA2='' TOMCAT=$tomcat "$top/bench/agent.sh" "$reports/second" || status=1
+fi
 if [ $status = 0 ]; then
     echo "all as it must be"
 fi

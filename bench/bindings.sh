@@ -16,18 +16,8 @@ trap 'rm -rf "$work"' EXIT
 export LINKD_LIBRARY="$top/bindings/java/out/liblinkd.so"
 javac --release 17 -d "$work/classes" "$top"/examples/host/java/*.java
 javac --release 22 -cp "$top/bindings/java/out/linkd.jar" -d "$work/cost" "$top"/bindings/java/test/linkd/Cost.java
-cat > "$work/Take.java" <<'JAVA'
-class Take {
-    public static void main(String[] words) throws Exception {
-        try (java.io.InputStream from = Object.class.getResourceAsStream("Object.class")) {
-            byte[] file = from.readAllBytes();
-            file[7] = 61;
-            java.nio.file.Files.write(java.nio.file.Path.of(words[0]), file);
-        }
-    }
-}
-JAVA
-java "$work/Take.java" "$work/classes/Object.class"
+# java/lang/Object without methods, of Java 17.
+printf "$(sed 's/../\\x&/g' "$top/examples/object.hex")" > "$work/classes/Object.class"
 cc -std=c11 -O2 -Wall -Wextra -Werror -I"$top/include" -o "$work/cost_c" "$top/bench/cost.c" "$work/liblinkd.a"
 LINKD_ARCHIVE="$work/liblinkd.a" CARGO_TARGET_DIR="$work/target" \
     cargo build --quiet --offline --locked --release --example cost --manifest-path "$top/bindings/rust/Cargo.toml"

@@ -4,7 +4,7 @@
 #     bench/embed.sh
 #
 # It builds the archive first, by `rt lib` in crates/linkd_c, unless LINKD_ARCHIVE names one. It needs rt, cc, c++, ar, nm, cargo,
-# valgrind, and java and javac of JAVA_HOME or else of the PATH, of version 17 or later. ROUNDS (200) is how often the host in C plays its
+# valgrind, and java and javac of JAVA_HOME or else of the PATH, of version 17 to 25. ROUNDS (200) is how often the host in C plays its
 # round, COMPILED (40) how often the one that compiles does, and RENEWED (200) how often the one that renews does. A sanitizer that cc doesn't have, or whose programs don't run here, is said
 # and left out. It ends with status 0 only where all is as it must be.
 set -eu
@@ -52,7 +52,6 @@ TOLD
 echo "== the classes, and java/lang/Object of this JDK"
 mkdir "$work/classes"
 javac --release 17 -Xlint:all -d "$work/classes" "$host"/java/*.java
-# A class file of a later version is marked as one of Java 17.
 cat > "$work/Take.java" <<'JAVA'
 import java.io.InputStream;
 import java.nio.file.Files;
@@ -61,11 +60,7 @@ import java.nio.file.Path;
 class Take {
     public static void main(String[] words) throws Exception {
         try (InputStream from = Object.class.getResourceAsStream("Object.class")) {
-            byte[] file = from.readAllBytes();
-            if (file[7] > 61) {
-                file[7] = 61;
-            }
-            Files.write(Path.of(words[0]), file);
+            Files.copy(from, Path.of(words[0]));
         }
     }
 }

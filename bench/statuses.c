@@ -10,6 +10,9 @@
 /* The status of an event, and what is told of it. */
 #define TELLS(call, status, number, fault, place) tells((call), (status), (number), (fault), (place), __LINE__, #call)
 
+/* java/lang/Object without methods, of Java 21. */
+static const char object[] = "\xca\xfe\xba\xbe\0\0\0\x41\0\3\1\0\x10java/lang/Object\7\0\1\0\x21\0\2\0\0\0\0\0\0\0\0\0\0";
+
 static linkd *at;
 static linkd_told told;
 static linkd_link link, present;
@@ -53,6 +56,8 @@ static int says(const char *line, const char *wanted) {
     return length == strlen(wanted) && memcmp(out, wanted, length) == 0;
 }
 
+static uint32_t define_object(uint16_t newest) { return linkd_define_up_to(at, 0, newest, bytes(object), sizeof object - 1, &told); }
+
 static uint32_t call_site(uint32_t kind, const char *type, const char *target) {
     return linkd_new_call_site(at, kind, bytes(type), strlen(type), bytes(target), strlen(target), &told);
 }
@@ -84,6 +89,7 @@ static int row_is(const linkd_row *row, uint32_t receiver, uint32_t kind, uint32
 static void closed(linkd_seat *seat) {
     MUST(linkd_new_loader(at, &told) == LINKD_CLOSED);
     MUST(linkd_define(at, 0, bytes("x"), 1, &told) == LINKD_CLOSED);
+    MUST(linkd_define_up_to(at, 0, LINKD_NEWEST_KNOWN, bytes("x"), 1, &told) == LINKD_CLOSED);
     MUST(delegate(0, "A", 0) == LINKD_CLOSED);
     MUST(linkd_request(at, 0, 0, 0, &told) == LINKD_CLOSED);
     MUST(call_site(2, "()V", "{\"method\":[0,0]}") == LINKD_CLOSED);
@@ -256,8 +262,11 @@ int main(void) {
     TELLS(linkd_define(at, 0, truncated, 3, &told), LINKD_NO_CLASS_FILE, 0, LINKD_TRUNCATED, 0);
     TELLS(linkd_define(at, 0, no_magic, 8, &told), LINKD_NO_CLASS_FILE, 0, LINKD_BAD_MAGIC, 0);
     TELLS(linkd_define(at, 0, newer, 8, &told), LINKD_NO_CLASS_FILE, 0, LINKD_BAD_VERSION, 0);
+    TELLS(define_object(61), LINKD_NO_CLASS_FILE, 0, LINKD_BAD_VERSION, 0);
+    TELLS(define_object(64), LINKD_NO_CLASS_FILE, 0, LINKD_BAD_VERSION, 0);
+    TELLS(define_object(LINKD_NEWEST_KNOWN), LINKD_DONE, 0, 0, 0);
+    TELLS(define_object(65), LINKD_DEFINE, 0, LINKD_ALREADY_RECORDED, 0);
     MUST(says("{}", "{\"error\":\"BadCommand\"}"));
-    MUST(says("{\"do\":\"define\",\"loader\":0,\"sketch\":{\"name\":\"java/lang/Object\",\"flags\":33}}", "{\"class\":0,\"dropped\":[]}"));
     MUST(says("{\"do\":\"define\",\"loader\":0,\"sketch\":{\"name\":\"A\",\"super\":\"java/lang/Object\",\"flags\":33,\"methods\":["
               "{\"name\":\"f\",\"type\":\"()V\",\"flags\":1}]}}",
               "{\"class\":1,\"dropped\":[]}"));

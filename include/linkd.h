@@ -27,7 +27,7 @@ extern "C" {
 #endif
 
 /* Grows with each change of this header; linkd_version() tells it of the library. */
-#define LINKD_VERSION 2
+#define LINKD_VERSION 3
 
 typedef struct linkd linkd;
 typedef struct linkd_seat linkd_seat;
@@ -122,7 +122,7 @@ enum linkd_retire_fault {
 enum linkd_class_fault {
     LINKD_TOO_LARGE = 1,
     LINKD_BAD_MAGIC = 2,
-    LINKD_BAD_VERSION = 3,
+    LINKD_BAD_VERSION = 3,      /* one that isn't taken, or from 56 on one with a minor, as of preview files */
     LINKD_TRUNCATED = 4,
     LINKD_POOL = 5,             /* cause is a linkd_pool_cause, place the entry */
     LINKD_MODULE_FILE = 6,
@@ -265,6 +265,8 @@ typedef struct linkd_numbers {
     size_t switch_capacity;
 } linkd_numbers;
 
+/* The newest major version of class files of which it is known how they are read: that of Java 25. */
+#define LINKD_NEWEST_KNOWN 69
 /* The null reference, as a receiver. */
 #define LINKD_NULL UINT32_C(0xffffffff)
 /* The new number of what a renewal doesn't take over. */
@@ -289,8 +291,13 @@ void linkd_close(linkd *at);
 
 /* number is the loader. LINKD_LOADERS_FULL: there are 1,024. */
 uint32_t linkd_new_loader(linkd *at, linkd_told *told);
-/* number is the class. LINKD_NO_CLASS_FILE, of which linkd_class_fault says the place; LINKD_DEFINE. */
+/* Defines the class of a class file. Its major version is 45 to 61, those of SE 17. number is the class. LINKD_NO_CLASS_FILE, of which
+ * linkd_class_fault says the place; LINKD_DEFINE. */
 uint32_t linkd_define(linkd *at, uint32_t loader, const uint8_t *bytes, size_t length, linkd_told *told);
+/* As linkd_define, but the major version is 45 to `newest`. A file of a version above 61 is read as one of 61.0 is, and linked as SE 17 says.
+ * Up to LINKD_NEWEST_KNOWN the editions of the specification say the same of all that is read. Of later versions nothing is known. It isn't
+ * claimed that a JVM of SE 17 would take such a file. */
+uint32_t linkd_define_up_to(linkd *at, uint32_t loader, uint16_t newest, const uint8_t *bytes, size_t length, linkd_told *told);
 /* The loader finds under the name the class that the loader `to` finds. LINKD_DELEGATE. */
 uint32_t linkd_delegate(linkd *at, uint32_t loader, const uint8_t *name, size_t name_length, uint32_t to, linkd_told *told);
 /* The invocation at the pc of the class's method, by its place among those that the class declares. number is the site; a place that was

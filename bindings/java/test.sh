@@ -3,7 +3,8 @@
 #
 #     bindings/java/test.sh
 #
-# It needs what bindings/java/build.sh needs. It ends with status 0 only where all is as it must be.
+# It needs what bindings/java/build.sh needs, with a JDK up to 25, whose classes it defines. It ends with status 0 only where all is as it must
+# be.
 set -eu
 here=$(cd "$(dirname "$0")" && pwd)
 . "$here/jdk.sh"

@@ -1,4 +1,4 @@
-/* An agent for HotSpot, of a JDK from 11 to 17: it hands each class that the machine loads to a linker, and compares each method that the
+/* An agent for HotSpot, of a JDK from 11 to 25: it hands each class that the machine loads to a linker, and compares each method that the
  * machine runs with what the linker's link says.
  *
  *     java -Xshare:off -agentpath:.../liblinkd_agent.so=check,report=FILE[,json][,entries=N][,sites=PREFIX] ..

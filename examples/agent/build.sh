@@ -3,7 +3,7 @@
 #
 #     examples/agent/build.sh [FOLDER]
 #
-# It needs what tools/library.sh needs, and jvmti.h of the JDK, from 11 to 17, that JAVA_HOME names or that java of the PATH is of.
+# It needs what tools/library.sh needs, and jvmti.h of the JDK, from 11 to 25, that JAVA_HOME names or that java of the PATH is of.
 set -eu
 here=$(cd "$(dirname "$0")" && pwd)
 out=${1:-$here/out}

@@ -267,9 +267,12 @@ static bool lacks_parent(uint32_t status, const linkd_told *told) {
     return status == LINKD_DEFINE && told->fault == LINKD_MISSING_PARENT;
 }
 
+static uint32_t define_file(uint32_t loader, const struct file *file, linkd_told *told) {
+    return linkd_define_up_to(world.linker, loader, LINKD_NEWEST_KNOWN, file->bytes, file->length, told);
+}
+
 static void define(JNIEnv *jni, jclass from, struct class *class) {
     linkd_told told = {0};
-    const struct file *file = class->file;
     uint32_t loader = class->loader->number;
     class->why = REFUSED_CLASS;
     if (loader == NO_NUMBER) {
@@ -278,16 +281,16 @@ static void define(JNIEnv *jni, jclass from, struct class *class) {
     }
     class->going_on = true;
     define_parents(jni, from, class->loader);
-    uint32_t status = linkd_define(world.linker, loader, file->bytes, file->length, &told);
+    uint32_t status = define_file(loader, class->file, &told);
     if (lacks_parent(status, &told)) {
         record_all(jni, class->loader);
-        status = linkd_define(world.linker, loader, file->bytes, file->length, &told);
+        status = define_file(loader, class->file, &told);
     }
     class->going_on = false;
     class->waits = lacks_parent(status, &told);
     if (status == LINKD_DONE) {
         class->number = told.number;
-        class->why = read_class_file(file->bytes, &class->read) ? COMPARED : NO_MEMORY;
+        class->why = read_class_file(class->file->bytes, &class->read) ? COMPARED : NO_MEMORY;
         accepted(class);
     } else if (!class->waits) {
         count_refusal(status, told.fault);

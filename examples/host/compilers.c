@@ -66,7 +66,7 @@ static void changed(uint32_t status, const char *what) {
 
 static uint32_t define(uint32_t loader, const struct file *file) {
     linkd_told told;
-    changed(linkd_define(linker, loader, file->bytes, file->length, &told), file->name);
+    changed(linkd_define_up_to(linker, loader, LINKD_NEWEST_KNOWN, file->bytes, file->length, &told), file->name);
     if (told.number >= classes) classes = told.number + 1;
     return told.number;
 }

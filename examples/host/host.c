@@ -57,7 +57,7 @@ static uint32_t sites, classes, unlinkable;
 
 static bool define(struct class_of *class) {
     linkd_told told;
-    uint32_t status = linkd_define(linker, 0, class->file.bytes, class->file.length, &told);
+    uint32_t status = linkd_define_up_to(linker, 0, LINKD_NEWEST_KNOWN, class->file.bytes, class->file.length, &told);
     if (status == LINKD_DEFINE && told.fault == LINKD_MISSING_PARENT) return false;
     if (status != LINKD_DONE) fprintf(stderr, "host: %s\n", refusal_name(status, told.fault));
     must(status == LINKD_DONE, REFUSED, class->file.name, status);

@@ -37,7 +37,7 @@ class Linker {
     ~Linker() { linkd_close(at); }
 
     std::uint32_t define(const std::string &file) {
-        std::uint32_t status = linkd_define(at, 0, bytes(file), file.size(), &told);
+        std::uint32_t status = linkd_define_up_to(at, 0, LINKD_NEWEST_KNOWN, bytes(file), file.size(), &told);
         done(status, told.fault);
         return told.number;
     }

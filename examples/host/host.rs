@@ -4,7 +4,7 @@
 //!     host METHOD PC FILE..
 //!
 //! METHOD is the method's place among those that the class declares.
-use linkd::Linker;
+use linkd::{Linker, LoaderId, NEWEST_KNOWN};
 use std::error::Error;
 use std::process::ExitCode;
 
@@ -18,7 +18,7 @@ fn run(words: &[String]) -> Result<(), Box<dyn Error + Send + Sync>> {
         let file = std::fs::read(path).map_err(|fault| format!("{path}: {fault}"))?;
         classes.push(
             linker
-                .define(&file)
+                .define_up_to(LoaderId::FIRST, NEWEST_KNOWN, &file)
                 .map_err(|fault| format!("{path}: {fault}"))?,
         );
     }

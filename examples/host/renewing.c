@@ -44,7 +44,7 @@ static uint32_t receiver(uint32_t number) { return number == 0 ? LINKD_NULL : nu
 
 static void define(uint32_t loader, const struct file *file) {
     linkd_told told;
-    done(linkd_define(linker, loader, file->bytes, file->length, &told), file->name);
+    done(linkd_define_up_to(linker, loader, LINKD_NEWEST_KNOWN, file->bytes, file->length, &told), file->name);
     classes = told.number + 1;
     request_all(linker, told.number, &sites);
 }

@@ -66,8 +66,8 @@ numbered! {
         TooLarge = 1: "it is too large",
         /// It doesn't begin with ca fe ba be.
         BadMagic = 2: "it has no magic number",
-        /// Its version isn't one of 45 to 61.
-        BadVersion = 3: "its version isn't one of 45 to 61",
+        /// Its major version isn't one that is taken, or from 56 on its minor version isn't 0.
+        BadVersion = 3: "its version isn't one that is taken",
         /// It is cut.
         Truncated = 4: "it is cut short",
         /// An entry of its pool isn't as it must be.

@@ -44,6 +44,10 @@ pub fn version() -> u32 {
     unsafe { raw::linkd_version() }
 }
 
+/// The newest major version of class files of which it is known how they are read: that of Java 25. The editions of the specification from
+/// SE 17 to SE 25 say the same of all that is read. It isn't claimed that a JVM of SE 17 would take such a file.
+pub const NEWEST_KNOWN: u16 = 69;
+
 /// A number of the linker, of one kind, of which it gives at most so many.
 macro_rules! id {
     ($(#[$doc:meta])* $name:ident, $word:literal, $most:literal) => {

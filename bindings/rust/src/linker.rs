@@ -103,16 +103,24 @@ impl Linker {
         number(status, &told).map(LoaderId)
     }
 
-    /// Defines a class in the first loader.
+    /// Defines a class in the first loader, by [`define_in`](Linker::define_in).
     pub fn define(&mut self, file: &[u8]) -> Result<ClassId, Error> {
         self.define_in(LoaderId::FIRST, file)
     }
 
-    /// Defines a class, behind its parents: [`DefineFault::MissingParent`](crate::DefineFault::MissingParent) is no end, and
-    /// [`named_class`](Linker::named_class) names the parent.
+    /// Defines a class, after its parents: [`DefineFault::MissingParent`](crate::DefineFault::MissingParent) is no end, and
+    /// [`named_class`](Linker::named_class) names the parent. The major version of its file is 45 to 61, those of SE 17.
     pub fn define_in(&mut self, loader: LoaderId, file: &[u8]) -> Result<ClassId, Error> {
         let mut told = Told::default();
         let status = unsafe { raw::linkd_define(self.at(), loader.0, file.as_ptr(), file.len(), &mut told) };
+        number(status, &told).map(ClassId)
+    }
+
+    /// As [`define_in`](Linker::define_in), but the major version is 45 to `newest`. A file of a version above 61 is read as one of 61.0 is,
+    /// and linked as SE 17 says. With [`NEWEST_KNOWN`](crate::NEWEST_KNOWN) files up to Java 25's are taken; of later ones nothing is known.
+    pub fn define_up_to(&mut self, loader: LoaderId, newest: u16, file: &[u8]) -> Result<ClassId, Error> {
+        let mut told = Told::default();
+        let status = unsafe { raw::linkd_define_up_to(self.at(), loader.0, newest, file.as_ptr(), file.len(), &mut told) };
         number(status, &told).map(ClassId)
     }
 

@@ -1,6 +1,6 @@
 //! The calls of `include/linkd.h`, of this version. Nothing compares these declarations with the header but the crate's tests.
 
-pub const VERSION: u32 = 2;
+pub const VERSION: u32 = 3;
 
 /// A linker, a seat, a memo or a view, in a block of a size that the library tells.
 #[repr(C)]
@@ -91,6 +91,7 @@ extern "C" {
     pub fn linkd_close(at: *mut Opaque);
     pub fn linkd_new_loader(at: *mut Opaque, told: *mut Told) -> u32;
     pub fn linkd_define(at: *mut Opaque, loader: u32, bytes: *const u8, length: usize, told: *mut Told) -> u32;
+    pub fn linkd_define_up_to(at: *mut Opaque, loader: u32, newest: u16, bytes: *const u8, length: usize, told: *mut Told) -> u32;
     pub fn linkd_delegate(at: *mut Opaque, loader: u32, name: *const u8, name_length: usize, to: u32, told: *mut Told) -> u32;
     pub fn linkd_request(at: *mut Opaque, class_number: u32, method: u32, pc: u32, told: *mut Told) -> u32;
     pub fn linkd_new_call_site_of(

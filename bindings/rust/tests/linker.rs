@@ -4,7 +4,7 @@ mod file;
 
 use linkd::{
     Answer, CallSiteFault, CallSiteId, CallSiteKind, ClassFault, ClassId, DefineFault, DelegateFault, Error, Instruction, Invocation, Link,
-    Linker, LoaderId, NotLinkable, Outcome, Released, RetireFault, SiteId, SwitchId, Target, Throwable, Unlinked,
+    Linker, LoaderId, NotLinkable, Outcome, Released, RetireFault, SiteId, SwitchId, Target, Throwable, Unlinked, NEWEST_KNOWN,
 };
 use std::sync::{Arc, Mutex};
 
@@ -135,6 +135,20 @@ fn bytes_that_are_no_class_file_are_refused_by_name() -> Result<(), Error> {
     assert_eq!(fault_of(&longer, &mut linker), ClassFault::TrailingBytes);
     let said = linker.define(b"no class file").unwrap_err().to_string();
     assert_eq!(said, "no class file: it has no magic number (place 0, cause 0, pc 0)");
+    Ok(())
+}
+
+#[test]
+fn later_class_files_are_defined_up_to_a_version() -> Result<(), Error> {
+    let mut linker = Linker::open(1)?;
+    let bad_version = |defined| matches!(defined, Err(Error::NoClassFile { fault: ClassFault::BadVersion, .. }));
+    let file = file::class_of_version(65, OBJECT, None, &[]);
+    assert!(bad_version(linker.define(&file)));
+    assert!(bad_version(linker.define_up_to(LoaderId::FIRST, 64, &file)));
+    let object = linker.define_up_to(LoaderId::FIRST, NEWEST_KNOWN, &file)?;
+    assert_eq!(linker.class_name(object).as_deref(), Some(OBJECT.as_bytes()));
+    linker.define_up_to(LoaderId::FIRST, 65, &file::class_of_version(65, "A", Some(OBJECT), &[]))?;
+    linker.define_up_to(LoaderId::FIRST, 61, &with_f("B", "A"))?;
     Ok(())
 }
 
@@ -573,4 +587,5 @@ fn the_last_event_has_its_work() -> Result<(), Error> {
 fn the_library_is_of_the_header() {
     let header = include_str!("../../../include/linkd.h");
     assert!(header.contains(&format!("#define LINKD_VERSION {}\n", linkd::version())));
+    assert!(header.contains(&format!("#define LINKD_NEWEST_KNOWN {NEWEST_KNOWN}\n")));
 }

@@ -4,9 +4,10 @@ use Rattle.std.specs.Prelude.{if◌then◌else◌}
 use Rattle.std.specs.Option.{option_map_or}
 use Rattle.jl_classfile.specs.declared.fault.ClassFault.{ClassFault}
 use Rattle.jl_classfile.specs.Parts.{Parts}
-use Rattle.jl_classfile.specs.ClassFiles.{IsClass}
+use Rattle.jl_classfile.specs.ClassFiles.{IsClassUpTo}
+use Rattle.jl_classfile.specs.Conditions.{newest_of_17}
 use Rattle.jl_classfile.specs.Shown.{shown}
-use Rattle.jl_classfile.specs.Faults.{IsFault}
+use Rattle.jl_classfile.specs.Faults.{IsFaultUpTo}
 use Rattle.jl_types.specs.Events.Event.{Event}
 use Rattle.jl_types.specs.declared.event.EventOf.TheVariants as event
 use Rattle.jl_types.specs.declared.event.Reply.{Reply}
@@ -93,19 +94,24 @@ IfOpenWithMemory IsSo = IfOpen (λ old status told new. IsSo old status told new
 abbrev pub IsNewLoader : Option Opened → ℕ → Told → Option Opened → Type 0
 IsNewLoader = IfOpen (IsAsked event.NewLoader)
 
--- the bytes aren't a class file, or memory lacked to read them
-abbrev pub IsUnread : List ℕ → Opened → ℕ → Told → Opened → Type 0
-IsUnread bytes old status told new =
-    ((f : ClassFault) × IsFault bytes f × (status ≡ no_class_file) × (told ≡ told_of_file f) × (new ≡ old))
+-- the bytes aren't a class file of a version up to the newest one, or memory lacked to read them
+abbrev pub IsUnreadUpTo : ℕ → List ℕ → Opened → ℕ → Told → Opened → Type 0
+IsUnreadUpTo newest bytes old status told new =
+    ((f : ClassFault) × IsFaultUpTo newest bytes f × (status ≡ no_class_file) × (told ≡ told_of_file f) × (new ≡ old))
     ⊎ IsUnasked memory old status told new
 
 -- the event of the class that the bytes are; or why they aren't read (JVMS 4)
-abbrev pub IsDefined : ℕ → List ℕ → Opened → ℕ → Told → Opened → Type 0
-IsDefined loader bytes old status told new =
-    ((p : Parts) × IsClass bytes p × IsAsked (event.Define loader (shown p)) old status told new) ⊎ IsUnread bytes old status told new
+abbrev pub IsDefinedUpTo : ℕ → ℕ → List ℕ → Opened → ℕ → Told → Opened → Type 0
+IsDefinedUpTo newest loader bytes old status told new =
+    ((p : Parts) × IsClassUpTo newest bytes p × IsAsked (event.Define loader (shown p)) old status told new)
+    ⊎ IsUnreadUpTo newest bytes old status told new
 
+abbrev pub IsDefineUpTo : ℕ → ℕ → List ℕ → Option Opened → ℕ → Told → Option Opened → Type 0
+IsDefineUpTo newest loader bytes = IfOpen (IsDefinedUpTo newest loader bytes)
+
+-- of SE 17
 abbrev pub IsDefine : ℕ → List ℕ → Option Opened → ℕ → Told → Option Opened → Type 0
-IsDefine loader bytes = IfOpen (IsDefined loader bytes)
+IsDefine loader bytes = IsDefineUpTo newest_of_17 loader bytes
 
 abbrev pub IsDelegate : ℕ → List ℕ → ℕ → Option Opened → ℕ → Told → Option Opened → Type 0
 IsDelegate loader name to = IfOpenWithMemory (IsAsked (event.Delegate loader name to))

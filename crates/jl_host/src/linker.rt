@@ -6,7 +6,7 @@ ghost use Rattle.jl_types.specs.Events.History.{installed};
 ghost use Rattle.jl_core.specs.State.{events, world_of};
 ghost use Rattle.jl_host.specs.Showing.{recv_of};
 ghost use Rattle.jl_host.specs.Seats.{seen_of};
-ghost use Rattle.jl_host.specs.Linkers.{IsOpen, IsNewLoader, IsDefine, IsDelegate, IsRequest, IsNewCallSite, IsSetTarget, IsNewSwitch, IsInvalidate};
+ghost use Rattle.jl_host.specs.Linkers.{IsOpen, IsNewLoader, IsDefine, IsDefineUpTo, IsDelegate, IsRequest, IsNewCallSite, IsSetTarget, IsNewSwitch, IsInvalidate};
 ghost use Rattle.jl_host.specs.Linkers.{IsBind, IsRetire, IsInstall, IsDropped, IsTake, IsCall, IsLinkOf, IsAnswer, kind_of, IfOpen, IsAsked};
 ghost use Rattle.jl_session.specs.Sessions.{snapshot_of};
 ghost use Rattle.jl_host.specs.Targets.{IsNewCallSiteOf, IsSetTargetOf};
@@ -30,6 +30,7 @@ use crate::targets::{TargetPart, target_of};
 use crate::told::{
     CLOSED, DONE, MALFORMED, MEMORY, OPEN_ALREADY, TOO_SHORT, Told, status_of_refusal, unasked,
 };
+use jl_classfile::NEWEST_OF_17;
 use jl_names::{Name, Seq};
 use jl_relink::Snapshot;
 use jl_session::read_target;
@@ -107,12 +108,28 @@ impl Linker {
         self.ask(alloc, Event::NewLoader, told)
     }
 
-    /// The loader defines the class that the bytes are (JVMS SE 17 §4, §5.3.5).
+    /// The loader defines the class of a class file (JVMS SE 17 §4, §5.3.5) whose major version is at most 61, that of SE 17.
     pub fn define(&mut self, alloc: Global, loader: u32, bytes: &[u8], told: &mut Told) -> u32
         ensures { IsDefine loader bytes.now self.old result told.new self.new }
     {
+        self.define_up_to(alloc, loader, NEWEST_OF_17, bytes, told)
+    }
+
+    /// The loader defines the class of a class file whose major version is at most `newest`, by [`jl_classfile::read_class_up_to`].
+    pub fn define_up_to(
+        &mut self,
+        alloc: Global,
+        loader: u32,
+        newest: u16,
+        bytes: &[u8],
+        told: &mut Told,
+    ) -> u32
+        ensures { IsDefineUpTo newest loader bytes.now self.old result told.new self.new }
+    {
         match &mut self.opened {
-            Some(opened) => opened.define(alloc, LoaderId::new(loader), bytes, told),
+            Some(opened) => {
+                opened.define_up_to(alloc, LoaderId::new(loader), newest, bytes, told)
+            }
             None => unasked(CLOSED, told),
         }
     }

@@ -6,7 +6,7 @@ ghost use Rattle.jl_types.specs.Events.History.{installed};
 ghost use Rattle.jl_core.specs.State.{State, events, world_of};
 ghost use Rattle.jl_renewal.specs.Renewal.{IsRenewal, IsRefusedRenewal};
 ghost use Rattle.jl_host.specs.Numbers.{memory};
-ghost use Rattle.jl_host.specs.Linkers.{opened_over, newly_opened, IsAsked, IsAskedIf, IsUnasked, call_site_of, IsDefined, IsInstalled, IsAnswered};
+ghost use Rattle.jl_host.specs.Linkers.{opened_over, newly_opened, IsAsked, IsAskedIf, IsUnasked, call_site_of, IsDefinedUpTo, IsInstalled, IsAnswered};
 ghost use Rattle.jl_host.specs.Linkers.{last_dropped};
 ghost use Rattle.jl_host.specs.Seats.{seen_of};
 ghost use Rattle.jl_host.specs.Views.{IsGiven, present_of};
@@ -19,7 +19,7 @@ use crate::shown::{LinkShown, link_shown};
 use crate::told::{
     DONE, MALFORMED, MEMORY, Told, class_named, tell, tell_file, tell_unprepared, unasked,
 };
-use jl_classfile::read_class;
+use jl_classfile::read_class_up_to;
 use jl_core::Core;
 use jl_json::is_method_descriptor;
 use jl_names::{Name, Seq};
@@ -164,17 +164,18 @@ impl Opened {
         status
     }
 
-    /// Asks for the definition of the class that the bytes are.
-    pub(crate) fn define(
+    /// Asks for the definition of the class that the bytes are, whose major version is at most `newest`.
+    pub(crate) fn define_up_to(
         &mut self,
         alloc: Global,
         loader: LoaderId,
+        newest: u16,
         bytes: &[u8],
         told: &mut Told,
     ) -> u32
-        ensures { IsDefined loader bytes.now self.old result told.new self.new }
+        ensures { IsDefinedUpTo newest loader bytes.now self.old result told.new self.new }
     {
-        match read_class(alloc, bytes) {
+        match read_class_up_to(alloc, newest, bytes) {
             Ok(file) => self.ask(alloc, Event::Define(loader, file), told),
             Err(fault) => tell_file(fault, told),
         }

@@ -1,5 +1,5 @@
 -- What the walks of the exports cite.
-pub use Rattle.std.proofs.Common.{◌≡◌, ℕ, List, [], ◌∷◌, refl, ap, Option, None, w32, w64}
+pub use Rattle.std.proofs.Common.{◌≡◌, ℕ, List, [], ◌∷◌, refl, ap, Option, None, w16, w32, w64}
 pub use Rattle.std.proofs.raw_atomic.Walks.{proved, leaves}
 pub use base.Fraction.{full_share}
 pub use base.Logic.{id⊢}

@@ -6,7 +6,7 @@
 
 ghost use Rattle.std.specs.Prelude.{◌≡◌, List, Option, None};
 ghost use types.Logic.{sem};
-ghost use Rattle.jl_host.specs.Linkers.{Opened, IsOpen, IsNewLoader, IsDefine, IsDelegate, IsRequest, IsNewCallSite, IsSetTarget, IsNewSwitch};
+ghost use Rattle.jl_host.specs.Linkers.{Opened, IsOpen, IsNewLoader, IsDefine, IsDefineUpTo, IsDelegate, IsRequest, IsNewCallSite, IsSetTarget, IsNewSwitch};
 ghost use Rattle.jl_host.specs.Linkers.{IsInvalidate, IsBind, IsRetire, IsInstall, IsDropped, IsCall, IsLinkOf, IsAnswer, IsTake};
 ghost use Rattle.jl_host.specs.Seats.{SeatView, IsRefresh, IsSeatCall};
 ghost use Rattle.jl_host.specs.Memos.{IsMemoOpen, IsMemoAsk, IsMemoCall, IsSeatCallWith};
@@ -68,9 +68,9 @@ pub struct LinkdView {
 /// Which header the library is of: LINKD_VERSION there.
 #[unsafe(no_mangle)]
 pub extern "C" fn linkd_version() -> u32
-    ensures { result ≡ 2 }
+    ensures { result ≡ 3 }
 {
-    2
+    3
 }
 
 /// The bytes of a linker.
@@ -128,7 +128,7 @@ pub unsafe extern "C" fn linkd_new_loader(alloc: Global, at: *mut Linkd, told: &
     (*(at as *mut Linker)).new_loader(alloc, told)
 }
 
-/// The loader defines the class that the bytes are (JVMS SE 17 §4, §5.3.5).
+/// The loader defines the class of a class file (JVMS SE 17 §4, §5.3.5) whose major version is at most 61, that of SE 17.
 #[unsafe(no_mangle)]
 pub unsafe extern "C" fn linkd_define(
     alloc: Global,
@@ -142,6 +142,23 @@ pub unsafe extern "C" fn linkd_define(
     ensures* { sem 𝓛 (linker_left at (λ new. IsDefine loader bytes.now old result told.new new)) }
 {
     (*(at as *mut Linker)).define(alloc, loader, bytes, told)
+}
+
+/// The loader defines the class of a class file whose major version is at most `newest`. One above 61 is read as 61 is.
+#[unsafe(no_mangle)]
+pub unsafe extern "C" fn linkd_define_up_to(
+    alloc: Global,
+    at: *mut Linkd,
+    loader: u32,
+    newest: u16,
+    bytes: &[u8],
+    told: &mut Told,
+) -> u32
+    ghost old: { Option Opened }
+    requires* { sem 𝓛 (linker_at at old) }
+    ensures* { sem 𝓛 (linker_left at (λ new. IsDefineUpTo newest loader bytes.now old result told.new new)) }
+{
+    (*(at as *mut Linker)).define_up_to(alloc, loader, newest, bytes, told)
 }
 
 /// The loader finds under the name the class that the loader `to` finds (§5.3).

@@ -12,6 +12,10 @@ type StepRow = (Step, &'static [u32]);
 const OBJECT: &[u8] =
     b"\xca\xfe\xba\xbe\x00\x00\x00\x3d\x00\x03\x01\x00\x10java/lang/Object\x07\x00\x01\x00\x21\x00\x02\x00\x00\x00\x00\x00\x00\x00\x00\x00\x00";
 
+/// java/lang/Object, without methods, in a file of version 65.0, Java 21's.
+const OBJECT_OF_21: &[u8] =
+    b"\xca\xfe\xba\xbe\x00\x00\x00\x41\x00\x03\x01\x00\x10java/lang/Object\x07\x00\x01\x00\x21\x00\x02\x00\x00\x00\x00\x00\x00\x00\x00\x00\x00";
+
 /// A, below java/lang/Object, with a public f of the type ()V.
 const A: &[u8] =
     b"\xca\xfe\xba\xbe\x00\x00\x00\x3d\x00\x08\x01\x00\x01A\x07\x00\x01\x01\x00\x10java/lang/Object\x07\x00\x03\x01\x00\x01f\x01\x00\x03()V\x01\x00\x04Code\x00\x21\x00\x02\x00\x04\x00\x00\x00\x00\x00\x01\x00\x01\x00\x05\x00\x06\x00\x01\x00\x07\x00\x00\x00\x0d\x00\x00\x00\x00\x00\x00\x00\x01\xb1\x00\x00\x00\x00\x00\x00";
@@ -556,7 +560,7 @@ const MEGAMORPHIC: &[StepRow] = &[
     (Recall(0, 2), &[0, 4]),
 ];
 
-/// Bytes that are no class file.
+/// Bytes that are no class file, and a file of version 65.0, which is one up to 65 and up to 69.
 const FILES: &[StepRow] = &[
     (Open(1), &[0]),
     (Define(0, b""), &[32, 0, 4]),
@@ -587,6 +591,13 @@ const FILES: &[StepRow] = &[
         ),
         &[0, 0, 1],
     ),
+    (Define(0, OBJECT_OF_21), &[32, 0, 3]),
+    (DefineUpTo(0, 64, OBJECT_OF_21), &[32, 0, 3]),
+    (DefineUpTo(0, 65, OBJECT_OF_21), &[0, 0]),
+    (Close, &[0]),
+    (DefineUpTo(0, 69, OBJECT_OF_21), &[34]),
+    (Open(1), &[0]),
+    (DefineUpTo(0, 69, OBJECT_OF_21), &[0, 0]),
 ];
 
 /// The session of the README, by lines alone.

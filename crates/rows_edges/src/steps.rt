@@ -19,6 +19,8 @@ pub enum Step {
     Close,
     NewLoader,
     Define(u32, &'static [u8]),
+    /// The same of class files up to this major version.
+    DefineUpTo(u32, u16, &'static [u8]),
     Delegate(u32, &'static str, u32),
     Request(u32, u32, u32),
     NewCallSite(u32, &'static str, &'static str),
@@ -345,6 +347,9 @@ fn event_numbers(alloc: Global, linker: &mut Linker, step: &Step) -> Numbers {
     let status = match step {
         Step::NewLoader => linker.new_loader(alloc, &mut told),
         Step::Define(loader, bytes) => linker.define(alloc, *loader, bytes, &mut told),
+        Step::DefineUpTo(loader, newest, bytes) => {
+            linker.define_up_to(alloc, *loader, *newest, bytes, &mut told)
+        }
         Step::Delegate(loader, name, to) => {
             linker.delegate(alloc, *loader, name.as_bytes(), *to, &mut told)
         }

@@ -24,6 +24,12 @@ import java.util.function.Function;
  * <p>What is refused throws a {@link RefusedException}, which says why, and changes nothing; a closed linker refuses all.
  */
 public final class Linker implements AutoCloseable {
+    /**
+     * The newest major version of class files of which it is known how they are read: that of Java 25. The editions of the specification
+     * from SE 17 to SE 25 say the same of all that is read. It isn't claimed that a JVM of SE 17 would take such a file.
+     */
+    public static final int NEWEST_KNOWN = 69;
+
     private final MemorySegment at;
     private final MemorySegment told;
     private final MemorySegment answer;
@@ -110,18 +116,35 @@ public final class Linker implements AutoCloseable {
         return new LoaderId(made(Native.newLoader(at(), told)));
     }
 
-    /** Defines a class in the first loader. */
+    /** Defines a class in the first loader, by {@link #define(LoaderId, byte[])}. */
     public ClassId define(byte[] file) {
         return define(LoaderId.FIRST, file);
     }
 
     /**
-     * Defines a class, behind its parents: {@link Refusal.DefineFault#MISSING_PARENT} is no end, and {@link #namedClass} names the parent.
+     * Defines a class, after its parents: {@link Refusal.DefineFault#MISSING_PARENT} is no end, and {@link #namedClass} names the parent. The
+     * major version of its file is 45 to 61, those of SE 17.
      */
     public synchronized ClassId define(LoaderId loader, byte[] file) {
         MemorySegment open = at();
         try (Arena call = Arena.ofConfined()) {
             return new ClassId(made(Native.define(open, loader.number(), copied(call, file), told)));
+        }
+    }
+
+    /**
+     * As {@link #define(LoaderId, byte[])}, but the major version is 45 to the newest one. A file of a version above 61 is read as one of
+     * 61.0 is, and linked as SE 17 says. With {@link #NEWEST_KNOWN} files up to Java 25's are taken; of later ones nothing is known.
+     *
+     * @param newest 0 to 65,535, or else this is {@link Refusal.Plain#MALFORMED}
+     */
+    public synchronized ClassId defineUpTo(LoaderId loader, int newest, byte[] file) {
+        MemorySegment open = at();
+        if (newest != (char) newest) {
+            throw new RefusedException(Refusal.Plain.MALFORMED);
+        }
+        try (Arena call = Arena.ofConfined()) {
+            return new ClassId(made(Native.defineUpTo(open, loader.number(), (char) newest, copied(call, file), told)));
         }
     }
 

@@ -21,8 +21,8 @@ import java.util.stream.Stream;
  * Links all invocations of some class files, and tells how many have a link of which form.
  *
  * <p>{@code java linkd.Main PATH..}, where a path is that of a class file or of a folder with class files in it. What they name beside each
- * other is taken from the JDK that runs this, where that has it. A class file of a later version than 61 is read as of version 61
- * ({@link ClassFiles}).
+ * other is taken from the JDK that runs this, where that has it. Class files are taken up to those of Java 25, so this JDK is one up to 25
+ * ({@link Linker#defineUpTo}).
  */
 public final class Main {
     private static final int BATCH = 256;
@@ -69,9 +69,9 @@ public final class Main {
 
     /** Whether it is a class file is asked of a linker of its own, so that it is read only where it is one. */
     private void read(Path path) throws IOException {
-        byte[] file = ClassFiles.asOfNewest(Files.readAllBytes(path));
+        byte[] file = Files.readAllBytes(path);
         try (Linker reader = Linker.open(1)) {
-            reader.define(file);
+            reader.defineUpTo(LoaderId.FIRST, Linker.NEWEST_KNOWN, file);
         } catch (RefusedException refused) {
             if (refused.refusal() instanceof Refusal.NoClassFile) {
                 throw new BadInput(path + ": " + refused.getMessage());
@@ -86,7 +86,7 @@ public final class Main {
         return file == null ? ClassFiles.of(name).orElse(null) : file;
     }
 
-    /** Defines the class behind its parents, where it is found. A class of the JDK may be refused; then what wants it has no link. */
+    /** Defines the class after its parents, where it is found. A class of the JDK may be refused; then what wants it has no link. */
     private void define(String name) {
         byte[] file = tried.add(name) ? find(name) : null;
         if (file == null) {
@@ -96,7 +96,7 @@ public final class Main {
             define(parent);
         }
         try {
-            defined.put(name, linker.define(file));
+            defined.put(name, linker.defineUpTo(LoaderId.FIRST, Linker.NEWEST_KNOWN, file));
         } catch (RefusedException refused) {
             if (given.containsKey(name)) {
                 throw new BadInput(name + ": " + refused.getMessage());

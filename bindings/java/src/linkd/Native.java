@@ -1,6 +1,7 @@
 package linkd;
 
 import static java.lang.foreign.ValueLayout.ADDRESS;
+import static java.lang.foreign.ValueLayout.JAVA_CHAR;
 import static java.lang.foreign.ValueLayout.JAVA_INT;
 import static java.lang.foreign.ValueLayout.JAVA_LONG;
 
@@ -57,6 +58,7 @@ final class Native {
     private static final MethodHandle OPEN = status("linkd_open", JAVA_INT);
     private static final MethodHandle NEW_LOADER = status("linkd_new_loader", ADDRESS);
     private static final MethodHandle DEFINE = status("linkd_define", JAVA_INT, ADDRESS, JAVA_LONG, ADDRESS);
+    private static final MethodHandle DEFINE_UP_TO = status("linkd_define_up_to", JAVA_INT, JAVA_CHAR, ADDRESS, JAVA_LONG, ADDRESS);
     private static final MethodHandle DELEGATE = status("linkd_delegate", JAVA_INT, ADDRESS, JAVA_LONG, JAVA_INT, ADDRESS);
     private static final MethodHandle REQUEST = status("linkd_request", JAVA_INT, JAVA_INT, JAVA_INT, ADDRESS);
     private static final MethodHandle NEW_CALL_SITE =
@@ -193,6 +195,14 @@ final class Native {
     static int define(MemorySegment at, int loader, MemorySegment bytes, MemorySegment told) {
         try {
             return (int) DEFINE.invokeExact(at, loader, bytes, bytes.byteSize(), told);
+        } catch (Throwable fault) {
+            throw failed(fault);
+        }
+    }
+
+    static int defineUpTo(MemorySegment at, int loader, char newest, MemorySegment bytes, MemorySegment told) {
+        try {
+            return (int) DEFINE_UP_TO.invokeExact(at, loader, newest, bytes, bytes.byteSize(), told);
         } catch (Throwable fault) {
             throw failed(fault);
         }

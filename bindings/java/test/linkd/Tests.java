@@ -21,6 +21,7 @@ final class Tests {
     private static final int INVOKEVIRTUAL = 182;
     private static final int INVOKESTATIC = 184;
     private static final String OBJECT = "java/lang/Object";
+    private static final Refusal BAD_VERSION = new Refusal.NoClassFile(Refusal.ClassFault.BAD_VERSION, 0, 0, 0);
 
     private Tests() {
     }
@@ -170,9 +171,22 @@ final class Tests {
         try (Linker linker = Linker.open(1)) {
             refused(new Refusal.NoClassFile(Refusal.ClassFault.TRUNCATED, 0, 0, 0), () -> linker.define(new byte[0]));
             refused(new Refusal.NoClassFile(Refusal.ClassFault.BAD_MAGIC, 0, 0, 0), () -> linker.define("no class file".getBytes()));
-            byte[] newer = Written.file(OBJECT, null);
-            newer[7] = 62;
-            refused(new Refusal.NoClassFile(Refusal.ClassFault.BAD_VERSION, 0, 0, 0), () -> linker.define(newer));
+            refused(BAD_VERSION, () -> linker.define(Written.fileOfVersion(62, OBJECT, null)));
+        }
+    }
+
+    private static void laterFilesAreDefinedUpToAVersion() throws Exception {
+        byte[] file = Written.fileOfVersion(65, OBJECT, null);
+        try (Linker linker = Linker.open(1)) {
+            refused(BAD_VERSION, () -> linker.define(file));
+            refused(BAD_VERSION, () -> linker.defineUpTo(LoaderId.FIRST, 64, file));
+            refused(Refusal.Plain.MALFORMED, () -> linker.defineUpTo(LoaderId.FIRST, -1, file));
+            refused(Refusal.Plain.MALFORMED, () -> linker.defineUpTo(LoaderId.FIRST, 65_536, file));
+            same(Optional.of(OBJECT), linker.className(linker.defineUpTo(LoaderId.FIRST, Linker.NEWEST_KNOWN, file)));
+            linker.defineUpTo(LoaderId.FIRST, 65, Written.fileOfVersion(65, "A", OBJECT));
+            linker.defineUpTo(LoaderId.FIRST, 65, Written.file("B", "A"));
+            // The library takes the number without a sign.
+            linker.defineUpTo(LoaderId.FIRST, 65_535, Written.fileOfVersion(65_535, "C", "B"));
         }
     }
 
@@ -582,17 +596,16 @@ final class Tests {
         }
     }
 
-    private static void classesOfThisJdkAreDefined() {
+    private static void classesOfThisJdkAreDefined() throws Exception {
         byte[] file = ClassFiles.of(OBJECT).orElseThrow();
-        // Magic number, minor version, major version (JVMS SE 17 §4.1).
-        same(List.of(0xcafebabe, 61), List.of(ByteBuffer.wrap(file).getInt(), ByteBuffer.wrap(file).getInt(4)));
+        // Magic number, minor version, major version (JVMS SE 25 §4.1).
+        int major = Runtime.version().feature() + 44;
+        same(List.of(0xcafebabe, major), List.of(ByteBuffer.wrap(file).getInt(), ByteBuffer.wrap(file).getInt(4)));
         same(Optional.empty(), ClassFiles.of("no/such/Class"));
         try (Linker linker = Linker.open(1)) {
-            same(Optional.of(OBJECT), linker.className(linker.define(file)));
+            refused(BAD_VERSION, () -> linker.define(file));
+            same(Optional.of(OBJECT), linker.className(linker.defineUpTo(LoaderId.FIRST, Linker.NEWEST_KNOWN, file)));
         }
-        byte[] older = Written.file("A", OBJECT);
-        older[7] = 52;
-        same(52, (int) ClassFiles.asOfNewest(older)[7]);
     }
 
     private static void aClosedLinkerRefusesAll() throws Exception {
@@ -602,6 +615,7 @@ final class Tests {
         linker.close();
         refused(Refusal.Plain.CLOSED, linker::newLoader);
         refused(Refusal.Plain.CLOSED, () -> linker.define(new byte[0]));
+        refused(Refusal.Plain.CLOSED, () -> linker.defineUpTo(LoaderId.FIRST, Linker.NEWEST_KNOWN, new byte[0]));
         refused(Refusal.Plain.CLOSED, () -> linker.delegate(LoaderId.FIRST, "A", LoaderId.FIRST));
         refused(Refusal.Plain.CLOSED, () -> linker.request(world.m, 0, 0));
         refused(Refusal.Plain.CLOSED, () -> linker.install(List.of(world.site)));
@@ -643,6 +657,7 @@ final class Tests {
                 & passes("a seat belongs to its thread", Tests::aSeatBelongsToItsThread)
                 & passes("threads share a linker", Tests::threadsShareALinker)
                 & passes("bad files are refused by name", Tests::badFilesAreRefusedByName)
+                & passes("later files are defined up to a version", Tests::laterFilesAreDefinedUpToAVersion)
                 & passes("definitions are refused by name", Tests::definitionsAreRefusedByName)
                 & passes("sites are refused by name", Tests::sitesAreRefusedByName)
                 & passes("a call site has targets", Tests::aCallSiteHasTargets)

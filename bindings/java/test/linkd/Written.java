@@ -64,7 +64,7 @@ final class Written {
         to.writeInt(0);
     }
 
-    private byte[] file(String name, String parent, List<Method> methods) throws IOException {
+    private byte[] file(int major, String name, String parent, List<Method> methods) throws IOException {
         int self = type(name);
         int above = parent == null ? 0 : type(parent);
         ByteArrayOutputStream members = new ByteArrayOutputStream();
@@ -74,7 +74,8 @@ final class Written {
         ByteArrayOutputStream bytes = new ByteArrayOutputStream();
         DataOutputStream to = new DataOutputStream(bytes);
         to.writeInt(0xcafebabe);
-        to.writeInt(61);
+        to.writeShort(0);
+        to.writeShort(major);
         to.writeShort(count + 1);
         entries.writeTo(to);
         for (int number : new int[] {0x21, self, above, 0, 0, methods.size()}) {
@@ -85,10 +86,15 @@ final class Written {
         return bytes.toByteArray();
     }
 
-    /** A public class; java/lang/Object has no superclass, which is null. */
+    /** A public class, in a file of Java 17; java/lang/Object has no superclass, which is null. */
     static byte[] file(String name, String parent, Method... methods) {
+        return fileOfVersion(61, name, parent, methods);
+    }
+
+    /** The same in a file of this major version. */
+    static byte[] fileOfVersion(int major, String name, String parent, Method... methods) {
         try {
-            return new Written().file(name, parent, List.of(methods));
+            return new Written().file(major, name, parent, List.of(methods));
         } catch (IOException fault) {
             throw new UncheckedIOException(fault);
         }

@@ -70,13 +70,19 @@ fn method(pool: &mut Pool, (flags, name, calls): &Method) -> Vec<u8> {
     bytes
 }
 
-/// A public class; java/lang/Object has no superclass.
+/// A public class, in a file of Java 17; java/lang/Object has no superclass.
 pub fn class(name: &str, superclass: Option<&str>, methods: &[Method]) -> Vec<u8> {
+    class_of_version(61, name, superclass, methods)
+}
+
+/// The same in a file of this major version.
+pub fn class_of_version(major: u16, name: &str, superclass: Option<&str>, methods: &[Method]) -> Vec<u8> {
     let mut pool = Pool::default();
     let this = pool.class(name);
     let parent = superclass.map_or(0, |name| pool.class(name));
     let written: Vec<Vec<u8>> = methods.iter().map(|it| method(&mut pool, it)).collect();
-    let mut bytes = vec![0xca, 0xfe, 0xba, 0xbe, 0, 0, 0, 61];
+    let mut bytes = vec![0xca, 0xfe, 0xba, 0xbe, 0, 0];
+    bytes.extend_from_slice(&major.to_be_bytes());
     bytes.extend_from_slice(&(pool.count + 1).to_be_bytes());
     bytes.extend_from_slice(&pool.bytes);
     for number in [0x21, this, parent, 0, 0, methods.len() as u16] {
