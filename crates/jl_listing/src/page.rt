@@ -10,10 +10,10 @@ use crate::texts::{
     push_left_out_line, push_line, push_method_line, push_nothing_line, push_site_line,
     write_class_line, write_line, write_totals,
 };
-use crate::told::{Note, notes_of};
+use crate::told::{Marks, Note, notes_of};
 use jl_class::{ClassFile, Method, Site};
 use jl_hierarchy::Classes;
-use jl_report::{Dropped, Made, Report, Row, keep_open};
+use jl_report::{Dropped, Report, Row, keep_open};
 use jl_types::ClassId;
 use json::Writer;
 use std::alloc::Global;
@@ -198,12 +198,12 @@ impl Page {
         &mut self,
         alloc: Global,
         report: &mut Report,
-        made: &Made,
+        marks: &Marks,
         asked: &ReportWords,
         class: ClassId,
     ) -> Result<(), ReportFault> {
         let rows = report.rows_in(alloc, class)?;
-        let notes = notes_of(alloc, report, made, asked, &rows)?;
+        let notes = notes_of(alloc, report, marks, asked, &rows)?;
         self.summary.classes = self.summary.classes.saturating_add(1);
         let Some(kept) = report.classes().class_at(class) else {
             return Ok(());

@@ -10,11 +10,12 @@ use crate::page_file::{write_page, written_over};
 use crate::progress::Progress;
 use crate::report_words::ReportWords;
 use crate::texts::{Elsewhere, push_nothing, push_shown};
+use crate::told::Marks;
 use jl_class::ClassFile;
 use jl_hierarchy::Classes;
 use jl_names::Name;
 use jl_paths::{Gathered, NoClass, PathFault, Source, read_all};
-use jl_report::{Made, Report, define_all, order_by_name};
+use jl_report::{Report, define_all, order_by_name};
 use jl_types::{ClassId, LoaderId};
 use std::alloc::Global;
 use std::io::{ErrorKind, IsTerminal, Write};
@@ -109,9 +110,9 @@ fn add_all<R: Files + AllocGlobal + Clock + Clone + Drop, W: Write, E: Write + I
 ) -> Result<(), ReportFault> {
     let mut classes = Classes::new(rt.alloc())?;
     let listed = listed_of(rt, asked, &mut classes, page, missed)?;
-    let made = Made::of(rt.alloc(), &classes)?;
+    let marks = Marks::of(rt.alloc(), &classes)?;
     let mut report = Report::of(rt.alloc(), classes);
-    add_classes(rt, asked, &mut report, &made, &listed, page, out, errors)?;
+    add_classes(rt, asked, &mut report, &marks, &listed, page, out, errors)?;
     if !asked.breaks.is_empty() {
         add_breaks(rt, asked, &mut report, page, missed, out)?;
     }
@@ -239,7 +240,7 @@ fn add_classes<R: AllocGlobal + Clock, W: Write, E: Write + IsTerminal>(
     rt: &R,
     asked: &ReportWords,
     report: &mut Report,
-    made: &Made,
+    marks: &Marks,
     listed: &[ClassId],
     page: &mut Page,
     out: &mut W,
@@ -248,7 +249,7 @@ fn add_classes<R: AllocGlobal + Clock, W: Write, E: Write + IsTerminal>(
     let mut progress = Progress::new(rt, errors);
     for (done, class) in listed.iter().enumerate() {
         progress.tell(rt, done, listed.len(), errors);
-        page.add_class(rt.alloc(), report, made, asked, *class)?;
+        page.add_class(rt.alloc(), report, marks, asked, *class)?;
         page.write_if_full(out)?;
     }
     progress.end(errors);

@@ -1,7 +1,8 @@
 //! What is told of an invocation beside what it comes to.
 
 use crate::report_words::ReportWords;
-use jl_report::{Made, Report, Row, Shape};
+use jl_hierarchy::Classes;
+use jl_report::{Made, Report, Row, Shape, is_final_call, some_overrides_final};
 use jl_types::MethodId;
 use std::alloc::{AllocError, Global};
 
@@ -19,6 +20,35 @@ pub(crate) enum Methods {
     Several,
 }
 
+/// What is found out once of all classes, for the marks of invocations.
+pub(crate) struct Marks {
+    /// Which classes an invokedynamic makes objects of.
+    made: Made,
+    /// Whether these may be classes that a JVM has taken: none overrides a FINAL method, and what is above a class is its superclasses and
+    /// interfaces.
+    are_derived: bool,
+}
+
+/// Written out, so that what drops one makes one call of it and doesn't take apart what it holds.
+impl Drop for Marks {
+    fn drop(self) {
+        let Marks {
+            made: _made,
+            are_derived: _are_derived,
+        } = self;
+    }
+}
+
+impl Marks {
+    /// Of these classes. Want of memory is an error.
+    pub(crate) fn of(alloc: Global, classes: &Classes) -> Result<Marks, AllocError> {
+        Ok(Marks {
+            made: Made::of(alloc, classes)?,
+            are_derived: classes.are_superclass_chains() && !some_overrides_final(classes),
+        })
+    }
+}
+
 /// What is told of an invocation beside what it comes to.
 pub(crate) struct Note {
     pub(crate) methods: Methods,
@@ -26,6 +56,8 @@ pub(crate) struct Note {
     pub(crate) are_named: bool,
     /// Whether an invokedynamic may make further receivers.
     pub(crate) is_made: bool,
+    /// Whether no class that a JVM takes drops its link, since the method is FINAL.
+    pub(crate) is_final: bool,
 }
 
 /// Written out, so that what drops one makes one call of it and doesn't take apart what it holds.
@@ -35,6 +67,7 @@ impl Drop for Note {
             methods: _methods,
             are_named: _are_named,
             is_made: _is_made,
+            is_final: _is_final,
         } = self;
     }
 }
@@ -46,6 +79,7 @@ impl Note {
             methods: Methods::Unasked,
             are_named: false,
             is_made: false,
+            is_final: false,
         }
     }
 
@@ -62,7 +96,7 @@ impl Note {
 pub(crate) fn notes_of(
     alloc: Global,
     report: &mut Report,
-    made: &Made,
+    marks: &Marks,
     asked: &ReportWords,
     rows: &[Row],
 ) -> Result<Vec<Note>, AllocError> {
@@ -72,7 +106,8 @@ pub(crate) fn notes_of(
         if asked.chosen.takes_row(report.classes(), row) {
             note.methods = methods_of(alloc, report, asked, row)?;
             note.are_named = asked.all_receivers;
-            note.is_made = made.meets(row);
+            note.is_made = marks.made.meets(row);
+            note.is_final = marks.are_derived && is_final_call(report.classes(), row);
         }
         notes.push(note)?;
     }

@@ -1,5 +1,5 @@
 -- No class extends a FINAL one where each came by its definition, so a further class gives a FINAL one no receiver.
-use Rattle.std.proofs.Common.{◌≡◌, ◌∙◌, sym, ap, refl, arith, ℕ, ◌<◌, ◌&&◌, ◌||◌, List, []}
+use Rattle.std.proofs.Common.{◌≡◌, ◌∙◌, sym, ap, refl, arith, ℕ, ◌<◌, ◌||◌, List, []}
 use Rattle.std.proofs.Common.{◌∷◌, length, map}
 use Rattle.std.specs.Prelude.{Bool, true, false, not, slice_get, Option, Some, None, if◌then◌else◌}
 use Rattle.std.specs.List.{list_any}

@@ -11,5 +11,12 @@ pub mod TotalLaws
 pub mod DropLaws
 pub mod StayLaws
 pub mod FinalLaws
+-- FINAL methods: what is resolved, what is overridden, and what a further class leaves
+pub mod ResolvedLaws
+pub mod OverrideWalks
+pub mod OverrideLaws
+pub mod DerivedLaws
+pub mod FinalCallLaws
+pub mod FinalRowLaws
 -- worked rows
 pub mod Rows

@@ -1,6 +1,7 @@
 -- What the definitions of a report say of small classes.
-use Rattle.std.specs.Prelude.{◌≡◌, ℕ, ◌+◌, Bool, true, false, List, [], ◌∷◌, map, take, Some, None, codes, refl}
+use Rattle.std.specs.Prelude.{◌≡◌, ℕ, ◌+◌, Bool, true, false, List, [], ◌∷◌, map, take, Option, Some, None, is_some, codes, refl}
 use Rattle.std.specs.List.{range_with_len}
+use Rattle.std.proofs.Common.{sym, ◌∙◌, add-one}
 use Rattle.jl_names.specs.declared.descriptor.Element.TheVariants as element
 use Rattle.jl_pool.specs.declared.reference.Reference.{Reference}
 use Rattle.jl_class.specs.Class.{ClassFile, Method}
@@ -20,6 +21,7 @@ use Rattle.jl_types.specs.declared.link.TableKind.TheVariants as table
 use Rattle.jl_types.specs.declared.refusal.DefineFault.TheVariants.{FinalSuper}
 use Rattle.jl_types.specs.declared.refusal.NotLinkable.TheVariants.{ArrayReceiver, PolymorphicSignature}
 use Rattle.jl_types.specs.Values.World.{Class, Classes}
+use Rattle.jl_types.specs.Values.Ancestry.{is_ancestor}
 use Rattle.jl_types.specs.Events.Definitions.{define_fault, defined}
 use Rattle.jl_types.specs.Events.Footprints.{footprint}
 use Rattle.jl_types.proofs.Rows.Sketch.{object, class, classes, file, method, first, calling, class_ref, itf_ref}
@@ -33,6 +35,7 @@ use Rattle.jl_report.specs.Drops.{keys_of, row_now, now_changed, left_among, dro
 use Rattle.jl_hierarchy.specs.Constancy.{may_be_extended, ExtendNoFinal}
 use Rattle.jl_report.specs.Drops.{may_change, has_changing_link, may_grow, is_open}
 use Rattle.jl_report.specs.Methods.{is_same, distinct, run_of, run_by, looked_at, runs, methods_run}
+use Rattle.jl_report.specs.Finals.{overrides_final, some_overrides_final, AreDerived, is_final_call}
 use Rattle.jl_report.specs.Made.{class_of, named_result, made, meets_made, marks_of, meets_marks}
 use Rattle.jl_report.specs.Totals.{shape_of, column, count, told, largest}
 
@@ -382,6 +385,179 @@ apart = refl
 
 where_first : distinct (first 2 ∷ first 1 ∷ first 2 ∷ first 3 ∷ first 1 ∷ []) ≡ first 2 ∷ first 1 ∷ first 3 ∷ []
 where_first = refl
+
+-- ---- FINAL methods
+
+abbrev final_f : Method
+final_f = method 17 (codes "f")
+
+-- with this f in A, and these classes after M
+abbrev with_f : Method → List Class → Classes
+with_f own more = world (codes "A") 33 (own ∷ []) Virtual on_a more
+
+abbrev of_f : Method → List Class → Row
+of_f own more = row (codes "A") 33 (own ∷ []) Virtual on_a more
+
+-- a class of this name, with these methods, below A
+abbrev below : List ℕ → List Method → Class
+below name methods = class name 33 (Some 1) [] methods
+
+final_direct : (of_f final_f []).finding ≡ finding.Linked (Direct (Run (first 1)))
+final_direct = refl
+
+final_open : is_open (with_f final_f []) (of_f final_f []) ≡ true
+final_open = refl
+
+final_marked : is_final_call (with_f final_f []) (of_f final_f []) ≡ true
+final_marked = refl
+
+-- one that isn't FINAL
+direct_unmarked : is_final_call (with_a 33) (of_a 33) ≡ false
+direct_unmarked = refl
+
+-- of a superclass of the class that is named
+abbrev on_b : Reference (List ℕ)
+on_b = class_ref (codes "B") (codes "f")
+
+inherited_marked : is_final_call (world (codes "A") 33 (final_f ∷ []) Virtual on_b (below (codes "B") [] ∷ []))
+    (row (codes "A") 33 (final_f ∷ []) Virtual on_b (below (codes "B") [] ∷ [])) ≡ true
+inherited_marked = refl
+
+-- of a subclass of it, which another subclass needn't have
+abbrev abstract_f : Method
+abstract_f = method 1025 (codes "f")
+
+abbrev of_subclass : Row
+of_subclass = row (codes "A") 1057 (abstract_f ∷ []) Virtual on_a (below (codes "B") (final_f ∷ []) ∷ [])
+
+subclass_direct : of_subclass.finding ≡ finding.Linked (Direct (Run (first 3)))
+subclass_direct = refl
+
+subclass_unmarked : is_final_call (world (codes "A") 1057 (abstract_f ∷ []) Virtual on_a (below (codes "B") (final_f ∷ []) ∷ [])) of_subclass ≡ false
+subclass_unmarked = refl
+
+-- a private one looks at no receivers, nor does a static one
+abbrev of_own_private : Classes
+of_own_private = classes (
+    object
+    ∷ class (codes "A") 33 (Some 0) [] (method 18 (codes "f") ∷ calling 9 (codes "run") Virtual on_a ∷ [])
+    ∷ [])
+
+abbrev private_row : Row
+private_row = row_of of_own_private (invocation_of 1 1 (record { pc = 0; kind = Virtual; operand = operand.Method on_a }))
+
+private_direct : private_row.finding ≡ finding.Linked (Direct (Run (first 1)))
+private_direct = refl
+
+private_unmarked : is_final_call of_own_private private_row ≡ false
+private_unmarked = refl
+
+static_unmarked : is_final_call (world (codes "A") 33 (method 25 (codes "f") ∷ []) Static on_a [])
+    (row (codes "A") 33 (method 25 (codes "f") ∷ []) Static on_a []) ≡ false
+static_unmarked = refl
+
+-- a table runs no one method
+table_unmarked : is_final_call (family 2) (of_family 2) ≡ false
+table_unmarked = refl
+
+-- as if it looked at the receivers of an interface, which finds methods otherwise
+abbrev on_interface : Row
+on_interface = record (of_f final_f []) { rests_on = Receivers 3 ∷ [] }
+
+interface_unmarked : is_final_call (with_f final_f (class (codes "I") 1537 (Some 1) [] [] ∷ [])) on_interface ≡ false
+interface_unmarked = refl
+
+-- B below A that declares its f again
+redeclares : overrides_final (with_f final_f (below (codes "B") (f ∷ []) ∷ [])) 3 ≡ true
+redeclares = refl
+
+-- A itself doesn't, nor does Object
+declares_first : map (overrides_final (with_f final_f (below (codes "B") (f ∷ []) ∷ []))) (0 ∷ 1 ∷ 2 ∷ 7 ∷ []) ≡ false ∷ false ∷ false ∷ false ∷ []
+declares_first = refl
+
+-- in its second method
+redeclares_second : overrides_final (with_f final_f (below (codes "B") (method 1 (codes "g") ∷ f ∷ []) ∷ [])) 3 ≡ true
+redeclares_second = refl
+
+-- C below B, which declares none
+redeclares_below : overrides_final (with_f final_f (below (codes "B") [] ∷ class (codes "C") 33 (Some 3) [] (f ∷ []) ∷ [])) 4 ≡ true
+redeclares_below = refl
+
+-- of another name or descriptor, static, or private
+others_override_none : map (λ own. overrides_final (with_f final_f (below (codes "B") (own ∷ []) ∷ [])) 3) (
+    method 1 (codes "g")
+    ∷ record f { ty = codes "(I)V" }
+    ∷ method 9 (codes "f")
+    ∷ method 2 (codes "f")
+    ∷ [])
+    ≡ false ∷ false ∷ false ∷ false ∷ []
+others_override_none = refl
+
+-- what is above isn't FINAL, is static, or is private
+others_are_overridden : map (λ own. overrides_final (with_f own (below (codes "B") (f ∷ []) ∷ [])) 3) (
+    f
+    ∷ method 25 (codes "f")
+    ∷ method 18 (codes "f")
+    ∷ [])
+    ≡ false ∷ false ∷ false ∷ []
+others_are_overridden = refl
+
+-- without an access flag it is overridden in its package alone
+abbrev in_package : List ℕ → Classes
+in_package name = world (codes "p/A") 33 (method 16 (codes "f") ∷ []) Virtual (class_ref (codes "p/A") (codes "f")) (below name (f ∷ []) ∷ [])
+
+by_package : map (λ name. overrides_final (in_package name) 3) (codes "p/B" ∷ codes "q/B" ∷ []) ≡ true ∷ false ∷ []
+by_package = refl
+
+some_override : map some_overrides_final (
+    with_f final_f []
+    ∷ with_f final_f (below (codes "B") (f ∷ []) ∷ [])
+    ∷ with_f final_f (below (codes "B") (f ∷ []) ∷ below (codes "C") [] ∷ [])
+    ∷ with_f f (below (codes "B") (f ∷ []) ∷ [])
+    ∷ [])
+    ≡ false ∷ true ∷ true ∷ false ∷ []
+some_override = refl
+
+-- the mark says nothing where a further class overrides a FINAL method, and nothing is dropped by one with a private f
+abbrev after_d : List Class → List Method → Option Row
+after_d more methods =
+    now_changed (defined (with_f final_f more) 0 (further methods)) (keys_of (with_f final_f more) (further methods)) (of_f final_f more)
+
+overriding_drops : is_some (after_d [] (f ∷ [])) ≡ true
+overriding_drops = refl
+
+private_drops_none : after_d [] (method 2 (codes "f") ∷ []) ≡ None
+private_drops_none = refl
+
+-- nor where an abstract class that was there overrides one
+abbrev abstract_b : Class
+abstract_b = class (codes "B") 1057 (Some 1) [] (f ∷ [])
+
+abbrev below_b : ClassFile
+below_b = record (further []) { superclass = Some (codes "B") }
+
+abstract_marked : is_final_call (with_f final_f (abstract_b ∷ [])) (of_f final_f (abstract_b ∷ [])) ≡ true
+abstract_marked = refl
+
+inherits_and_drops : is_some (now_changed (defined (with_f final_f (abstract_b ∷ [])) 0 below_b) (keys_of (with_f final_f (abstract_b ∷ [])) below_b)
+    (of_f final_f (abstract_b ∷ []))) ≡ true
+inherits_and_drops = refl
+
+overrides_none_itself : overrides_final (defined (with_f final_f (abstract_b ∷ [])) 0 below_b) 4 ≡ false
+overrides_none_itself = refl
+
+-- no classes are derived, but not with B, nor where C has A above it by an interface alone
+none_derived : AreDerived (classes [])
+none_derived = record {
+  finals = refl;
+  lines = λ x a above plain. let none : is_ancestor (classes []) a x ≡ false = rw (add-one x) refl in let other = sym none ∙ above in cc;
+}
+
+overriding_not_derived : ¬ AreDerived (with_f final_f (below (codes "B") (f ∷ []) ∷ []))
+overriding_not_derived h = let e = h.finals in cc
+
+crooked_not_derived : ¬ AreDerived (with_f final_f (class (codes "I") 1537 (Some 1) [] [] ∷ class (codes "C") 33 (Some 0) (3 ∷ []) [] ∷ []))
+crooked_not_derived h = let e = h.lines 4 1 refl refl in cc
 
 -- ---- objects of classes that no file has
 

@@ -5,5 +5,6 @@ pub mod Order
 pub mod Reports
 pub mod Drops
 pub mod Methods
+pub mod Finals
 pub mod Made
 pub mod Totals

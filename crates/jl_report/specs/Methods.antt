@@ -36,7 +36,7 @@ run_of answer.BadReceiver = None
 abbrev pub run_on : World → ℕ → Option MethodId
 run_on w x = run_of (dispatch w 0 (Of x))
 
--- what a link runs that looks at no receivers
+-- the one method that a link runs, if it runs one
 abbrev pub run_by_link : Link → Option MethodId
 run_by_link (Plain m) = Some m
 run_by_link (Direct (Run m)) = Some m

@@ -1,6 +1,6 @@
 //! The laws of a report: contracts of functions that do nothing.
 
-ghost use Rattle.std.specs.Prelude.{◌≡◌, ℕ, List, Some, None, false, slice_get, option_and_then};
+ghost use Rattle.std.specs.Prelude.{◌≡◌, ℕ, List, Some, None, true, false, length, slice_get, option_and_then};
 ghost use Rattle.std.specs.List.{list_any, IsDistinct};
 ghost use Rattle.jl_names.specs.MethodTypes.{Signature, method_text, IsSignature};
 ghost use Rattle.jl_pool.specs.declared.reference.CallSiteSpecifier.{CallSiteSpecifier};
@@ -17,12 +17,14 @@ ghost use Rattle.jl_types.specs.Linkage.Links.{scratch};
 ghost use Rattle.jl_types.specs.Events.Definitions.{define_fault, defined};
 ghost use Rattle.jl_types.specs.Events.Footprints.{footprint, meets};
 ghost use Rattle.jl_hierarchy.specs.Constancy.{AreInOrder};
+ghost use Rattle.jl_hierarchy.specs.Redeclared.{AreLines};
 ghost use Rattle.jl_report.specs.declared.invocation.Invocation.{Invocation};
 ghost use Rattle.jl_report.specs.declared.row.Row.{Row};
 ghost use Rattle.jl_report.specs.declared.row.Finding.TheVariants as finding;
 ghost use Rattle.jl_report.specs.Reports.{asking, row_of};
 ghost use Rattle.jl_report.specs.Drops.{keys_of, now_changed, has_changing_link, is_open};
 ghost use Rattle.jl_report.specs.Methods.{is_same, looked_at, runs, methods_run};
+ghost use Rattle.jl_report.specs.Finals.{overrides_final, AreDerived, is_final_call};
 ghost use Rattle.jl_report.specs.Made.{class_of, made_by, meets_made, marks_of, meets_marks};
 
 /// Whatever else is requested, and whatever call sites there are: in each world of the same classes a site that is bound to none has
@@ -58,6 +60,24 @@ pub fn undropped_links_stay()
     ensures remains { (cs : Classes) (file : ClassFile) (invocation : Invocation) (l : Link) → AreInOrder cs
         → define_fault cs 0 file ≡ None → (row_of cs invocation).finding ≡ finding.Linked l
         → is_open cs (row_of cs invocation) ≡ false → is_open (defined cs 0 file) (row_of (defined cs 0 file) invocation) ≡ false }
+{}
+
+/// No class that a JVM takes drops the link of a row that runs a FINAL method of the class that it names, or of a superclass, though the
+/// row may be open: among classes that came in order a further class leaves the row and its mark, where the classes with the further one
+/// are derived (JVMS SE 17 §5.3.5). They are where the others are derived, the further class overrides no FINAL method, and each ancestor
+/// of a class that isn't an interface is one of its superclasses.
+pub fn final_calls_stay()
+    ensures kept { (cs : Classes) (file : ClassFile) (invocation : Invocation) → AreInOrder cs → define_fault cs 0 file ≡ None
+        → AreDerived (defined cs 0 file) → is_final_call cs (row_of cs invocation) ≡ true
+        → now_changed (defined cs 0 file) (keys_of cs file) (row_of cs invocation) ≡ None }
+    ensures stays { (cs : Classes) (file : ClassFile) (invocation : Invocation) → AreInOrder cs → define_fault cs 0 file ≡ None
+        → AreDerived (defined cs 0 file) → is_final_call cs (row_of cs invocation) ≡ true
+        → row_of (defined cs 0 file) invocation ≡ row_of cs invocation }
+    ensures remains { (cs : Classes) (file : ClassFile) (invocation : Invocation) → AreInOrder cs → define_fault cs 0 file ≡ None
+        → AreDerived (defined cs 0 file) → is_final_call cs (row_of cs invocation) ≡ true
+        → is_final_call (defined cs 0 file) (row_of (defined cs 0 file) invocation) ≡ true }
+    ensures derived { (cs : Classes) (file : ClassFile) → AreInOrder cs → AreDerived cs
+        → overrides_final (defined cs 0 file) (length cs.rows) ≡ false → AreLines (defined cs 0 file).rows → AreDerived (defined cs 0 file) }
 {}
 
 /// Of the methods that a row is told to run each is run by a call, each that a call runs is told, and two are different ones.

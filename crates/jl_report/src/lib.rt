@@ -2,7 +2,8 @@
 //!
 //! Which files become classes stands in `specs/Gathering`, what a report says of classes, in `specs/Reports`, which methods an invocation
 //! runs, in `specs/Methods`, which receivers may be of a class that no file has, in `specs/Made`, which links a further class drops, in
-//! `specs/Drops`, how many invocations come to what, in `specs/Totals`, and in which order classes are reported, in `specs/Order`.
+//! `specs/Drops`, which of them none drops that a JVM takes, in `specs/Finals`, how many invocations come to what, in `specs/Totals`, and in
+//! which order classes are reported, in `specs/Order`.
 #![tactic(auto)]
 
 // Classes.
@@ -20,14 +21,16 @@ mod totals;
 
 // What a further class changes of it.
 mod breaking;
+mod finals;
 
 // The laws of the definitions.
 mod laws;
 
 pub use breaking::{Dropped, is_open, keep_open};
 pub use defining::{Refused, define_all};
+pub use finals::{is_final_call, overrides_final, some_overrides_final};
 pub use laws::{
-    made_objects_are_marked, reported_links_are_from_scratch, told_methods_run,
+    final_calls_stay, made_objects_are_marked, reported_links_are_from_scratch, told_methods_run,
     undropped_links_stay,
 };
 pub use made::Made;

@@ -117,8 +117,8 @@ fn own_methods(alloc: Global, finding: &Finding, most: usize) -> Result<Vec<Meth
     Ok(found)
 }
 
-/// What a link runs that looks at no receivers.
-fn run_by(finding: &Finding) -> Option<MethodId>
+/// The one method that a link runs, if it runs one.
+pub(crate) fn run_by(finding: &Finding) -> Option<MethodId>
     ensures { result ≡ methods.run_by finding.now }
 {
     match finding {

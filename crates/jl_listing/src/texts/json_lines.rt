@@ -159,6 +159,10 @@ pub(crate) fn write_line(
         write_link_of(alloc, "dropped", classes, former.row, out)?;
         write_class_at(alloc, "droppedBy", classes, former.class, out)?;
     }
+    if note.is_final && open_class(classes, row).is_some() {
+        out.key("final")?;
+        out.boolean(true)?;
+    }
     write_text("kind", instruction(row.kind), out)?;
     write_link_of(alloc, "link", classes, row, out)?;
     if note.is_made {

@@ -258,6 +258,9 @@ pub(crate) fn push_finding(
             if let Some(class) = open_class(classes, row) {
                 out.push_str("; rests on the subclasses of ")?;
                 push_class(alloc, classes, class, out)?;
+                if note.is_final {
+                    out.push_str("; FINAL, so no class that a JVM takes changes it")?;
+                }
             }
             if note.is_made {
                 out.push_str("; an invokedynamic may make further receivers")?;
