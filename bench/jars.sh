@@ -433,6 +433,7 @@ refuse "no PATH" new
 refuse "invalid int" new --release x refused/plain
 refuse "modules java.base without --jdk" new --modules java.base refused/plain
 refuse "modules  without --jdk" new --modules "" refused/plain
+refuse "jdk of no folder" new --jdk "" refused/plain
 for names in "" , java.sql, ,java.sql java.sql,,java.logging; do
     refuse "an empty name in --modules '$names'" new --jdk "$home" --modules "$names"
 done

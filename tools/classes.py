@@ -31,7 +31,7 @@ It ends with status 0 and a line that counts the classes; or with status 2 and a
 missing or is none of these; an OUT that isn't empty, or lies in a PATH; a name that leads out of OUT; a symbolic link in a folder or an
 archive; a .class that doesn't begin as a class file; an encrypted member; a damaged archive, or one in which a JVM finds nothing since its
 manifest is malformed; more than BYTES read (2,000,000,000), whatever the archives say; two classes that no file system has side by side;
---modules without --jdk, or with a NAME that is empty or that no module of the JDK has.
+--jdk with an empty HOME; --modules without --jdk, or with a NAME that is empty or that no module of the JDK has.
 """
 
 import argparse
@@ -342,6 +342,8 @@ def main():
     read.add_argument("out")
     read.add_argument("paths", nargs="*")
     words = read.parse_intermixed_args()
+    if words.jdk == "":
+        read.error("--jdk of no folder")
     if not words.paths and not words.jdk:
         read.error("no PATH, and no JDK")
     if words.modules is not None and not words.jdk:
