@@ -14,6 +14,7 @@ const ENDINGS: &[(Ending, u8, &str)] = &[
     (Ending::LineTooLong, 2, "linkd: line too long\n"),
     (Ending::DeviceFailed, 3, "linkd: input or output failed\n"),
     (Ending::OutOfMemory, 4, "linkd: out of memory\n"),
+    (Ending::NothingReported, 5, "linkd: nothing to report\n"),
 ];
 
 /// How many bytes a writer takes at a time, and which of its writes fails, 0 for none: then nobody hears the text.
