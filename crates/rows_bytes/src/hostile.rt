@@ -182,18 +182,18 @@ fn have_fault(alloc: Global, bytes: &[u8], newest: &[u16], fault: Option<ClassFa
     true
 }
 
+/// The first file with these numbers for its version.
+fn with_version(alloc: Global, minor: &[u8], major: &[u8]) -> Result<Vec<u8>, AllocError> {
+    [&OBJECT[..4], minor, major, &OBJECT[8..]].concat(alloc)
+}
+
 /// Whether the first file with this version is a class file up to these newest versions, and isn't for its version up to those.
 fn is_of_version(alloc: Global, version: Version, read: &[u16], refused: &[u16]) -> bool {
-    let minor = version.minor.to_be_bytes();
-    let major = version.major.to_be_bytes();
-    match [
-        &OBJECT[..4],
-        minor.as_slice(),
-        major.as_slice(),
-        &OBJECT[8..],
-    ]
-    .concat(alloc)
-    {
+    match with_version(
+        alloc,
+        &version.minor.to_be_bytes(),
+        &version.major.to_be_bytes(),
+    ) {
         Ok(bytes) => {
             version_of(&bytes) == Some(version)
                 && have_fault(alloc, &bytes, read, None)
