@@ -1,6 +1,6 @@
 -- What links rest on, in old classes and in what a renewal makes of them: a class that is present is found under its new number, with the
 -- same file, and all that it rests on with it.
-use Rattle.std.specs.Prelude.{◌≡◌, ℕ, ◌<◌, ◌==◌, Bool, true, All, List, [], map, length, slice_get, Some, option_map}
+use Rattle.std.specs.Prelude.{◌≡◌, ℕ, ◌<◌, ◌==◌, Bool, true, All, List, map, slice_get, Some, option_map}
 use Rattle.jl_types.specs.declared.ids.MethodId.{MethodId}
 use Rattle.jl_types.specs.Values.World.{Class, Classes}
 use Rattle.jl_types.specs.Values.Members.{lookup, class_test, is_present, is_interface, is_concrete, same_package, methods_of, method_at, declared}
@@ -14,10 +14,14 @@ use Rattle.jl_renewal.specs.Renewed.{renumbered_class, renumbered_method}
 pub record Embeds (n : Numbers) (cs ds : Classes) : Type 0 where
   pub closed : IsClosed cs
   pub ordered : AreOrdered cs.rows
-  pub retired : ds.retired ≡ []
+  pub fresh_ordered : AreOrdered ds.rows
   pub rows : (c : ℕ) (row : Class) → is_present cs c ≡ true → slice_get cs.rows c ≡ Some row
       → slice_get ds.rows (renumbered n.classes c) ≡ Some (renumbered_class n row)
-  pub onto : (k : ℕ) → k < length ds.rows → (c : ℕ) × (is_present cs c ≡ true) × (renumbered n.classes c ≡ k)
+  pub still : (c : ℕ) → is_present cs c ≡ true → is_present ds (renumbered n.classes c) ≡ true
+  pub onto : (k : ℕ) → is_present ds k ≡ true → (c : ℕ) × (is_present cs c ≡ true) × (renumbered n.classes c ≡ k)
+  -- what is above a class that is present
+  pub uppers : (k c : ℕ) → is_present cs c ≡ true → is_ancestor ds k (renumbered n.classes c) ≡ true
+      → (a : ℕ) × (is_present cs a ≡ true) × (renumbered n.classes a ≡ k)
   pub rises : (c d : ℕ) → is_present cs c ≡ true → is_present cs d ≡ true → c < d → renumbered n.classes c < renumbered n.classes d
   -- loaders of present classes are told apart
   pub loaders : (c d : ℕ) (a b : Class) → is_present cs c ≡ true → is_present cs d ≡ true → slice_get cs.rows c ≡ Some a → slice_get cs.rows d ≡ Some b

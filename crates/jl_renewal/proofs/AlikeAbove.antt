@@ -65,24 +65,9 @@ module _ (n : Numbers) (cs ds : Classes) (e : Embeds n cs ds) where
       by_superclass None = refl
       by_superclass (Some s) = refl
 
-  -- what comes before a class does so under new numbers
-  below_renumbered : (c : ℕ) (ps : List ℕ) → Present c → AllByRecursion (λ p. (p < c) × Present p) ps → AllByRecursion (λ p. p < ren c) (map ren ps)
-  below_renumbered c [] present all = tt
-  below_renumbered c (p ∷ ps) present all = (e.rises p c all.0.1 present all.0.0, below_renumbered c ps present all.1)
-
   -- the fresh classes' parents come before them
   pub fresh_ordered : AreOrdered ds.rows
-  fresh_ordered k row is =
-      let r = e.onto k (slice_get_within ds.rows k row is) in
-      let old = present_row cs r.0 r.1 in
-      let same : renumbered_class n old.0 ≡ row =
-      same_Some (renumbered_class n old.0) row (sym (e.rows r.0 old.0 r.1 old.1) ∙ ap (slice_get ds.rows) r.2 ∙ is)
-      in
-      subst (λ (j : ℕ). All (λ p. p < j) (parents row)) r.2
-      (subst (λ (one : Class). All (λ p. p < ren r.0) (parents one)) same
-      (subst (All (λ p. p < ren r.0)) (sym (parents_renumbered old.0))
-      (All-from_recursion (λ p. p < ren r.0) (map ren (parents old.0))
-      (below_renumbered r.0 (parents old.0) r.1 (parents_present r.0 old.0 r.1 old.1)))))
+  fresh_ordered = e.fresh_ordered
 
   -- ---- superclasses
 
@@ -259,10 +244,7 @@ module _ (n : Numbers) (cs ds : Classes) (e : Embeds n cs ds) where
       (λ a pa. ancestor_alike a c pa present)
       (λ a up. let le = before ds fresh_ordered (ren a) (ren c) (ancestor_alike a c (ancestor_present c present a up) present ∙ up) in omega (arith, le))
       (λ j up.
-      let r = present_row cs c present in
-      let there = slice_get_within ds.rows (ren c) (renumbered_class n r.0) (e.rows c r.0 present r.1) in
-      let le = before ds fresh_ordered j (ren c) up in
-      let a = e.onto j (omega (arith, le, there)) in
+      let a = e.uppers j c present up in
       let old = before cs e.ordered a.0 c (sym (ancestor_alike a.0 c a.1 present) ∙ ap (λ (k : ℕ). is_ancestor ds k (ren c)) a.2 ∙ up) in
       (a.0, a.1, a.2, omega (arith, old)))
     where

@@ -38,7 +38,7 @@ module _ (n : Numbers) (cs ds : Classes) (e : Embeds n cs ds) where
       filtered_alike n cs ds e (receives cs c) (receives ds (ren c)) (length cs.rows) (length ds.rows) (receiver_present cs c)
       (λ x px. λ i. concrete_alike n cs ds e x px i && ancestor_alike n cs ds e c x present px i)
       (λ x h. present_within ds (ren x) (present_alike n cs ds e x (receiver_present cs c x h)))
-      (λ j h. let x = e.onto j (present_within ds j (receiver_present ds (ren c) j h)) in (x.0, x.1, x.2, present_within cs x.0 x.1))
+      (λ j h. let x = e.onto j (receiver_present ds (ren c) j h) in (x.0, x.1, x.2, present_within cs x.0 x.1))
 
   -- all of them are present
   pub below_present : (c : ℕ) → All (λ d. is_present cs d ≡ true) (receivers cs c)

@@ -1,6 +1,5 @@
 -- What a class shows is the same under new numbers: tests, packages, methods.
 use Rattle.std.specs.Prelude.{◌≡◌, ℕ, ◌<◌, ◌⊎◌, ◌==◌, ◌&&◌, Bool, true, false, not, List, [], slice_get, position, Option, Some, None, option_map}
-use Rattle.std.specs.List.{list_any}
 use Rattle.std.specs.Option.{option_map_or}
 use Rattle.std.specs.Str.{bytes_eq}
 use Rattle.std.proofs.Common.{refl, sym, ap, ◌∙◌, inl, inr}
@@ -36,10 +35,7 @@ module _ (n : Numbers) (cs ds : Classes) (e : Embeds n cs ds) where
 
   -- what is present stays so
   pub present_alike : (c : ℕ) → is_present cs c ≡ true → is_present ds (ren c) ≡ true
-  present_alike c present =
-      let r = present_row cs c present in
-      ap (λ (o : Option Class). option_map_or (λ row. not (is_retired ds row.loader)) o false) (e.rows c r.0 present r.1)
-      ∙ ap (λ (retired : List ℕ). not (list_any (λ k. k == renumbered n.loaders r.0.loader) retired)) e.retired
+  present_alike = e.still
 
   -- no two have one number
   pub number_alike : (c d : ℕ) → is_present cs c ≡ true → is_present cs d ≡ true → (ren c == ren d) ≡ (c == d)

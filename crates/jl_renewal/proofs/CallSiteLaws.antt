@@ -2,11 +2,10 @@
 use Rattle.std.specs.Prelude.{◌≡◌, ◌<◌, ◌+◌, ◌==◌, ◌||◌, ℕ, zero, suc, Bool, true, false, not, nat_le, nat_lt, List, [], length, slice_get}
 use Rattle.std.specs.Prelude.{Option, Some, None, option_map, option_and_then, if◌then◌else◌}
 use Rattle.std.specs.Bool.{then_some}
-use Rattle.std.specs.Option.{option_map_or}
 use Rattle.std.proofs.Common.{refl, sym, ap, subst, ◌∙◌, arith}
 use Rattle.std.proofs.lemmas.Bool.{or_left, or_right, leb-false, not-false}
 use Rattle.std.proofs.lemmas.Cmp.{nat_eq_equiv}
-use Rattle.std.proofs.lemmas.Option.{same_Some, slice_get_within}
+use Rattle.std.proofs.lemmas.Option.{same_Some}
 use Rattle.jl_class.specs.Special.{begins_special}
 use Rattle.jl_types.specs.declared.ids.MethodId.{MethodId}
 use Rattle.jl_types.specs.declared.refusal.CallSiteFault.TheVariants.{UnknownMethod, UnknownSwitch, TooDeep, InvokerOrder}
@@ -18,14 +17,10 @@ use Rattle.jl_types.proofs.Bools.{first_test}
 use Rattle.jl_types.proofs.Firsts.{first_none, test_none}
 use Rattle.jl_types.proofs.Lists.{element_at}
 use Rattle.jl_callsites.proofs.Walks.{invoked_runs}
-use Rattle.jl_renewal.specs.declared.released.Released.{Released}
 use Rattle.jl_renewal.specs.Numbers.{Numbers, renumbered, renumbered_target}
-use Rattle.jl_renewal.specs.Staying.{numbers_of, staying_call_sites, staying_switches, invokes, guards_by}
-use Rattle.jl_renewal.specs.Renewed.{renewed, renumbered_method, renumbered_call_site}
-use Rattle.jl_renewal.proofs.NumberLaws.{renumbered_is, before_rises, staying_at}
-use Rattle.jl_renewal.proofs.StayLaws.{renumbered_at, call_sites_length, invoked_stays, guard_stays}
-use Rattle.jl_renewal.proofs.Fit.{IsFit}
-use Rattle.jl_renewal.proofs.Alike.{AreAlike}
+use Rattle.jl_renewal.specs.Staying.{invokes, guards_by}
+use Rattle.jl_renewal.specs.Renewed.{renumbered_method}
+use Rattle.jl_renewal.proofs.AlikeSites.{SitesAlike}
 
 -- ---- what a target that would be taken names
 
@@ -55,52 +50,14 @@ module _ (w : World) (c : ℕ) (ty : List ℕ) where
       let parts = first_none (part_fault w c ty first) _ (first_none (then_some (nat_le (length w.sites.switches) p) UnknownSwitch) _ e).1 in
       (parts.0, (first_none (part_fault w c ty fallback) [] parts.1).0)
 
-module _ (w : World) (released : Released) (fit : IsFit w) (alike : AreAlike (numbers_of w released) w.classes (renewed w released).classes) where
-  abbrev n : Numbers
-  n = numbers_of w released
-
-  abbrev v : World
-  v = renewed w released
-
-  abbrev stays : List Bool
-  stays = staying_call_sites w released
-
+module _ (n : Numbers) (w v : World) (stays : ℕ → Bool) (same : SitesAlike n w v stays) where
   -- ---- a call site that stays
 
   -- no part of a call site's target is at fault
   part_taken : (c : ℕ) (site : CallSite) → slice_get w.sites.call_sites c ≡ Some site → part_fault w c site.ty site.target ≡ None
   part_taken c site there =
-      let deep = first_none (then_some (nat_lt 64 (depth site.target) || nat_lt 255 (parts site.target)) TooDeep) _ (fit.targets c site there) in
+      let deep = first_none (then_some (nat_lt 64 (depth site.target) || nat_lt 255 (parts site.target)) TooDeep) _ (same.fit.targets c site there) in
       (first_none (part_fault w c site.ty site.target) [] deep.1).0
-
-  -- it is there
-  site_there : (c : ℕ) → slice_get stays c ≡ Some true → (site : CallSite) × (slice_get w.sites.call_sites c ≡ Some site)
-  site_there c c_stays =
-      let within = slice_get_within stays c true c_stays in
-      let long = call_sites_length w released in
-      element_at w.sites.call_sites c (omega (arith, within, long))
-
-  -- under its new number, too
-  row_same : (c : ℕ) (site : CallSite) → slice_get stays c ≡ Some true → slice_get w.sites.call_sites c ≡ Some site
-      → slice_get v.sites.call_sites (renumbered n.call_sites c) ≡ Some (renumbered_call_site n site)
-  row_same c site c_stays there = renumbered_at (renumbered_call_site n) stays w.sites.call_sites c site c_stays there
-
-  -- and those that stay keep their order
-  order_same : (d c : ℕ) → slice_get stays d ≡ Some true → slice_get stays c ≡ Some true → d < c → renumbered n.call_sites d < renumbered n.call_sites c
-  order_same d c d_stays c_stays lt =
-      let rises = before_rises stays d c d_stays lt in
-      let d_is = renumbered_is stays d d_stays in
-      let c_is = renumbered_is stays c c_stays in
-      omega (arith, rises, d_is, c_is)
-
-  -- a switch point that stays is as valid as it was
-  valid_same : (p : ℕ) → p < length w.sites.switches → slice_get (staying_switches w released) p ≡ Some true
-      → is_valid v.sites (renumbered n.switches p) ≡ is_valid w.sites p
-  valid_same p lt p_stays =
-      let here = element_at w.sites.switches p lt in
-      ap (λ (o : Option Bool). option_map_or (λ valid. valid) o false)
-      (ap (slice_get v.sites.switches) (renumbered_is (staying_switches w released) p p_stays)
-      ∙ (staying_at (staying_switches w released) w.sites.switches p here.0 p_stays here.1 ∙ sym here.1))
 
   -- ---- the class of the method that it runs
 
@@ -137,9 +94,8 @@ module _ (w : World) (released : Released) (fit : IsFit w) (alike : AreAlike (nu
   below_present (suc k) c lt = row_present c (λ d less. below_present k d (omega (arith, lt, less)))
 
   -- the class of the method that a call site runs is present
-  pub method_present : (c : ℕ) (m : MethodId) → slice_get (staying_call_sites w released) c ≡ Some true → method_of w.sites c ≡ Some m
-      → is_present w.classes m.class ≡ true
-  method_present c m c_stays is = below_present (c + 1) c (omega arith) m is
+  pub method_present : (c : ℕ) (m : MethodId) → method_of w.sites c ≡ Some m → is_present w.classes m.class ≡ true
+  method_present c m is = below_present (c + 1) c (omega arith) m is
 
   -- ---- the method that it runs
 
@@ -174,29 +130,30 @@ module _ (w : World) (released : Released) (fit : IsFit w) (alike : AreAlike (nu
         (λ i. if here i then one i else two i) ∙ either (is_valid w.sites p) (before first) (before fallback)
     part_same (Invoker d) valid earlier none = earlier d (invoker_before w c ty d none) (nat_eq_equiv.refl d)
 
-  site_same : (c : ℕ) → slice_get stays c ≡ Some true
-      → ((d : ℕ) → d < c → slice_get stays d ≡ Some true
+  site_same : (c : ℕ) → stays c ≡ true → c < length w.sites.call_sites
+      → ((d : ℕ) → d < c → stays d ≡ true
       → method_of v.sites (renumbered n.call_sites d) ≡ option_map (renumbered_method n) (method_of w.sites d))
       → method_of v.sites (renumbered n.call_sites c) ≡ option_map (renumbered_method n) (method_of w.sites c)
-  site_same c c_stays earlier =
-      let here = site_there c c_stays in
+  site_same c c_stays within earlier =
+      let here = element_at w.sites.call_sites c within in
       let site = here.0 in
-      ap (option_and_then (λ (site : CallSite). evaluated v.sites (renumbered n.call_sites c) site.target)) (row_same c site c_stays here.1)
+      ap (option_and_then (λ (site : CallSite). evaluated v.sites (renumbered n.call_sites c) site.target)) (same.rows c site c_stays here.1)
       ∙ (part_same c site.ty site.target
-      (λ p lt guards. valid_same p lt (guard_stays w released c p site here.1 c_stays lt guards))
+      (λ p lt guards. same.valid c p site here.1 c_stays lt guards)
       (λ d lt invoked.
-      let d_stays = invoked_stays w released c d site here.1 c_stays lt invoked in
-      invoked_runs v.sites (renumbered n.call_sites c) (renumbered n.call_sites d) (order_same d c d_stays c_stays lt)
+      let d_stays = same.invoked c d site here.1 c_stays lt invoked in
+      invoked_runs v.sites (renumbered n.call_sites c) (renumbered n.call_sites d) (same.order d c d_stays c_stays lt within)
       ∙ (earlier d lt d_stays ∙ ap (option_map (renumbered_method n)) (sym (invoked_runs w.sites c d lt))))
       (part_taken c site here.1)
       ∙ sym (ap (λ (o : Option CallSite). option_map (renumbered_method n) (option_and_then (λ site. evaluated w.sites c site.target) o)) here.1))
 
-  below_same : (k c : ℕ) → c < k → slice_get stays c ≡ Some true
+  below_same : (k c : ℕ) → c < k → stays c ≡ true → c < length w.sites.call_sites
       → method_of v.sites (renumbered n.call_sites c) ≡ option_map (renumbered_method n) (method_of w.sites c)
   below_same zero c lt = absurd (omega (arith, lt))
-  below_same (suc k) c lt = λ c_stays. site_same c c_stays (λ d less. below_same k d (omega (arith, lt, less)))
+  below_same (suc k) c lt = λ c_stays within. site_same c c_stays within (λ d less d_stays.
+      below_same k d (omega (arith, lt, less)) d_stays (omega (arith, less, within)))
 
   -- a call site that stays runs the method that it ran
-  pub method_same : (c : ℕ) → slice_get (staying_call_sites w released) c ≡ Some true
+  pub method_same : (c : ℕ) → stays c ≡ true → c < length w.sites.call_sites
       → method_of v.sites (renumbered n.call_sites c) ≡ option_map (renumbered_method n) (method_of w.sites c)
-  method_same c c_stays = below_same (c + 1) c (omega arith) c_stays
+  method_same c c_stays within = below_same (c + 1) c (omega arith) c_stays within

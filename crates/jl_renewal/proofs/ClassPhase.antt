@@ -97,7 +97,7 @@ accepted_by : {A : Type 0} (F : A → Refusal) (o : Option A) (m : Made) → o �
 accepted_by F None m e = refl
 accepted_by F (Some a) m e = cc
 
-lookup_there : (cs : Classes) (l : ℕ) (name : List ℕ) (c : ℕ) → lookup cs l name ≡ Some c → l < length cs.loaders
+pub lookup_there : (cs : Classes) (l : ℕ) (name : List ℕ) (c : ℕ) → lookup cs l name ≡ Some c → l < length cs.loaders
 lookup_there cs l name c = by_loader (slice_get cs.loaders l) refl
   where
     by_loader : (o : Option (List (List ℕ × ℕ))) → slice_get cs.loaders l ≡ o → option_and_then (recorded name) o ≡ Some c → l < length cs.loaders

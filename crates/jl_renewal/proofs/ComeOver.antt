@@ -17,6 +17,8 @@ use Rattle.jl_types.specs.Linkage.Links.{scratch}
 use Rattle.jl_types.specs.Events.Event.{Event}
 use Rattle.jl_types.specs.Events.Verdict.{verdict, step}
 use Rattle.jl_types.specs.Events.History.{world_after}
+use Rattle.jl_types.specs.Values.Ancestry.{AreOrdered}
+use Rattle.jl_types.proofs.Orders.{world_good}
 use Rattle.jl_types.proofs.Installed.{installed_to, settled_now}
 use Rattle.jl_types.proofs.InstalledLinks.{links_are}
 use Rattle.jl_relink.specs.Laws.{AreAccepted, has_read_file, IsInOrder}
@@ -24,7 +26,7 @@ use Rattle.jl_relink.proofs.InOrder.{accepted_in_order}
 use Rattle.jl_core.specs.State.{State, events, world_of, links_of}
 use Rattle.jl_renewal.specs.declared.released.Released.{Released}
 use Rattle.jl_renewal.specs.Numbers.{Numbers, how_many, new_number, renumbered_target}
-use Rattle.jl_renewal.specs.Staying.{numbers_of, staying_sites}
+use Rattle.jl_renewal.specs.Staying.{numbers_of, staying_sites, staying_call_sites}
 use Rattle.jl_renewal.specs.Renewal.{definer, class_event, new_loaders, new_switches, new_call_site, new_call_sites, request, binding, invalid_points}
 use Rattle.jl_renewal.specs.Renewal.{invalidation, site_events, renewal, IsRenewal, CameFrom}
 use Rattle.jl_renewal.specs.Renewed.{renewed, renumbered_link, renumbered_result}
@@ -38,6 +40,7 @@ use Rattle.jl_renewal.proofs.ClassPhase.{loaders_after}
 use Rattle.jl_renewal.proofs.FitLaws.{fit_after}
 use Rattle.jl_renewal.proofs.LinkLaws.{links_come}
 use Rattle.jl_renewal.proofs.ScratchLaws.{scratch_same}
+use Rattle.jl_renewal.proofs.RenewedSites.{is_set, in_class, sites_alike}
 use Rattle.jl_renewal.proofs.RenewalPhases.{renewal_leads}
 
 same_ok : (l m : Link) → ◌≡◌ {A = Result Link Unlinked} (Ok l) (Ok m) → l ≡ m
@@ -146,11 +149,16 @@ module _ (old : State) (released : Released) (accepted : AreAccepted old.max_sit
   pub fit : IsFit w
   fit = fit_after old.max_sites (events old) accepted.each
 
+  pub renewal_world : world_after (renewal old released) ≡ renewed w released
+  renewal_world =
+      (renewal_leads old released accepted.each order.classes.closed (how_many (staying_sites w.classes w.places)) (omega arith)).after
+
   pub alike : AreAlike n w.classes (renewed w released).classes
   alike =
       are_alike n w.classes (renewed w released).classes
       (embeds w released fit order.classes.closed order.classes.ordered
-      (let more = loaders_after (events old) nothing_yet in omega (arith, more)))
+      (let more = loaders_after (events old) nothing_yet in omega (arith, more))
+      (subst (λ (v : World). AreOrdered v.classes.rows) renewal_world (world_good (renewal old released)).ordered))
 
   pub renewal_accepted : (max_sites : ℕ) → how_many (staying_sites w.classes w.places) ≤ max_sites → AreAccepted max_sites (renewal old released)
   renewal_accepted max_sites few = record {
@@ -161,10 +169,6 @@ module _ (old : State) (released : Released) (accepted : AreAccepted old.max_sit
         (read_both (filter_map (class_event w n) (events old)) (site_events w n) (read_classes w n (events old) accepted.files) (read_sites w n));
   }
 
-  pub renewal_world : world_after (renewal old released) ≡ renewed w released
-  renewal_world =
-      (renewal_leads old released accepted.each order.classes.closed (how_many (staying_sites w.classes w.places)) (omega arith)).after
-
   -- the link that a site had is there, under new numbers
   module _ (s k : ℕ) (m : Link) (had : Contains (links_of old) (s, m)) (has : new_number n.sites s ≡ Some k) where
     now : scratch w s ≡ Ok m
@@ -174,7 +178,8 @@ module _ (old : State) (released : Released) (accepted : AreAccepted old.max_sit
     comes =
         let stays = some_stays (staying_sites w.classes w.places) s k has in
         ap (scratch (renewed w released)) (some_is (staying_sites w.classes w.places) s k has ∙ sym (renumbered_is (staying_sites w.classes w.places) s stays))
-        ∙ (scratch_same w released fit alike s stays ∙ ap (renumbered_result n) now)
+        ∙ (scratch_same n w (renewed w released) (is_set (staying_call_sites w released)) (sites_alike w released fit alike) s (in_class w s stays)
+        ∙ ap (renumbered_result n) now)
 
   module _ (fresh : State) (max_sites : ℕ) (numbers : Numbers) (is : IsRenewal old released max_sites (fresh, numbers)) (k : ℕ) (l : Link) where
     come : Contains (links_of fresh) (k, l) → CameFrom (links_of old) numbers k l

@@ -1,6 +1,7 @@
 -- The classes that a renewal makes are the old ones under new numbers.
-use Rattle.std.specs.Prelude.{◌≡◌, ℕ, zero, suc, ◌-◌, ◌<◌, Bool, true, false, List, [], ◌∷◌, ◌++◌, map, length, replicate}
+use Rattle.std.specs.Prelude.{◌≡◌, ℕ, zero, suc, ◌-◌, ◌<◌, not, Bool, true, false, List, [], ◌∷◌, ◌++◌, map, length, replicate}
 use Rattle.std.specs.Prelude.{slice_get, Option, Some, None, option_map, option_and_then}
+use Rattle.std.specs.Option.{option_map_or}
 use Rattle.std.proofs.Common.{refl, sym, ap, ◌∙◌, arith, append-nil}
 use Rattle.std.proofs.lemmas.List.{length-map}
 use Rattle.std.proofs.lemmas.List.FromFn.{length-map-range_with_len}
@@ -8,6 +9,9 @@ use Rattle.std.proofs.lemmas.Option.{same_Some, slice_get_within}
 use Rattle.jl_types.specs.Values.World.{World, Class, Classes}
 use Rattle.jl_types.specs.Values.Members.{lookup, recorded, is_present, is_retired}
 use Rattle.jl_types.specs.Values.Ancestry.{AreOrdered}
+use Rattle.jl_types.proofs.Ancestors.{ancestor_decides}
+use Rattle.jl_types.proofs.Grown.{above}
+use Rattle.jl_types.proofs.Lists.{passes_within}
 use Rattle.jl_hierarchy.specs.Constancy.{IsClosed}
 use Rattle.jl_renewal.specs.declared.released.Released.{Released}
 use Rattle.jl_renewal.specs.Numbers.{Numbers, staying, renumbered}
@@ -50,7 +54,7 @@ none_padded loaders = ap (λ (k : ℕ). loaders ++ replicate k []) (none_left (l
     none_left k = omega arith
 
 module _ (w : World) (released : Released) (fit : IsFit w) (closed : IsClosed w.classes) (ordered : AreOrdered w.classes.rows)
-    (some : zero < length w.classes.loaders) where
+    (some : zero < length w.classes.loaders) (fresh_ordered : AreOrdered (renewed w released).classes.rows) where
   abbrev cs : Classes
   cs = w.classes
 
@@ -102,14 +106,26 @@ module _ (w : World) (released : Released) (fit : IsFit w) (closed : IsClosed w.
   finds l stays there name =
       sym (ap (λ (fresh : Classes). lookup fresh (renumbered n.loaders l) name) at_end) ∙ lookup_same w released cs l stays there name
 
+  -- what is present is there
+  still_present : (c : ℕ) → is_present cs c ≡ true → is_present ds (renumbered n.classes c) ≡ true
+  still_present c present =
+      let r = present_row cs c present in
+      ap (λ (o : Option Class). option_map_or (λ row. not (is_retired ds row.loader)) o false) (row_at w released cs c r.0 (class_stays cs c present) r.1)
+
   -- the old classes under new numbers are the fresh ones
   pub embeds : Embeds (numbers_of w released) w.classes (renewed w released).classes
   embeds = record {
     closed = closed;
     ordered = ordered;
-    retired = refl;
+    fresh_ordered = fresh_ordered;
     rows = λ c row present is. row_at w released cs c row (class_stays cs c present) is;
-    onto = reached;
+    still = still_present;
+    onto = λ k present. reached k (passes_within (λ (row : Class). not (is_retired ds row.loader)) ds.rows k present);
+    uppers = λ k c present up.
+        let r = present_row cs c present in
+        let there = slice_get_within ds.rows (renumbered n.classes c) (renumbered_class n r.0) (row_at w released cs c r.0 (class_stays cs c present) r.1) in
+        let le = above ds.rows fresh_ordered k ((ancestor_decides ds fresh_ordered k (renumbered n.classes c)).0 up) in
+        reached k (omega (arith, le, there));
     rises = λ c d pc pd lt.
         let more = before_rises (staying_classes cs) c d (class_stays cs c pc) lt in
         let ec = is_before c pc in

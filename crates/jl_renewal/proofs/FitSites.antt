@@ -44,7 +44,8 @@ use Rattle.jl_renewal.proofs.FitParts.{GoesOn, OfClasses, StaysPresent, of_all, 
 -- ---- one element is another
 
 -- an element once one is put in a place is what it was or that one
-set_at : {A : Type 0} (xs : List A) (c : ℕ) (x : A) (d : ℕ) (y : A) → slice_get (slice_set xs c x) d ≡ Some y → (slice_get xs d ≡ Some y) ⊎ ((c ≡ d) × (x ≡ y))
+pub set_at : {A : Type 0} (xs : List A) (c : ℕ) (x : A) (d : ℕ) (y : A) → slice_get (slice_set xs c x) d ≡ Some y
+    → (slice_get xs d ≡ Some y) ⊎ ((c ≡ d) × (x ≡ y))
 set_at [] c x d y at = cc
 set_at (z ∷ xs) zero x zero y at = inr (refl, same_Some x y at)
 set_at (z ∷ xs) zero x (suc d) y at = inl at
@@ -262,7 +263,7 @@ module _ (w : World) (fit : IsFit w) where
 
   module _ (s c : ℕ) (none : bind_fault w s c (slice_get w.places s) ≡ None) where
     -- what is judged for a binding holds of it
-    is_bound : IsBinding w (s, c)
+    pub is_bound : IsBinding w (s, c)
     is_bound = by_place (slice_get w.places s) refl none
       where
         by_call_site : (place : Place) (site : Site) (specifier : CallSiteSpecifier (List ℕ)) (o : Option CallSite) → slice_get w.places s ≡ Some place

@@ -42,6 +42,7 @@ pub mod AlikeClasses
 pub mod AlikeAbove
 pub mod AlikeBelow
 pub mod AlikeLaws
+pub mod AlikeSites
 pub mod EmbedLaws
 pub mod AccessLaws
 pub mod ResolutionLaws
@@ -51,6 +52,27 @@ pub mod CallSiteLaws
 pub mod StageLaws
 pub mod CallLaws
 pub mod ScratchLaws
+pub mod RenewedSites
 pub mod ComeOver
+-- what the old core accepts after a renewal comes over
+pub mod MovedFollows
+pub mod MovedLists
+pub mod MovedClasses
+pub mod MovedTargets
+pub mod MovedSites
+pub mod MovedSteps
+pub mod MovedRetiring
+pub mod MovedEvents
+pub mod MovedRests
+pub mod MovedRecords
+pub mod MovedFirst
+pub mod MovedWorld
+pub mod MovedLaw
+pub mod MovedNumbers
+pub mod MovedCarries
+pub mod MovedGone
+pub mod MovedNames
+pub mod MovedScratch
+pub mod MovedBeside
 -- worked renewals
 pub mod Rows

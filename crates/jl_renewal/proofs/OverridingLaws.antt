@@ -1,19 +1,17 @@
 -- Whether a method can override another one is the same under new numbers.
-use Rattle.std.specs.Prelude.{◌≡◌, ℕ, ◌<◌, ◌==◌, true, false, not, ◌&&◌, ◌||◌, List, [], ◌∷◌, length}
+use Rattle.std.specs.Prelude.{◌≡◌, ℕ, ◌==◌, true, false, not, ◌&&◌, ◌||◌, List, [], ◌∷◌, map}
 use Rattle.std.specs.List.{AllByRecursion, list_any}
 use Rattle.std.specs.Option.{option_map_or}
-use Rattle.std.proofs.Common.{refl, sym, ap, subst, ◌∙◌, arith, inl, inr}
+use Rattle.std.proofs.Common.{refl, sym, ap, subst, ◌∙◌, inl, inr}
 use Rattle.std.proofs.lemmas.Bool.{or_cases, and_parts}
 use Rattle.std.proofs.lemmas.Bool.Decides.{Decides-eqb, same_from_decides}
 use Rattle.std.proofs.lemmas.List.Elements.{recursion_from_All}
 use Rattle.jl_types.specs.declared.ids.MethodId.{MethodId}
-use Rattle.jl_types.specs.Values.World.{Class, Classes}
-use Rattle.jl_types.specs.Values.Members.{is_present, is_retired, is_called}
+use Rattle.jl_types.specs.Values.World.{Classes}
+use Rattle.jl_types.specs.Values.Members.{is_present, is_called}
 use Rattle.jl_types.specs.Values.Members.{is_package_private}
 use Rattle.jl_types.specs.Values.Ancestry.{superclasses, is_subclass, is_proper_subclass}
 use Rattle.jl_types.specs.Linkage.Overriding.{are_alike, is_visible, CanOverride, directly, through, can_override}
-use Rattle.jl_types.proofs.Ancestors.{subclass_above}
-use Rattle.jl_types.proofs.Lists.{passes_within}
 use Rattle.jl_types.proofs.Overrides.{can_override_decides}
 use Rattle.jl_renewal.specs.Numbers.{Numbers, renumbered}
 use Rattle.jl_renewal.specs.Renewed.{renumbered_method}
@@ -70,10 +68,22 @@ module _ (n : Numbers) (cs ds : Classes) (alike : AreAlike n cs ds) where
     present : is_present cs old.class ≡ true
     is : renumbered_method n old ≡ b
 
-  -- each method number of a class that is there is such
-  old_of : (b : MethodId) → b.class < length ds.rows → IsOld b
-  old_of b there =
-      let r = alike.embeds.onto b.class there in
+  -- a number among those of classes that are present
+  old_among : (b : ℕ) (xs : List ℕ) → AllByRecursion (λ d. is_present cs d ≡ true) xs → list_any (λ c. c == b) (map (renumbered n.classes) xs) ≡ true
+      → (d : ℕ) × (is_present cs d ≡ true) × (renumbered n.classes d ≡ b)
+  old_among b [] all is = cc
+  old_among b (x ∷ xs) all is = elim (or_cases (renumbered n.classes x == b) (list_any (λ c. c == b) (map (renumbered n.classes) xs)) is) [
+    | inl here ↦ (x, all.0, (Decides-eqb (renumbered n.classes x) b).0 here)
+    | inr later ↦ old_among b xs all.1 later
+  ]
+
+  -- each method number of a class above one that is present is such
+  old_of : (b : MethodId) (c : ℕ) → is_present cs c ≡ true → is_proper_subclass ds (renumbered n.classes c) b.class ≡ true → IsOld b
+  old_of b c present below =
+      let r = old_among b.class (superclasses cs c)
+      (recursion_from_All (λ d. is_present cs d ≡ true) (superclasses cs c) (alike.upward_present c present))
+      (sym (ap (list_any (λ k. k == b.class)) (alike.upward c present))
+      ∙ (and_parts (not (renumbered n.classes c == b.class)) (is_subclass ds (renumbered n.classes c) b.class) below).1) in
       record { old = record { class = r.0; index = b.index }; present = r.1; is = λ i. record { class = r.2 i; index = b.index } }
 
   -- what overrides among the new ones did so among the old ones
@@ -83,12 +93,8 @@ module _ (n : Numbers) (cs ds : Classes) (alike : AreAlike n cs ds) where
       directly (sym (are_alike_same c a lower upper) ∙ (λ i. are_alike ds (e i) (f i)) ∙ named)
       (sym (is_visible_same c a lower upper) ∙ (λ i. is_visible ds (e i) (f i)) ∙ visible)
   back {x = x} {y = y} c a lower upper e f (through named flagless b below above r s) =
-      let nearer = subclass_above ds (fresh_ordered n cs ds alike.embeds) x.class b.class below in
-      let there =
-      passes_within (λ (row : Class). not (is_retired ds row.loader)) ds.rows (renumbered n.classes c.class) (alike.present c.class lower)
-      in
       let same : renumbered n.classes c.class ≡ x.class = ap (λ (m : MethodId). m.class) e in
-      let o = old_of b (omega (arith, nearer, there, same)) in
+      let o = old_of b c.class lower (subst (λ (k : ℕ). is_proper_subclass ds k b.class ≡ true) (sym same) below) in
       through (sym (are_alike_same c a lower upper) ∙ (λ i. are_alike ds (e i) (f i)) ∙ named)
       (sym (package_private_same n cs ds alike a upper) ∙ ap (is_package_private ds) f ∙ flagless) o.old
       (sym (alike.proper_subclasses c.class o.old.class lower o.present) ∙ (λ i. is_proper_subclass ds (e i).class (o.is i).class) ∙ below)

@@ -32,7 +32,7 @@ use Rattle.jl_renewal.proofs.StayLaws.{class_gone, in_middle, in_front, passing_
 use Rattle.jl_renewal.proofs.FreshClasses.{class_number, class_once, fresh_present, fresh_invocation}
 
 -- what no element passes has no place
-position_none : {A : Type 0} (p : A → Bool) (xs : List A) (d : A) → list_any p xs ≡ false → position p xs ≡ None
+pub position_none : {A : Type 0} (p : A → Bool) (xs : List A) (d : A) → list_any p xs ≡ false → position p xs ≡ None
 position_none p xs d e = by_place (position p xs) refl
   where
     by_place : (o : Option ℕ) → position p xs ≡ o → o ≡ None

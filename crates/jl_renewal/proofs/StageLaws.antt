@@ -1,11 +1,10 @@
 -- What a site in a class that is present comes to is under new numbers what it came to.
-use Rattle.std.specs.Prelude.{◌≡◌, ◌==◌, ◌&&◌, ℕ, zero, suc, Bool, true, false, not, List, [], ◌∷◌, map, filter, find, slice_get}
+use Rattle.std.specs.Prelude.{◌≡◌, ◌==◌, ◌&&◌, ℕ, zero, suc, Bool, true, false, not, List, [], ◌∷◌, find, slice_get}
 use Rattle.std.specs.Prelude.{Option, Some, None, option_map, option_and_then, Result, Ok, Err, if◌then◌else◌}
 use Rattle.std.specs.Option.{option_map_or}
 use Rattle.std.proofs.Common.{refl, sym, ap, subst, ◌∙◌}
-use Rattle.std.proofs.lemmas.Bool.{both_ways}
 use Rattle.std.proofs.lemmas.Bool.Decides.{Decides-eqb}
-use Rattle.std.proofs.lemmas.Option.{same_Some, slice_get-map}
+use Rattle.std.proofs.lemmas.Option.{same_Some, slice_get_within}
 use Rattle.jl_pool.specs.declared.reference.Reference.{Reference}
 use Rattle.jl_class.specs.declared.site.Kind.{Kind}
 use Rattle.jl_class.specs.declared.site.Kind.TheVariants.{Virtual, Special, Static, Interface, Dynamic}
@@ -26,13 +25,10 @@ use Rattle.jl_types.specs.Linkage.Targets.{method_of}
 use Rattle.jl_types.specs.Linkage.Stages.{Selector, ByVirtual, ByInterface, BySpecial, ResolvedCall, Stage, Waits, Fails, Calls, Selects}
 use Rattle.jl_types.specs.Linkage.Stages.{selecting, by_kind, by_resolution, by_method, bound_method, invocation_at, by_operand, stage_of}
 use Rattle.jl_types.specs.Linkage.Stages.{stage_at, stage}
-use Rattle.jl_renewal.specs.declared.released.Released.{Released}
 use Rattle.jl_renewal.specs.Numbers.{Numbers, renumbered}
-use Rattle.jl_renewal.specs.Staying.{numbers_of, staying_sites, is_in_staying_class}
-use Rattle.jl_renewal.specs.Renewed.{renewed, renumbered_place, renumbered_binding, renumbered_method}
-use Rattle.jl_renewal.proofs.ClassSteps.{number_same}
-use Rattle.jl_renewal.proofs.StayLaws.{renumbered_at, site_stays, bound_stays}
-use Rattle.jl_renewal.proofs.FreshClasses.{fresh_invocation}
+use Rattle.jl_renewal.specs.Staying.{is_in_staying_class}
+use Rattle.jl_renewal.specs.Renewed.{renumbered_place, renumbered_binding, renumbered_method}
+use Rattle.jl_renewal.proofs.AlikeSites.{SitesAlike}
 use Rattle.jl_renewal.proofs.Fit.{IsFit}
 use Rattle.jl_renewal.proofs.Alike.{AreAlike}
 use Rattle.jl_renewal.proofs.AccessLaws.{static_same}
@@ -77,48 +73,16 @@ is_found {A = A} p (y ∷ xs) x e = by_test (p y) refl e (is_found p xs x)
 same_Selects : (i j : ResolvedCall) → Selects i ≡ Selects j → i ≡ j
 same_Selects i j e = cc
 
-module _ (w : World) (released : Released) (fit : IsFit w) (alike : AreAlike (numbers_of w released) w.classes (renewed w released).classes) where
-  abbrev n : Numbers
-  n = numbers_of w released
+module _ (n : Numbers) (w v : World) (stays : ℕ → Bool) (same : SitesAlike n w v stays) where
+  abbrev fit : IsFit w
+  fit = same.fit
 
-  abbrev v : World
-  v = renewed w released
-
-  abbrev is_kept : ℕ × ℕ → Bool
-  is_kept b = is_in_staying_class w b.0
+  abbrev alike : AreAlike n w.classes v.classes
+  alike = same.alike
 
   -- ---- an invokedynamic
 
   module _ (s : ℕ) (kept : is_in_staying_class w s ≡ true) where
-    -- the binding of a site that stays is the one that it had
-    binding_same : (bs : List (ℕ × ℕ)) → find (λ b. b.0 == renumbered n.sites s) (map (renumbered_binding n) (filter is_kept bs))
-        ≡ option_map (renumbered_binding n) (find (λ b. b.0 == s) bs)
-    binding_same [] = refl
-    binding_same (b ∷ bs) = by_test (is_kept b) refl (binding_same bs)
-      where
-        rest : Option (ℕ × ℕ)
-        rest = find (λ a. a.0 == s) bs
-
-        found_or : (t : Bool) → (if t then Some (renumbered_binding n b) else option_map (renumbered_binding n) rest)
-            ≡ option_map (renumbered_binding n) (if t then Some b else rest)
-        found_or true = refl
-        found_or false = refl
-
-        other : is_kept b ≡ false → (t : Bool) → (b.0 == s) ≡ t → t ≡ false
-        other gone false is = refl
-        other gone true is = absurd (both_ways (is_in_staying_class w b.0) gone (ap (is_in_staying_class w) ((Decides-eqb b.0 s).0 is) ∙ kept))
-
-        by_test : (t : Bool) → is_kept b ≡ t
-            → find (λ a. a.0 == renumbered n.sites s) (map (renumbered_binding n) (filter is_kept bs)) ≡ option_map (renumbered_binding n) rest
-            → find (λ a. a.0 == renumbered n.sites s) (map (renumbered_binding n) (if t then b ∷ filter is_kept bs else filter is_kept bs))
-            ≡ option_map (renumbered_binding n) (if b.0 == s then Some b else rest)
-        by_test true is same =
-            (λ i. if number_same (staying_sites w.classes w.places) b.0 s (site_stays w b.0 is) (site_stays w s kept) i
-            then Some (renumbered_binding n b) else same i)
-            ∙ found_or (b.0 == s)
-        by_test false is same =
-            same ∙ sym (ap (λ (t : Bool). option_map (renumbered_binding n) (if t then Some b else rest)) (other is (b.0 == s) refl))
-
     -- its call site stays, and runs what it ran
     by_binding : (o : Option (ℕ × ℕ)) → find (λ b. b.0 == s) w.bindings ≡ o
         → option_and_then (method_of v.sites) (option_map (λ b. b.1) (option_map (renumbered_binding n) o))
@@ -126,13 +90,13 @@ module _ (w : World) (released : Released) (fit : IsFit w) (alike : AreAlike (nu
     by_binding None is = refl
     by_binding (Some b) is =
         let at = is_found (λ b. b.0 == s) w.bindings b is in
-        method_same w released fit alike b.1
-        (bound_stays w released at.place b (fit.bindings at.place b at.at).call_site at.at (fit.bindings at.place b at.at).there
-        (ap (is_in_staying_class w) ((Decides-eqb b.0 s).0 at.passes) ∙ kept))
+        let bound = fit.bindings at.place b at.at in
+        method_same n w v stays same b.1 (same.bound at.place b at.at (ap (is_in_staying_class w) ((Decides-eqb b.0 s).0 at.passes) ∙ kept))
+        (slice_get_within w.sites.call_sites b.1 bound.call_site bound.there)
 
     bound_same : bound_method v (renumbered n.sites s) ≡ option_map (renumbered_method n) (bound_method w s)
     bound_same =
-        ap (λ (o : Option (ℕ × ℕ)). option_and_then (method_of v.sites) (option_map (λ b. b.1) o)) (binding_same w.bindings)
+        ap (λ (o : Option (ℕ × ℕ)). option_and_then (method_of v.sites) (option_map (λ b. b.1) o)) (same.bindings s kept)
         ∙ by_binding (find (λ b. b.0 == s) w.bindings) refl
 
   by_method_same : (o : Option MethodId) → by_method (option_map (renumbered_method n) o) ≡ renumbered_stage n (by_method o)
@@ -191,23 +155,28 @@ module _ (w : World) (released : Released) (fit : IsFit w) (alike : AreAlike (nu
   site_same s d kept mine None = refl
   site_same s d kept mine (Some site) = operand_same s d kept mine site.kind site.operand
 
+  -- the invocation at a place in a class that is present
+  invocation_same : (place : Place) → is_present w.classes place.class ≡ true
+      → invocation_at v.classes (renumbered_place n place) ≡ invocation_at w.classes place
+  invocation_same place there =
+      ap (option_and_then (λ method. find (λ site. site.pc == place.pc) method.sites))
+      (alike.method (record { class = place.class; index = place.method }) there)
+
   -- a site that stays comes to what it came to
-  pub stage_same : (s : ℕ) → slice_get (staying_sites w.classes w.places) s ≡ Some true → stage v (renumbered n.sites s) ≡ renumbered_stage n (stage w s)
-  stage_same s s_stays = by_place (slice_get w.places s) refl (sym (slice_get-map is_there w.places s) ∙ s_stays)
+  pub stage_same : (s : ℕ) → is_in_staying_class w s ≡ true → stage v (renumbered n.sites s) ≡ renumbered_stage n (stage w s)
+  stage_same s kept = by_place (slice_get w.places s) refl kept
     where
       is_there : Place → Bool
       is_there place = is_present w.classes place.class
 
-      by_place : (o : Option Place) → slice_get w.places s ≡ o → option_map is_there o ≡ Some true
+      by_place : (o : Option Place) → slice_get w.places s ≡ o → option_map_or is_there o false ≡ true
           → stage v (renumbered n.sites s) ≡ renumbered_stage n (stage_at w s o)
       by_place None at e = cc
-      by_place (Some place) at e =
-          let there = same_Some (is_there place) true e in
-          ap (stage_at v (renumbered n.sites s))
-          (renumbered_at (renumbered_place n) (staying_sites w.classes w.places) w.places s place s_stays at)
+      by_place (Some place) at there =
+          ap (stage_at v (renumbered n.sites s)) (same.places s place at there)
           ∙ ((λ i. if alike.present place.class there i
-          then stage_of v (renumbered n.sites s) (renumbered n.classes place.class) (fresh_invocation w released place there i) else Waits Gone)
-          ∙ (site_same s place.class (ap (λ (o : Option Place). option_map_or is_there o false) at ∙ there) there (invocation_at w.classes place)
+          then stage_of v (renumbered n.sites s) (renumbered n.classes place.class) (invocation_same place there i) else Waits Gone)
+          ∙ (site_same s place.class kept there (invocation_at w.classes place)
           ∙ sym (ap (λ (b : Bool). renumbered_stage n (if b then stage_of w s place.class (invocation_at w.classes place) else Waits Gone)) there)))
 
   -- ---- the classes that a call names

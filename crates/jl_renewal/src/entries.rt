@@ -17,7 +17,8 @@ pub enum CarryFault {
     /// It names what the fresh core doesn't have: a call site or switch point that was released, or what an entry made that wasn't
     /// carried.
     Gone,
-    /// The fresh core refuses the event.
+    /// The fresh core refuses the event: for want of memory alone, if it stands beside the old core
+    /// ([`fresh_cores_stay_beside`](crate::fresh_cores_stay_beside)).
     Refused(Refusal),
 }
 

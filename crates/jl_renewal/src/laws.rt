@@ -1,17 +1,25 @@
 //! The laws of a renewal: each is the contract of a function that does nothing.
 
-ghost use Rattle.std.specs.Prelude.{◌≡◌, ◌≤◌, ◌↔◌, ℕ, Some, slice_get, true, Contains};
+ghost use Rattle.std.specs.Prelude.{◌≡◌, ◌≤◌, ◌↔◌, ℕ, List, ◌++◌, fold, Some, slice_get, true, false, is_some, Contains, IsOk};
 ghost use Rattle.jl_types.specs.declared.answer.Recv.{Recv};
+ghost use Rattle.jl_types.specs.declared.event.EventOf.TheVariants as event;
 ghost use Rattle.jl_types.specs.declared.link.Link.{Link};
 ghost use Rattle.jl_types.specs.Linkage.Links.{scratch};
 ghost use Rattle.jl_types.specs.Linkage.Calls.{dispatch};
+ghost use Rattle.jl_types.specs.Events.Event.{Event};
 ghost use Rattle.jl_types.specs.Events.History.{world_after};
-ghost use Rattle.jl_relink.specs.Laws.{AreAccepted};
-ghost use Rattle.jl_core.specs.State.{State, events, world_of, links_of};
+ghost use Rattle.jl_types.specs.declared.event.Reply.{Reply};
+ghost use Rattle.jl_types.specs.Events.Verdict.{verdict, step};
+ghost use Rattle.jl_relink.specs.Laws.{AreAccepted, has_read_file};
+ghost use Rattle.jl_core.specs.State.{State, events, world_of, links_of, IsAccepted};
+ghost use Rattle.jl_core.specs.Logs.{Entry};
 ghost use Rattle.jl_renewal.specs.declared.released.Released.{Released};
 ghost use Rattle.jl_renewal.specs.Numbers.{Numbers, how_many, renumbered};
-ghost use Rattle.jl_renewal.specs.Staying.{numbers_of, staying_sites};
-ghost use Rattle.jl_renewal.specs.Renewal.{IsRenewal, CameFrom, renewal};
+ghost use Rattle.jl_renewal.specs.Staying.{numbers_of, staying_sites, is_in_staying_class};
+ghost use Rattle.jl_renewal.specs.Renewal.{IsRenewal, IsRefilled, CameFrom, renewal};
+ghost use Rattle.jl_renewal.specs.Adds.{Follow};
+ghost use Rattle.jl_renewal.specs.Carries.{carried, IsMade};
+ghost use Rattle.jl_renewal.specs.Moved.{Flags, flags_of, AreThere, may_be_gone, moved_world, IsBeside};
 ghost use Rattle.jl_renewal.specs.Renewed.{renewed, renumbered_result, renumbered_answer, renumbered_receiver, IsPresentReceiver};
 
 /// No event of a renewal is refused where as many sites may be requested in the fresh core as stay, and what there is to link there is what
@@ -42,4 +50,47 @@ pub fn links_come_over()
     ensures { (old fresh : State) (released : Released) (max_sites : ℕ) (numbers : Numbers) → AreAccepted old.max_sites (events old)
         → IsRenewal old released max_sites (fresh, numbers)
         → (k : ℕ) (l : Link) → Contains (links_of fresh) (k, l) ↔ CameFrom (links_of old) numbers k l }
+{}
+
+/// Whatever an old core accepts after a renewal, the fresh one accepts under new numbers, where no event names what is gone and as many sites
+/// may be requested there. Its world is then that of the old one under these numbers, without what is gone.
+pub fn entries_come_over()
+    ensures accepted { (old : State) (released : Released) (es fs : List Event) (max_sites : ℕ) → AreAccepted old.max_sites (events old ++ es)
+        → old.max_sites ≤ max_sites → AreThere (flags_of (world_of old) released) es fs → Follow max_sites (renewed (world_of old) released) fs }
+    ensures world { (old : State) (released : Released) (es fs : List Event) (max_sites : ℕ) → AreAccepted old.max_sites (events old ++ es)
+        → old.max_sites ≤ max_sites → AreThere (flags_of (world_of old) released) es fs
+        → fold step (renewed (world_of old) released) fs ≡ moved_world (flags_of (world_of old) released) (fold step (world_of old) es) }
+{}
+
+/// A fresh core that was refilled or renewed stands beside the old one, if as many sites may be requested there. As long as it does, it accepts
+/// each event of the old one that names nothing that is gone, under the new numbers. It stands beside the old one after that event, too. So it
+/// does after an install in either. An entry that [`carry`](crate::carry) takes over is thus refused for want of memory alone. Only an event of
+/// a call site names what is gone: a new one, a new target, a bind.
+pub fn fresh_cores_stay_beside()
+    ensures first { (old before fresh : State) (entries : List Entry) (released : Released) (n : Numbers) → AreAccepted old.max_sites (events old)
+        → old.max_sites ≤ fresh.max_sites → IsRefilled (world_of old) entries released n before fresh
+        → IsBeside (flags_of (world_of old) released) old fresh n }
+    ensures renewed { (old fresh : State) (released : Released) (max_sites : ℕ) (n : Numbers) → AreAccepted old.max_sites (events old)
+        → old.max_sites ≤ max_sites → IsRenewal old released max_sites (fresh, n) → IsBeside (flags_of (world_of old) released) old fresh n }
+    ensures taken { (k : Flags) (old fresh : State) (n : Numbers) (e f : Event) → IsBeside k old fresh n
+        → IsOk (verdict old.max_sites (world_of old) e) → carried n e ≡ Some f → IsOk (verdict fresh.max_sites (world_of fresh) f) }
+    ensures there { (k : Flags) (old fresh : State) (n : Numbers) (e : Event) → IsBeside k old fresh n
+        → IsOk (verdict old.max_sites (world_of old) e) → may_be_gone e ≡ false → is_some (carried n e) ≡ true }
+    ensures beside { (k : Flags) (old after fresh fresh_after : State) (n m : Numbers) (e f : Event) (reply : Reply) → IsBeside k old fresh n
+        → has_read_file e ≡ true → IsAccepted old after e reply → carried n e ≡ Some f → IsMade f reply.made n m fresh fresh_after
+        → IsBeside k after fresh_after m }
+    ensures passed { (k : Flags) (old after fresh : State) (n : Numbers) (rows : List (ℕ × Link)) (reply : Reply) → IsBeside k old fresh n
+        → IsAccepted old after (event.Install rows) reply → IsBeside k after fresh n }
+    ensures linked { (k : Flags) (old fresh fresh_after : State) (n : Numbers) (rows : List (ℕ × Link)) (reply : Reply) → IsBeside k old fresh n
+        → IsAccepted fresh fresh_after (event.Install rows) reply → IsBeside k old fresh_after n }
+{}
+
+/// Linking commutes with renumbering in each fresh core that stands beside the old one: of each site of a present class the link from scratch is
+/// the same under new numbers. So is each call's answer there, on null or on an object of a present class.
+pub fn linking_commutes_beside()
+    ensures links { (k : Flags) (old fresh : State) (n : Numbers) → IsBeside k old fresh n → (s : ℕ) → is_in_staying_class (world_of old) s ≡ true
+        → scratch (world_of fresh) (renumbered n.sites s) ≡ renumbered_result n (scratch (world_of old) s) }
+    ensures calls { (k : Flags) (old fresh : State) (n : Numbers) → IsBeside k old fresh n → (s : ℕ) (recv : Recv)
+        → is_in_staying_class (world_of old) s ≡ true → IsPresentReceiver (world_of old).classes recv
+        → dispatch (world_of fresh) (renumbered n.sites s) (renumbered_receiver n recv) ≡ renumbered_answer n (dispatch (world_of old) s recv) }
 {}

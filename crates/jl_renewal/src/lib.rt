@@ -2,7 +2,8 @@
 //!
 //! A core's log only grows, and its numbers are never given again. So a process that runs for long goes over to a fresh core from time
 //! to time. `specs/Numbers` says how what stays is numbered, `specs/Staying` what stays, `specs/Renewal` by which events the fresh core
-//! comes to be, and `specs/Renewed` what there is to link in it then; the other definitions here are means of proof.
+//! comes to be, and `specs/Renewed` what there is to link in it then. `specs/Carries` says what an event of the old core is there, and
+//! `specs/Moved` what there is after such events. The other definitions here are means of proof.
 #![tactic(auto)]
 
 mod apply;
@@ -21,7 +22,10 @@ mod stays;
 mod targets;
 
 pub use entries::{CarryFault, carry};
-pub use laws::{linking_commutes, links_come_over, renewals_are_accepted};
+pub use laws::{
+    entries_come_over, fresh_cores_stay_beside, linking_commutes, linking_commutes_beside,
+    links_come_over, renewals_are_accepted,
+};
 pub use links::{fresh_links, install_all};
 pub use numbers::Renumbering;
 pub use released::Released;

@@ -32,7 +32,7 @@ const EVENTS: &[(Step, bool)] = &[
     // Loader 0 has one, so this has no entry.
     (Define(0, Object), false),
     (Define(0, T), true),
-    (Delegate("T"), true),
+    (Delegate(1, "T"), true),
     (Request(1, 0), true),
     (Point, true),
     (CallSite(Mutable, "()V", Method((1, 1))), true),

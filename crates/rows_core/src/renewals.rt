@@ -3,8 +3,8 @@
 ghost use Rattle.std.specs.Prelude.{◌≡◌};
 ghost use Rattle.jl_core.specs.State.{empty_core};
 
-use crate::classes::Class::{A, C, D, E, M, Object, T};
-use crate::steps::Shape::{Guard, Invoker, Method};
+use crate::classes::Class::{A, C, D, E, Itself, M, Object, T};
+use crate::steps::Shape::{Guard, Invoker, InvokerOr, Method};
 use crate::steps::Step::*;
 use crate::steps::{Step, are_done, is_done};
 use jl_core::Core;
@@ -12,80 +12,106 @@ use jl_names::Seq;
 use jl_renewal::{
     CarryFault, Released, Renumbering, carry, fresh_links, install_all, refill, renew,
 };
-use jl_types::CallSiteKind::Mutable;
-use jl_types::{
-    Answer, CallSiteId, ClassId, Event, LoaderId, MethodId, Recv, Refusal, SiteNo, SwitchId,
-};
+use jl_types::CallSiteKind::{Mutable, Volatile};
+use jl_types::{Answer, CallSiteId, ClassId, LoaderId, MethodId, Recv, Refusal, SiteNo, SwitchId};
 use std::alloc::{AllocError, Global};
 use std::process::Abort;
 
-/// Loader 1 has defined C, class 4. Call site 1 is bound at site 0; 2, which nobody needs, invokes 0.
+/// Loader 1 finds A, has defined C, class 6, and stays; loader 2 has defined N, class 4, with site 1, and goes. Call site 1 is bound at
+/// site 0; 2, which nobody needs, invokes 0, and so does 3, which is kept for its owner alone and guards by the invalid switch point 2.
 const BEFORE: &[Step] = &[
+    Loader,
     Loader,
     Define(0, Object),
     Define(0, A),
     Define(0, T),
     Define(0, M),
-    Delegate(rows_files::OBJECT),
-    Delegate("A"),
-    Define(1, C),
+    Delegate(2, rows_files::OBJECT),
+    Define(2, Itself),
     Define(0, D),
+    Delegate(1, "A"),
+    Define(1, C),
     Point,
     Point,
-    Invalidate(&[1]),
+    Point,
+    Invalidate(&[1, 2]),
     CallSite(Mutable, "()V", Method((2, 1))),
     CallSite(Mutable, "()V", Guard(0, (2, 1), (2, 2))),
     CallSite(Mutable, "()V", Invoker(0)),
+    CallSite(Volatile, "()V", InvokerOr(2, 0, (2, 3))),
     Request(2, 0),
+    Request(4, 0),
     Request(3, 0),
     Request(3, 3),
     Bind(0, 1),
+    Retire(2),
+    Install(&[0, 2, 3]),
 ];
 
-/// What comes behind the retirement of loader 1.
-const LINKS: &[Step] = &[Install(&[0, 1, 2])];
+/// The call sites and the switch points of these numbers are let go; 9 was never given.
+const GONE: &[u32] = &[0, 1, 2, 9];
 
-/// What comes while the fresh core is filled: class 6, a retarget, an invalidation, a place that is requested already, and an install.
+/// What comes while the fresh core is filled, with all eleven kinds of events: loader 3 finds java/lang/Object and defines another T, class
+/// 7, whose site 5 is bound to call site 4; site 4 is bound to call site 3; loader 1 goes; a place is requested that was requested already.
 const MEANWHILE: &[Step] = &[
+    Loader,
+    Delegate(3, rows_files::OBJECT),
+    Define(3, T),
     Define(0, E),
-    Retarget(1, Guard(0, (2, 2), (2, 1))),
+    Retarget(1, Guard(0, (2, 3), (2, 2))),
     Point,
     Invalidate(&[0, 1]),
+    CallSite(Mutable, "()V", InvokerOr(3, 1, (7, 1))),
+    Request(2, 5),
+    Request(7, 0),
     Request(3, 0),
-    Install(&[2]),
+    Bind(4, 3),
+    Bind(5, 4),
+    Retire(1),
+    Install(&[0, 2, 4, 5]),
 ];
 
 /// A call of a site on an object of a class, and the method that it runs, by its class and number there, in the fresh core.
 struct CallRow(u32, u32, u32, u16);
 
-/// D is class 4 now. Call site 0 runs T's first other method while its switch point is valid, and so does site 0.
+/// D is class 4 now, and C class 5. Call site 1 runs T's first other method while its switch point is valid, and so does site 0.
 const CALLS: &[CallRow] = &[
     CallRow(0, 1, 2, 1),
     CallRow(1, 1, 1, 0),
     CallRow(1, 4, 4, 0),
+    CallRow(1, 5, 5, 0),
     CallRow(2, 1, 3, 1),
+];
+
+/// E is class 7. Call site 1 has another target, and its switch point is invalid. Site 3 runs what an invalid switch point leaves. Site 4
+/// runs what call site 1 runs, since the switch point that came meanwhile is valid.
+const CALLS_AFTER: &[CallRow] = &[
+    CallRow(0, 1, 2, 2),
+    CallRow(1, 1, 1, 0),
+    CallRow(1, 4, 4, 0),
+    CallRow(1, 7, 7, 0),
+    CallRow(2, 1, 3, 1),
+    CallRow(3, 1, 2, 3),
+    CallRow(4, 1, 2, 2),
 ];
 
 /// A core of these. Want of memory is an error, and so is a step that is refused.
 fn old_core(alloc: Global) -> Result<Core, AllocError> {
-    let mut core = Core::new(alloc, 4)?;
-    let begun = are_done(alloc, &mut core, BEFORE);
-    let gone = core.apply(alloc, Event::Retire(LoaderId::new(1))).is_ok();
-    let linked = are_done(alloc, &mut core, LINKS);
-    if begun && gone && linked {
+    let mut core = Core::new(alloc, 6)?;
+    if are_done(alloc, &mut core, BEFORE) {
         Ok(core)
     } else {
         Err(AllocError)
     }
 }
 
-/// All call sites and switch points are let go.
-fn all_released(alloc: Global) -> Result<Released, AllocError> {
+/// What is let go.
+fn released(alloc: Global) -> Result<Released, AllocError> {
     let mut call_sites = Vec::new(alloc);
     let mut switches = Vec::new(alloc);
-    for number in 0..3u32 {
-        call_sites.push(CallSiteId::new(number))?;
-        switches.push(SwitchId::new(number))?;
+    for number in GONE {
+        call_sites.push(CallSiteId::new(*number))?;
+        switches.push(SwitchId::new(*number))?;
     }
     Ok(Released {
         call_sites: Seq::of(call_sites),
@@ -93,28 +119,45 @@ fn all_released(alloc: Global) -> Result<Released, AllocError> {
     })
 }
 
-/// Whether what stays has these numbers: the loader and class that are gone have none, and neither have call sites 0 and 2, and switch
-/// point 1.
+/// Whether what stays has these numbers: the loader, class and site that are gone have none, and neither have call site 2 and switch point
+/// 1.
 fn are_numbers(numbers: &Renumbering) -> bool {
     let loaders = numbers.loader(LoaderId::new(0)) == Some(LoaderId::new(0))
-        && numbers.loader(LoaderId::new(1)).is_none();
+        && numbers.loader(LoaderId::new(1)) == Some(LoaderId::new(1))
+        && numbers.loader(LoaderId::new(2)).is_none();
     let classes = numbers.class(ClassId::new(3)) == Some(ClassId::new(3))
         && numbers.class(ClassId::new(4)).is_none()
-        && numbers.class(ClassId::new(5)) == Some(ClassId::new(4));
-    let call_sites = numbers.call_site(CallSiteId::new(0)).is_none()
-        && numbers.call_site(CallSiteId::new(1)) == Some(CallSiteId::new(0))
-        && numbers.call_site(CallSiteId::new(2)).is_none();
+        && numbers.class(ClassId::new(5)) == Some(ClassId::new(4))
+        && numbers.class(ClassId::new(6)) == Some(ClassId::new(5));
+    let call_sites = numbers.call_site(CallSiteId::new(0)) == Some(CallSiteId::new(0))
+        && numbers.call_site(CallSiteId::new(1)) == Some(CallSiteId::new(1))
+        && numbers.call_site(CallSiteId::new(2)).is_none()
+        && numbers.call_site(CallSiteId::new(3)) == Some(CallSiteId::new(2));
     let switches = numbers.switch(SwitchId::new(0)) == Some(SwitchId::new(0))
-        && numbers.switch(SwitchId::new(1)).is_none();
-    let sites = numbers.site(SiteNo::new(2)) == Some(SiteNo::new(2))
-        && numbers.site(SiteNo::new(3)).is_none();
+        && numbers.switch(SwitchId::new(1)).is_none()
+        && numbers.switch(SwitchId::new(2)) == Some(SwitchId::new(1));
+    let sites = numbers.site(SiteNo::new(0)) == Some(SiteNo::new(0))
+        && numbers.site(SiteNo::new(1)).is_none()
+        && numbers.site(SiteNo::new(3)) == Some(SiteNo::new(2))
+        && numbers.site(SiteNo::new(4)).is_none();
     loaders && classes && call_sites && switches && sites
 }
 
+/// Whether what came meanwhile has these numbers.
+fn are_numbers_after(numbers: &Renumbering) -> bool {
+    numbers.loader(LoaderId::new(3)) == Some(LoaderId::new(2))
+        && numbers.class(ClassId::new(7)) == Some(ClassId::new(6))
+        && numbers.class(ClassId::new(8)) == Some(ClassId::new(7))
+        && numbers.switch(SwitchId::new(3)) == Some(SwitchId::new(2))
+        && numbers.call_site(CallSiteId::new(4)) == Some(CallSiteId::new(3))
+        && numbers.site(SiteNo::new(4)) == Some(SiteNo::new(3))
+        && numbers.site(SiteNo::new(5)) == Some(SiteNo::new(4))
+}
+
 /// Whether each call runs its method.
-fn run_so(core: &Core) -> bool {
+fn run_so(core: &Core, rows: &[CallRow]) -> bool {
     let mut all = true;
-    for CallRow(site, class, declaring, index) in CALLS {
+    for CallRow(site, class, declaring, index) in rows {
         let method = MethodId {
             class: ClassId::new(*declaring),
             index: *index,
@@ -125,15 +168,15 @@ fn run_so(core: &Core) -> bool {
     all
 }
 
-/// Whether a renewal of the old core is this: of its 12 events the last one installs all three links. Two sites are too few for it.
+/// Whether a renewal of the old core is this: of its 19 events the last one installs all three links. Two sites are too few for it.
 fn is_renewed(alloc: Global, old: &Core, released: &Released) -> bool {
     let is_too_small = matches!(renew(alloc, old, released, 2), Err(Refusal::SitesFull));
     match renew(alloc, old, released, 3) {
         Ok((fresh, numbers)) => {
             are_numbers(&numbers)
-                && fresh.log().len() == 12
+                && fresh.log().len() == 19
                 && fresh.links().len() == 3
-                && run_so(&fresh)
+                && run_so(&fresh, CALLS)
                 && is_too_small
         }
         Err(_) => false,
@@ -142,7 +185,7 @@ fn is_renewed(alloc: Global, old: &Core, released: &Released) -> bool {
 
 /// All of it.
 fn renews(alloc: Global) -> bool {
-    match (old_core(alloc), all_released(alloc)) {
+    match (old_core(alloc), released(alloc)) {
         (Ok(old), Ok(released)) => is_renewed(alloc, &old, &released),
         _ => false,
     }
@@ -167,7 +210,9 @@ fn links_come(alloc: Global, fresh: &mut Core, numbers: &Renumbering, old: &Core
     let Ok(rows) = fresh_links(alloc, fresh.world(), linked.as_slice(), numbers) else {
         return false;
     };
-    install_all(alloc, fresh, rows.as_slice()).is_ok() && fresh.links().len() == old.links().len()
+    install_all(alloc, fresh, rows.as_slice()).is_ok()
+        && fresh.links().len() == 5
+        && old.links().len() == 5
 }
 
 /// Whether what comes meanwhile is carried over, and then a retarget of a call site that was let go is not.
@@ -177,11 +222,11 @@ fn carries_on(alloc: Global, fresh: &mut Core, numbers: &mut Renumbering, old: &
     for entry in old.log().iter().skip(from) {
         all = carry(alloc, fresh, numbers, old.world(), entry).is_ok() && all;
     }
-    all && numbers.class(ClassId::new(6)) == Some(ClassId::new(5))
-        && numbers.switch(SwitchId::new(2)) == Some(SwitchId::new(1))
-        && fresh.class_count() == 6
+    all && are_numbers_after(numbers)
+        && fresh.class_count() == 8
         && links_come(alloc, fresh, numbers, old)
-        && is_done(alloc, old, &Retarget(0, Method((2, 2))))
+        && run_so(fresh, CALLS_AFTER)
+        && is_done(alloc, old, &Retarget(2, Method((2, 2))))
         && names_gone(alloc, fresh, numbers, old)
 }
 
@@ -205,7 +250,7 @@ fn fills_fresh(alloc: Global, old: &mut Core, released: &Released) -> bool {
 
 /// The same on new cores.
 fn carries(alloc: Global) -> bool {
-    match (old_core(alloc), all_released(alloc)) {
+    match (old_core(alloc), released(alloc)) {
         (Ok(mut old), Ok(released)) => fills_fresh(alloc, &mut old, &released),
         _ => false,
     }

@@ -53,8 +53,8 @@ pub(crate) enum Step {
     Invalidate(&'static [u32]),
     /// The site is bound to the call site.
     Bind(u32, u32),
-    /// Loader 1 finds the class of this name that loader 0 finds.
-    Delegate(&'static str),
+    /// The loader finds the class of this name that loader 0 finds.
+    Delegate(u32, &'static str),
     /// The install of the links that these sites have now.
     Install(&'static [u32]),
     /// The same of one site.
@@ -65,6 +65,8 @@ pub(crate) enum Step {
     WrongAgain(usize),
     /// The install of the link that runs class 1's first method on each object, at site 0.
     ByHand,
+    /// The loader goes.
+    Retire(u32),
 }
 
 /// What is read of the row's class file, with these calls.
@@ -233,9 +235,9 @@ pub(crate) fn event(alloc: Global, core: &Core, step: &Step) -> Result<Event, Al
         Step::Bind(site, call_site) => {
             Ok(Event::Bind(SiteNo::new(*site), CallSiteId::new(*call_site)))
         }
-        Step::Delegate(name) => {
+        Step::Delegate(loader, name) => {
             let name = named(alloc, name)?;
-            Ok(Event::Delegate(LoaderId::new(1), name, LoaderId::new(0)))
+            Ok(Event::Delegate(LoaderId::new(*loader), name, LoaderId::new(0)))
         }
         Step::Install(sites) => install(alloc, core, sites),
         Step::InstallOne(site) => install(alloc, core, &[*site]),
@@ -245,6 +247,7 @@ pub(crate) fn event(alloc: Global, core: &Core, step: &Step) -> Result<Event, Al
             install_each(alloc, &sites, Link::Mega)
         }
         Step::ByHand => install_each(alloc, &[0], runs_first()),
+        Step::Retire(loader) => Ok(Event::Retire(LoaderId::new(*loader))),
     }
 }
 

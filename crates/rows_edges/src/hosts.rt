@@ -724,7 +724,8 @@ const RETIREMENT: &[StepRow] = &[
     (Retire(2), &[19, 0, 5, 0]),
 ];
 
-/// Loader 1 with W, which calls A.f and is retired, M, which calls A.f twice, a call site that is let go, and a switch point.
+/// Loader 1 with M, which calls A.f twice, stays; loader 2 with W, which calls A.f, is retired. One call site is let go, and one is kept.
+/// Of the two switch points the second is invalid.
 const RENEWAL: &[StepRow] = &[
     (Counts, &[34]),
     (Renew(2, &[], 4), &[34, 9, 9, 9, 9, 9, 9, 9]),
@@ -733,18 +734,21 @@ const RENEWAL: &[StepRow] = &[
     (Define(0, OBJECT), &[0, 0]),
     (Define(0, A), &[0, 1]),
     (NewLoader, &[0, 1]),
-    (Delegate(1, "java/lang/Object", 0), &[0]),
-    (Delegate(1, "A", 0), &[0]),
+    (NewLoader, &[0, 2]),
+    (Delegate(2, "java/lang/Object", 0), &[0]),
+    (Delegate(2, "A", 0), &[0]),
     (
         Says(
-            r#"{"do":"define","loader":1,"sketch":{"name":"W","super":"java/lang/Object","flags":33,"methods":[{"name":"run","type":"()V","flags":9,"calls":[{"kind":"invokevirtual","of":"A","name":"f","type":"()V"}]}]}}"#,
+            r#"{"do":"define","loader":2,"sketch":{"name":"W","super":"java/lang/Object","flags":33,"methods":[{"name":"run","type":"()V","flags":9,"calls":[{"kind":"invokevirtual","of":"A","name":"f","type":"()V"}]}]}}"#,
             r#"{"class":2,"dropped":[]}"#,
         ),
         &[0, 0, 1],
     ),
+    (Delegate(1, "java/lang/Object", 0), &[0]),
+    (Delegate(1, "A", 0), &[0]),
     (
         Says(
-            r#"{"do":"define","loader":0,"sketch":{"name":"M","super":"java/lang/Object","flags":33,"methods":[{"name":"run","type":"()V","flags":9,"calls":[{"kind":"invokevirtual","of":"A","name":"f","type":"()V"},{"kind":"invokevirtual","of":"A","name":"f","type":"()V"}]}]}}"#,
+            r#"{"do":"define","loader":1,"sketch":{"name":"M","super":"java/lang/Object","flags":33,"methods":[{"name":"run","type":"()V","flags":9,"calls":[{"kind":"invokevirtual","of":"A","name":"f","type":"()V"},{"kind":"invokevirtual","of":"A","name":"f","type":"()V"}]}]}}"#,
             r#"{"class":3,"dropped":[]}"#,
         ),
         &[0, 0, 1],
@@ -754,15 +758,20 @@ const RENEWAL: &[StepRow] = &[
     (Request(3, 0, 3), &[0, 2]),
     (Install(&[0, 1]), &[0]),
     (NewCallSite(1, "()V", r#"{"method":[3,0]}"#), &[0, 0]),
+    (NewCallSite(2, "()V", r#"{"method":[3,0]}"#), &[0, 1]),
     (NewSwitch, &[0, 0]),
-    (Retire(1), &[0]),
-    (Counts, &[0, 2, 4, 3, 1, 1]),
+    (NewSwitch, &[0, 1]),
+    (Invalidate(&[1]), &[0]),
+    (Retire(2), &[0]),
+    (Counts, &[0, 3, 4, 3, 2, 2]),
     (Renew(0, &[], 4), &[33, 9, 9, 9, 9, 9, 9, 9]),
     (Renew(1_048_577, &[], 4), &[33, 9, 9, 9, 9, 9, 9, 9]),
     (Renew(2, &[], 3), &[36, 9, 9, 9, 9, 9, 9, 9]),
     (Renew(1, &[], 4), &[5, 9, 9, 9, 9, 9, 9, 9]),
     (Renew(2, &[0], 4), &[0, GONE, GONE, 2, GONE, 0, GONE, 0]),
-    (Counts, &[0, 1, 3, 2, 0, 1]),
+    (Counts, &[0, 2, 3, 2, 1, 2]),
+    (Lookup(1, "A"), &[0, 1]),
+    (Lookup(1, "M"), &[0, 2]),
     (LinkOf(0), &[0, 3, 1, 0, 0, 1, 0]),
     (LinkOf(1), &[0, 0, 0, 9, 9, 9, 9]),
     (Call(1, 1), &[0, 0, 1, 0]),

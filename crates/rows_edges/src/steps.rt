@@ -302,7 +302,7 @@ fn count_numbers(linker: &mut Linker) -> Numbers {
     ])
 }
 
-/// The status of a renewal, and the new numbers of loader 1, classes 2 and 3, sites 0 and 1, call site 0 and switch point 0.
+/// The status of a renewal, and the new numbers of loader 2, classes 2 and 3, sites 0 and 1, call site 0 and switch point 0.
 fn renewal_numbers(
     alloc: Global,
     linker: &mut Linker,
@@ -331,7 +331,7 @@ fn renewal_numbers(
     }
     numbers(&[
         status,
-        loaders[1],
+        loaders[2],
         classes[2],
         classes[3],
         sites[0],

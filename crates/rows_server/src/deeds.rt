@@ -115,8 +115,8 @@ pub(crate) enum Deed {
     Below(u32, bool),
     /// A new loader.
     Loader,
-    /// Loader 1 finds this class of loader 0 by its name.
-    Delegate(Class),
+    /// The loader finds this class of loader 0 by its name.
+    Delegate(u32, Class),
     /// The request of the instruction at this pc of the class's first method.
     Request(u32, u32),
     /// A mutable call site more, of class 1's method 1.
@@ -129,8 +129,8 @@ pub(crate) enum Deed {
     Install(u64),
     /// A new switch point.
     Switch,
-    /// Loader 1 goes.
-    Retire,
+    /// The loader goes.
+    Retire(u32),
 }
 
 /// A class A 1 with a method, B 2 below it, and an installed site 0 of M 3, which calls that method: 6 events.
@@ -211,8 +211,8 @@ pub(crate) fn event(alloc: Global, deed: &Deed) -> Option<Event> {
         Define(loader, class) => definition(*loader, file(alloc, *class)),
         Below(number, overrides) => definition(0, below(alloc, *number, *overrides)),
         Loader => Some(Event::NewLoader),
-        Delegate(class) => match named(alloc, row_of(*class).0) {
-            Ok(name) => Some(Event::Delegate(LoaderId::new(1), name, LoaderId::new(0))),
+        Delegate(loader, class) => match named(alloc, row_of(*class).0) {
+            Ok(name) => Some(Event::Delegate(LoaderId::new(*loader), name, LoaderId::new(0))),
             Err(_) => None,
         },
         Request(class, pc) => Some(Event::Request(Place {
@@ -235,7 +235,7 @@ pub(crate) fn event(alloc: Global, deed: &Deed) -> Option<Event> {
         )),
         Install(_) => None,
         Switch => Some(Event::NewSwitch),
-        Retire => Some(Event::Retire(LoaderId::new(1))),
+        Retire(loader) => Some(Event::Retire(LoaderId::new(*loader))),
     }
 }
 

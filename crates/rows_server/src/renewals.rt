@@ -53,15 +53,19 @@ const TIMES: usize = 3;
 /// The install of all sites.
 const INSTALL: Deed = Install(0xff);
 
-/// What comes before. Class 2 goes, so class 3, and those that are defined later, have other numbers in the fresh server.
+/// What comes before. Loader 2 and class 2 go, so class 3, which loader 1 has defined, and those that are defined later, have other numbers
+/// in the fresh server.
 const BEFORE: &[Deed] = &[
     Define(0, Object),
     Define(0, A),
     Loader,
-    Delegate(Object),
-    Delegate(A),
-    Define(1, C),
-    Define(0, Many),
+    Loader,
+    Delegate(2, Object),
+    Delegate(2, A),
+    Define(2, C),
+    Delegate(1, Object),
+    Delegate(1, A),
+    Define(1, Many),
     Request(3, 0),
     Request(3, 3),
     Request(3, 6),
@@ -71,8 +75,18 @@ const BEFORE: &[Deed] = &[
     Request(3, 18),
     Request(3, 21),
     INSTALL,
-    Retire,
+    Retire(2),
     INSTALL,
+];
+
+/// What the first writer adds once it has stopped to define. Loader 3 comes and goes.
+const LAST: &[Deed] = &[
+    Loader,
+    Delegate(3, Object),
+    Switch,
+    Request(3, 24),
+    Request(3, 24),
+    Retire(3),
 ];
 
 /// A book that has taken no event, and how many sites may be requested there.
@@ -179,7 +193,8 @@ fn defines<K: Name, L: Name, R: Wait, S: Wait + Drop>(
     }
 }
 
-/// Defines classes in the old server until it is to stop, installs all sites, and defines some more in the fresh one.
+/// Defines classes in the old server until it is to stop, and the first writer adds the last events; installs all sites, and defines some
+/// more in the fresh one.
 fn write<K: Name, L: Name, R: Wait, S: Wait + Drop>(
     renewal: &Renewal<'_, K, L, R, S>,
     mover: &mut Mover<K, L, S>,
@@ -198,6 +213,9 @@ fn write<K: Name, L: Name, R: Wait, S: Wait + Drop>(
             round % STRETCH == STRETCH - 1,
         );
         number = number.wrapping_add(1);
+    }
+    if writer == 0 {
+        let _added = renewal.old.does_all(&mut mover.old, LAST);
     }
     let _installed = renewal.old.does(&mut mover.old, &INSTALL);
     renewal.old.come.fetch_add(1, Ordering::SeqCst);

@@ -161,8 +161,8 @@ const REMEMBERED: &[Line] = &[
 /// A second M 12 by loader 1, whose site is installed, and R 13 below A.
 const BESIDE: &[Deed] = &[
     Loader,
-    Delegate(Object),
-    Delegate(A),
+    Delegate(1, Object),
+    Delegate(1, A),
     Define(1, M),
     Define(1, R),
     Request(12, 0),
@@ -177,7 +177,7 @@ const RETIRED: &[Line] = &[
     IsLearned(13, 13),
     AsksWith(1, 4, Runs(4)),
     CallsWith(1, Some(4), Runs(4)),
-    First(Does(Retire)),
+    First(Does(Retire(1))),
     CallsWith(1, Some(4), Misses),
     CallsWith(1, None, Misses),
     Has(1, 4, 4),
