@@ -21,49 +21,13 @@ ghost use Rattle.linkd_c.specs.Handle.{seat_at, seat_left, both_left, seat_room,
 ghost use Rattle.linkd_c.specs.Handle.{memo_at, memo_left, asked_left, called_left, memo_room, memo_bytes, memo_multiple};
 ghost use Rattle.linkd_c.specs.Handle.{view_at, view_left, taken_left, view_room, view_bytes, view_multiple};
 
+mod handles;
+
+pub use handles::{Linkd, LinkdMemo, LinkdSeat, LinkdView};
 use jl_host::{
     CallAnswer, Counts, Invocation, LinkRow, LinkShown, Linker, Memo, Seat, TargetPart, Told, View,
 };
 use std::alloc::Global;
-
-/// Shows that a value of the type may go from one thread to another.
-fn crosses<T: Send>() {}
-
-/// Linkers, seats, memos and views may: this is refused where one of them may not.
-fn all_cross() {
-    crosses::<Linker>();
-    crosses::<Seat>();
-    crosses::<Memo>();
-    crosses::<View>();
-}
-
-/// What C sees of a linker: nothing.
-#[repr(C)]
-#[derive(Drop)]
-pub struct Linkd {
-    hidden: u8,
-}
-
-/// What C sees of a seat: nothing.
-#[repr(C)]
-#[derive(Drop)]
-pub struct LinkdSeat {
-    hidden: u8,
-}
-
-/// What C sees of a memo: nothing.
-#[repr(C)]
-#[derive(Drop)]
-pub struct LinkdMemo {
-    hidden: u8,
-}
-
-/// What C sees of a view: nothing.
-#[repr(C)]
-#[derive(Drop)]
-pub struct LinkdView {
-    hidden: u8,
-}
 
 /// Which header the library is of: LINKD_VERSION there.
 #[unsafe(no_mangle)]

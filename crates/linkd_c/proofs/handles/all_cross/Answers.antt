@@ -1,6 +1,6 @@
 use denote.Param.Send.{sendable}
 use Rattle.jl_host.proofs.Crossing.{linker_send, view_send}
-use Rattle.linkd_c.proofs.all_cross.Goals as goal
+use Rattle.linkd_c.proofs.handles.all_cross.Goals as goal
 
 pub crosses-requires-send-T : goal.crosses-requires-send-T
 crosses-requires-send-T c = λ κs. search (linker_send, sendable) depth 12
