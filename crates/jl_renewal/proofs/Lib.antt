@@ -3,6 +3,7 @@ pub mod ListLaws
 pub mod NumberLaws
 pub mod AddLaws
 pub mod FollowLaws
+pub mod StopLaws
 pub mod Phases
 -- what stays, as the code finds it
 pub mod MarkLaws
@@ -74,5 +75,6 @@ pub mod MovedGone
 pub mod MovedNames
 pub mod MovedScratch
 pub mod MovedBeside
+pub mod MovedFaults
 -- worked renewals
 pub mod Rows

@@ -31,9 +31,6 @@ pub there_is : {A : Type 0} (o : Option A) → is_some o ≡ true → (a : A) ×
 there_is None e = cc
 there_is (Some a) e = (a, refl)
 
-pub some_of : {A : Type 0} (o : Option A) (a : A) → o ≡ Some a → is_some o ≡ true
-some_of o a e = ap is_some e
-
 pub none_of : {A : Type 0} (o : Option A) → is_some o ≡ false → o ≡ None
 none_of None e = refl
 none_of (Some a) e = cc

@@ -19,7 +19,7 @@ use Rattle.jl_renewal.specs.Numbers.{Numbers, how_many}
 use Rattle.jl_renewal.specs.Staying.{numbers_of, staying_sites}
 use Rattle.jl_renewal.specs.Renewal.{class_event, new_loaders, site_events, renewal, renewal_by, fresh_rows, AreBatches, IsRenewal, IsPast, IsRefilled, logged}
 use Rattle.jl_renewal.specs.Renewed.{renewed}
-use Rattle.jl_renewal.specs.Told.{told_events}
+use Rattle.jl_renewal.specs.Told.{told_events, told_renewal}
 use Rattle.jl_renewal.specs.Adds.{MayAdd, AreFresh, Adds, Installs}
 use Rattle.jl_renewal.proofs.Phases.{Leads}
 use Rattle.jl_renewal.proofs.FollowLaws.{world_added}
@@ -41,10 +41,6 @@ told_are_events w n (entry ∷ entries) =
         ≡ filter_map f (map (λ (e : Event × Reply). e.0) (cons_option (option_map (λ e. (e, reply)) o) rest))
     one f None reply made rest e = e
     one f (Some x) reply made rest e = ap (cons_option (f x)) e
-
--- the events that were told
-abbrev pub told_renewal : World → Numbers → List Entry → List Event
-told_renewal w n entries = new_loaders n.loaders ++ (told_events w n entries ++ site_events w n)
 
 -- what the old core, its world and entries, the numbers and the fresh core are
 pub record IsBegun (old : State) (released : Released) (max_sites : ℕ) (w : World) (entries : List Entry) (n : Numbers) (fresh : State) : Type 0 where

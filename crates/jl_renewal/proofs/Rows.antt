@@ -1,6 +1,6 @@
--- Worked renewals: three loaders, of which one is retired that another one found classes through; call sites, switch points, links; and
--- what its owner has let go.
-use Rattle.std.specs.Prelude.{◌≡◌, ℕ, Bool, true, false, ◌&&◌, List, [], ◌∷◌, ◌++◌, map, filter_map, Option, Some, None, is_ok, codes, refl}
+-- Worked renewals: three loaders, of which one is retired that another one found classes through; call sites, switch points, links;
+-- what its owner has let go; and what comes after a renewal.
+use Rattle.std.specs.Prelude.{◌≡◌, ℕ, Bool, true, false, ◌&&◌, List, [], ◌∷◌, ◌++◌, map, filter_map, fold, Option, Some, None, is_ok, codes, refl}
 use Rattle.jl_class.specs.Class.{Method}
 use Rattle.jl_class.specs.declared.site.Kind.{Kind}
 use Rattle.jl_class.specs.declared.site.Kind.TheVariants.{Virtual, Dynamic}
@@ -20,7 +20,8 @@ use Rattle.jl_types.specs.declared.event.Made.TheVariants as made
 use Rattle.jl_types.specs.declared.answer.Recv.TheVariants.{Of}
 use Rattle.jl_types.specs.Linkage.Links.{scratch}
 use Rattle.jl_types.specs.Linkage.Calls.{dispatch}
-use Rattle.jl_types.specs.Events.Verdict.{verdict}
+use Rattle.jl_types.specs.Values.World.{World}
+use Rattle.jl_types.specs.Events.Verdict.{verdict, step}
 use Rattle.jl_types.specs.Events.History.{world_after, installed_links}
 use Rattle.jl_core.specs.State.{State, world_of}
 use Rattle.jl_renewal.specs.declared.released.Released.{Released}
@@ -29,6 +30,7 @@ use Rattle.jl_renewal.specs.Staying.{numbers_of, staying_sites}
 use Rattle.jl_renewal.specs.Renewal.{renewal, fresh_rows}
 use Rattle.jl_renewal.specs.Renewed.{renewed, renumbered_result, renumbered_answer}
 use Rattle.jl_renewal.specs.Carries.{carried, made_number, with_made}
+use Rattle.jl_renewal.specs.Moved.{Flags, flags_of, moved, moved_world, event_there, events_there, may_be_gone, all_numbers}
 
 -- ---- small classes
 
@@ -219,3 +221,139 @@ new_ones_are_noted = refl
 -- what was requested or delegated before keeps its number
 old_ones_are_kept : with_made (with_made numbers (made.Site 1) (Some 7)) Nothing (Some 8) ≡ numbers
 old_ones_are_kept = refl
+
+-- what a gone entry made is noted, so call site 3 keeps its place after call site 2
+later_ones_keep_theirs : (with_made (with_made numbers (made.CallSite 2) None) (made.CallSite 3) (Some 2)).call_sites
+    ≡ Some 0 ∷ Some 1 ∷ None ∷ Some 2 ∷ []
+later_ones_keep_theirs = refl
+
+-- ---- what comes after a renewal of the core whose owner has let something go
+
+-- Loader 2 finds Object through loader 0. It defines an interface J 3 and a class E 4 that implements it, whose invokedynamic is site 2. Loader
+-- 3 is retired at once.
+abbrev meanwhile : List Event
+meanwhile =
+    NewLoader ∷ Delegate 2 object 0
+    ∷ Define 2 (record { name = codes "J"; flags = 1537; superclass = Some object; interfaces = []; nest_host = None; nest_members = []; methods = [] })
+    ∷ Define 2 (record {
+      name = codes "E";
+      flags = 33;
+      superclass = Some object;
+      interfaces = codes "J" ∷ [];
+      nest_host = None;
+      nest_members = [];
+      methods = dynamic ∷ method 9 (codes "u") ∷ [];
+    })
+    ∷ at_first 4 ∷ NewSwitch ∷ NewCallSite Mutable (codes "()V") (target.Guard 2 (target.Invoker 2) (target.Method (of_class 4 1)))
+    ∷ Bind 2 5 ∷ SetTarget 0 (target.Method (of_class 1 2)) ∷ Invalidate (1 ∷ 2 ∷ []) ∷ NewLoader ∷ Retire 3
+    ∷ []
+
+is_a_longer_one : are_accepted with_released meanwhile ≡ true
+is_a_longer_one = refl
+
+abbrev later : World
+later = world_after (with_released ++ meanwhile)
+
+abbrev flags : Flags
+flags = flags_of (world_of owned) let_go
+
+what_stays : flags ≡ record {
+  loaders = true ∷ false ∷ [];
+  classes = true ∷ true ∷ false ∷ [];
+  sites = true ∷ false ∷ [];
+  call_sites = true ∷ true ∷ true ∷ false ∷ false ∷ [];
+  switches = true ∷ false ∷ [];
+}
+what_stays = refl
+
+-- all later ones stay
+all_later_stay : map (moved flags.call_sites) (0 ∷ 2 ∷ 3 ∷ 4 ∷ 5 ∷ 6 ∷ []) ≡ Some 0 ∷ Some 2 ∷ None ∷ None ∷ Some 3 ∷ Some 4 ∷ []
+all_later_stay = refl
+
+-- these events under the new numbers; switch point 1 is gone
+abbrev there : List Event
+there =
+    NewLoader ∷ Delegate 1 object 0
+    ∷ Define 1 (record { name = codes "J"; flags = 1537; superclass = Some object; interfaces = []; nest_host = None; nest_members = []; methods = [] })
+    ∷ Define 1 (record {
+      name = codes "E";
+      flags = 33;
+      superclass = Some object;
+      interfaces = codes "J" ∷ [];
+      nest_host = None;
+      nest_members = [];
+      methods = dynamic ∷ method 9 (codes "u") ∷ [];
+    })
+    ∷ at_first 3 ∷ NewSwitch ∷ NewCallSite Mutable (codes "()V") (target.Guard 1 (target.Invoker 2) (target.Method (of_class 3 1)))
+    ∷ Bind 1 3 ∷ SetTarget 0 (target.Method (of_class 1 2)) ∷ Invalidate (1 ∷ []) ∷ NewLoader ∷ Retire 2
+    ∷ []
+
+each_is_there : filter_map (event_there flags) meanwhile ≡ there
+each_is_there = refl
+
+-- what names what is gone, and links
+none_is_there : filter_map (event_there flags) (
+    defines 1 (Some object) (codes "N") [] ∷ Delegate 1 object 0 ∷ Delegate 0 (codes "C") 1 ∷ at_first 2
+    ∷ NewCallSite Mutable (codes "()V") (target.Method (of_class 2 0))
+    ∷ NewCallSite Mutable (codes "()V") (target.Invoker 3)
+    ∷ NewCallSite Mutable (codes "()V") (target.Guard 1 (target.Method (of_class 1 1)) (target.Method (of_class 1 2)))
+    ∷ NewCallSite Mutable (codes "()V") (target.Guard 0 (target.Invoker 4) (target.Method (of_class 1 2)))
+    ∷ NewCallSite Mutable (codes "()V") (target.Guard 0 (target.Method (of_class 1 2)) (target.Method (of_class 2 0)))
+    ∷ SetTarget 3 (target.Method (of_class 1 1)) ∷ SetTarget 0 (target.Invoker 4) ∷ Bind 1 0 ∷ Bind 0 4
+    ∷ Install ((0, Plain (of_class 1 1)) ∷ []) ∷ Retire 1 ∷ [])
+    ≡ []
+none_is_there = refl
+
+links_are_passed_over : events_there flags (Install ((0, Plain (of_class 1 1)) ∷ [])) ≡ Some []
+links_are_passed_over = refl
+
+those_may_be_gone : map may_be_gone meanwhile
+    ≡ false ∷ false ∷ false ∷ false ∷ false ∷ false ∷ true ∷ true ∷ true ∷ false ∷ false ∷ false ∷ []
+those_may_be_gone = refl
+
+same_world : fold step (renewed (world_of owned) let_go) there ≡ moved_world flags later
+same_world = refl
+
+loaders_find : (moved_world flags later).classes.loaders
+    ≡ ((object, 0) ∷ (codes "T", 1) ∷ []) ∷ ((object, 0) ∷ (codes "J", 2) ∷ (codes "E", 3) ∷ []) ∷ [] ∷ []
+loaders_find = refl
+
+-- the retirement of loader 3, and not that of loader 1, which is gone
+one_is_retired : (moved_world flags later).classes.retired ≡ 2 ∷ []
+one_is_retired = refl
+
+loaders_of_classes : map (λ row. row.loader) (moved_world flags later).classes.rows ≡ 0 ∷ 0 ∷ 1 ∷ 1 ∷ []
+loaders_of_classes = refl
+
+superclasses_are : map (λ row. row.superclass) (moved_world flags later).classes.rows ≡ None ∷ Some 0 ∷ Some 0 ∷ Some 0 ∷ []
+superclasses_are = refl
+
+interfaces_are : map (λ row. row.interfaces) (moved_world flags later).classes.rows ≡ [] ∷ [] ∷ [] ∷ (2 ∷ []) ∷ []
+interfaces_are = refl
+
+places_are : map (λ place. place.class) (moved_world flags later).places ≡ 1 ∷ 3 ∷ []
+places_are = refl
+
+-- the binding of site 1 is gone with it
+bindings_are : (moved_world flags later).bindings ≡ (0, 1) ∷ (1, 3) ∷ []
+bindings_are = refl
+
+targets_are : map (λ site. site.target) (moved_world flags later).sites.call_sites
+    ≡ target.Method (of_class 1 2)
+    ∷ target.Guard 0 (target.Method (of_class 1 1)) (target.Method (of_class 1 2))
+    ∷ target.Invoker 0
+    ∷ target.Guard 1 (target.Invoker 2) (target.Method (of_class 3 1)) ∷ []
+targets_are = refl
+
+one_is_invalid : (moved_world flags later).sites.switches ≡ true ∷ false ∷ []
+one_is_invalid = refl
+
+-- loader 3 has a number, though it is retired by now: numbers aren't taken anew
+numbers_of_all : all_numbers flags later ≡ record {
+  loaders = Some 0 ∷ None ∷ Some 1 ∷ Some 2 ∷ [];
+  classes = Some 0 ∷ Some 1 ∷ None ∷ Some 2 ∷ Some 3 ∷ [];
+  sites = Some 0 ∷ None ∷ Some 1 ∷ [];
+  call_sites = Some 0 ∷ Some 1 ∷ Some 2 ∷ None ∷ None ∷ Some 3 ∷ [];
+  switches = Some 0 ∷ None ∷ Some 1 ∷ [];
+}
+numbers_of_all = refl

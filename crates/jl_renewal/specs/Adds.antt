@@ -1,8 +1,9 @@
--- What lists of events add to a core. A means of proof.
+-- What lists of events add to a core, and what a refusal of one of them leaves.
 use Rattle.std.specs.Prelude.{◌≡◌, ◌<◌, Some, Contains, ℕ, List, [], ◌∷◌, ◌++◌, map, take, Ok, IsOk, All, AllPairs, ⊤}
 use Rattle.jl_types.specs.declared.link.Link.{Link}
 use Rattle.jl_types.specs.declared.event.EventOf.TheVariants as event
 use Rattle.jl_types.specs.declared.refusal.Refusal.{Refusal}
+use Rattle.jl_types.specs.declared.refusal.Refusal.TheVariants.{Memory}
 use Rattle.jl_types.specs.Events.Event.{Event}
 use Rattle.jl_types.specs.Events.Verdict.{verdict, step}
 use Rattle.jl_types.specs.Values.World.{World}
@@ -37,6 +38,19 @@ pub record HasCome (linked : List (ℕ × Link)) (n : Numbers) (k : ℕ) : Type 
 pub record Adds (es : List Event) (old new : State) : Type 0 where
   pub events : events new ≡ events old ++ es
   pub limit : new.max_sites ≡ old.max_sites
+
+-- the first of these events is refused for this, or memory lacks
+abbrev pub IsRefusedNext : List Event → State → Refusal → Type 0
+IsRefusedNext [] core r = r ≡ Memory
+IsRefusedNext (e ∷ es) core r = IsRefusedIn core e r
+
+-- it has accepted a front of these events and no others, and refuses the next of them for this, or memory lacks
+pub record IsStoppedAt (es : List Event) (old new : State) (r : Refusal) : Type 0 where
+  pub done : List Event
+  pub left : List Event
+  pub are : es ≡ done ++ left
+  pub adds : Adds done old new
+  pub refused : IsRefusedNext left new r
 
 -- it has installed these links, and nothing else
 pub record Installs (rows : List (ℕ × Link)) (old new : State) : Type 0 where

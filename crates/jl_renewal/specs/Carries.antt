@@ -117,6 +117,11 @@ IsUncarried w entry n before Gone = carried_event w n entry ≡ None
 IsUncarried w entry n before (Refused r) =
     (r ≡ Memory) ⊎ ((e : Event) × (carried_event w n entry ≡ Some e) × (verdict before.max_sites (world_of before) e ≡ Err r))
 
+-- the numbers afterwards: what a gone entry made is noted as gone, so that what comes later keeps its own place
+abbrev pub AreLeft : Made → Numbers → Numbers → CarryFault → Type 0
+AreLeft old n m Gone = m ≡ with_made n old None
+AreLeft old n m (Refused r) = m ≡ n
+
 -- of an event
 abbrev pub IsFaultOf : Event → State → CarryFault → Type 0
 IsFaultOf e before Gone = ⊥

@@ -1,4 +1,4 @@
--- `Numbers`, `Staying`, `Renewal`, `Renewed`, `Carries` and `Moved` are what contracts cite; the others are means of proof.
+-- `Numbers`, `Staying`, `Renewal`, `Renewed`, `Carries`, `Moved`, `Told` and `Adds` are what contracts cite; `Marks` is a means of proof.
 pub mod Numbers
 pub mod Staying
 pub mod Renewal

@@ -11,6 +11,9 @@ use Rattle.jl_types.specs.Values.Members.{is_present, is_retired}
 use Rattle.jl_types.specs.Events.Event.{Event}
 use Rattle.jl_relink.specs.Laws.{AreAccepted}
 use Rattle.jl_core.specs.State.{State, events, world_of}
+use Rattle.jl_types.specs.declared.refusal.Refusal.TheVariants.{Memory}
+use Rattle.jl_renewal.specs.declared.entries.CarryFault.{CarryFault}
+use Rattle.jl_renewal.specs.declared.entries.CarryFault.TheVariants.{Gone, Refused}
 use Rattle.jl_renewal.specs.declared.released.Released.{Released}
 use Rattle.jl_renewal.specs.Numbers.{Numbers}
 use Rattle.jl_renewal.specs.Staying.{staying_loaders, staying_classes, staying_sites, staying_call_sites, staying_switches}
@@ -196,3 +199,8 @@ pub record IsBeside (k : Flags) (old fresh : State) (n : Numbers) : Type 0 where
   pub limit : old.max_sites ≤ fresh.max_sites
   pub world : world_of fresh ≡ moved_world k (world_of old)
   pub numbers : n ≡ all_numbers k (world_of old)
+
+-- why an event that the old core accepts isn't carried over to a fresh one beside it: it may name what is gone, and does; or memory lacks
+abbrev pub IsFaultBeside : Event → CarryFault → Type 0
+IsFaultBeside e Gone = may_be_gone e ≡ true
+IsFaultBeside e (Refused r) = r ≡ Memory

@@ -1,10 +1,10 @@
 //! The events that make the switch points and call sites.
 
-ghost use Rattle.std.specs.Prelude.{◌≡◌, option_map, option_to_list, IfOk, OnOk};
+ghost use Rattle.std.specs.Prelude.{◌≡◌, option_map, option_to_list, IfOk, IfErr, OnOk};
 ghost use Rattle.jl_types.specs.declared.event.EventOf.TheVariants as event;
 ghost use Rattle.jl_renewal.specs.Renewal as renewal;
 ghost use Rattle.jl_renewal.specs.Renewal.{new_switches, invalidation, new_call_sites};
-ghost use Rattle.jl_renewal.specs.Adds.{MayAdd, Adds};
+ghost use Rattle.jl_renewal.specs.Adds.{Adds, IsStoppedAt};
 
 use crate::apply::add_if_any;
 use crate::links::push_if_any;
@@ -13,17 +13,17 @@ use crate::targets::renumbered_target;
 use jl_callsites::Sites;
 use jl_core::EventMachine;
 use jl_names::Seq;
-use jl_types::{CallSiteId, Event, SwitchId};
+use jl_types::{CallSiteId, Event, Refusal, SwitchId};
 use std::alloc::{AllocError, Global};
 
-/// Makes the switch points that stay. Want of memory is an error.
+/// Makes the switch points that stay. A refusal is the error.
 pub(crate) fn add_switches<M: EventMachine>(
     alloc: Global,
     fresh: &mut M,
     numbers: &[Option<u32>],
-) -> Result<(), AllocError>
-    requires { MayAdd (new_switches numbers.now) (M.state fresh.old) }
-    ensures { OnOk result (Adds (new_switches numbers.now) (M.state fresh.old) (M.state fresh.new)) }
+) -> Result<(), Refusal>
+    ensures adds { OnOk result (Adds (new_switches numbers.now) (M.state fresh.old) (M.state fresh.new)) }
+    ensures stops { IfErr result (IsStoppedAt (new_switches numbers.now) (M.state fresh.old) (M.state fresh.new)) }
 {
     for number in numbers {
         add_if_any(alloc, fresh, switch_event(*number))?;
@@ -41,15 +41,15 @@ fn switch_event(number: Option<u32>) -> Option<Event>
     }
 }
 
-/// Makes those of them invalid that are. Want of memory is an error.
+/// Makes those of them invalid that are. A refusal is the error.
 pub(crate) fn add_invalidation<M: EventMachine>(
     alloc: Global,
     fresh: &mut M,
     old: &Sites,
     numbers: &Renumbering,
-) -> Result<(), AllocError>
-    requires { MayAdd (invalidation (renewal.invalid_points old.now numbers.now)) (M.state fresh.old) }
-    ensures { OnOk result (Adds (invalidation (renewal.invalid_points old.now numbers.now)) (M.state fresh.old) (M.state fresh.new)) }
+) -> Result<(), Refusal>
+    ensures adds { OnOk result (Adds (invalidation (renewal.invalid_points old.now numbers.now)) (M.state fresh.old) (M.state fresh.new)) }
+    ensures stops { IfErr result (IsStoppedAt (invalidation (renewal.invalid_points old.now numbers.now)) (M.state fresh.old) (M.state fresh.new)) }
 {
     let points = invalid_points(alloc, old, numbers)?;
     add_if_any(alloc, fresh, invalidation_of(points))
@@ -91,15 +91,15 @@ fn invalid_point(old: &Sites, numbers: &Renumbering, point: SwitchId) -> Option<
     if old.is_valid(point) { None } else { Some(new) }
 }
 
-/// Makes the call sites that stay. Want of memory is an error.
+/// Makes the call sites that stay. A refusal is the error.
 pub(crate) fn add_call_sites<M: EventMachine>(
     alloc: Global,
     fresh: &mut M,
     old: &Sites,
     numbers: &Renumbering,
-) -> Result<(), AllocError>
-    requires { MayAdd (new_call_sites old.now numbers.now) (M.state fresh.old) }
-    ensures { OnOk result (Adds (new_call_sites old.now numbers.now) (M.state fresh.old) (M.state fresh.new)) }
+) -> Result<(), Refusal>
+    ensures adds { OnOk result (Adds (new_call_sites old.now numbers.now) (M.state fresh.old) (M.state fresh.new)) }
+    ensures stops { IfErr result (IsStoppedAt (new_call_sites old.now numbers.now) (M.state fresh.old) (M.state fresh.new)) }
 {
     for number in 0..old.few_call_sites() {
         let event = call_site_event(alloc, old, numbers, CallSiteId::new(number as u32))?;

@@ -1,11 +1,11 @@
 //! The events that make the loaders and classes.
 
-ghost use Rattle.std.specs.Prelude.{◌≡◌, drop, option_map, option_and_then, option_copied, IfOk, OnOk};
+ghost use Rattle.std.specs.Prelude.{◌≡◌, drop, option_map, option_and_then, option_copied, IfOk, IfErr, OnOk};
 ghost use Rattle.jl_types.specs.declared.event.EventOf.TheVariants as event;
 ghost use Rattle.jl_renewal.specs.Numbers as numbering;
 ghost use Rattle.jl_renewal.specs.Renewal as renewal;
 ghost use Rattle.jl_renewal.specs.Renewal.{new_loaders};
-ghost use Rattle.jl_renewal.specs.Adds.{MayAdd, Adds};
+ghost use Rattle.jl_renewal.specs.Adds.{Adds, IsStoppedAt};
 ghost use Rattle.jl_renewal.specs.Told.{accepted_event, told_events};
 
 use crate::apply::add_if_any;
@@ -14,17 +14,17 @@ use jl_core::{Accepted, Entry, EventMachine};
 use jl_hierarchy::Classes;
 use jl_names::Name;
 use jl_relink::World;
-use jl_types::{Class, Event, LoaderId};
+use jl_types::{Class, Event, LoaderId, Refusal};
 use std::alloc::{AllocError, Global};
 
-/// Makes the loaders that stay, but for loader 0, which is there. Want of memory is an error.
+/// Makes the loaders that stay, but for loader 0, which is there. A refusal is the error.
 pub(crate) fn add_loaders<M: EventMachine>(
     alloc: Global,
     fresh: &mut M,
     numbers: &[Option<u32>],
-) -> Result<(), AllocError>
-    requires { MayAdd (new_loaders numbers.now) (M.state fresh.old) }
-    ensures { OnOk result (Adds (new_loaders numbers.now) (M.state fresh.old) (M.state fresh.new)) }
+) -> Result<(), Refusal>
+    ensures adds { OnOk result (Adds (new_loaders numbers.now) (M.state fresh.old) (M.state fresh.new)) }
+    ensures stops { IfErr result (IsStoppedAt (new_loaders numbers.now) (M.state fresh.old) (M.state fresh.new)) }
 {
     let others = others(numbers);
     for number in others {
@@ -53,16 +53,16 @@ fn loader_event(number: Option<u32>) -> Option<Event>
     }
 }
 
-/// Defines the classes that stay, and lets their loaders delegate as the old ones did, in the log's order. Want of memory is an error.
+/// Defines the classes that stay, and lets their loaders delegate as the old ones did, in the log's order. A refusal is the error.
 pub(crate) fn add_classes<M: EventMachine>(
     alloc: Global,
     fresh: &mut M,
     old: &World,
     numbers: &Renumbering,
     log: &[Entry],
-) -> Result<(), AllocError>
-    requires { MayAdd (told_events old.now numbers.now log.now) (M.state fresh.old) }
-    ensures { OnOk result (Adds (told_events old.now numbers.now log.now) (M.state fresh.old) (M.state fresh.new)) }
+) -> Result<(), Refusal>
+    ensures adds { OnOk result (Adds (told_events old.now numbers.now log.now) (M.state fresh.old) (M.state fresh.new)) }
+    ensures stops { IfErr result (IsStoppedAt (told_events old.now numbers.now log.now) (M.state fresh.old) (M.state fresh.new)) }
 {
     for entry in log {
         let event = class_event(alloc, old, numbers, entry.event())?;

@@ -1,21 +1,26 @@
 //! Events that an old core has accepted since its renewal began.
 
-ghost use Rattle.std.specs.Prelude.{◌≡◌, OnOk, OnErr, IfErr};
+ghost use Rattle.std.specs.Prelude.{◌≡◌, OnOk, OnErr, IfErr, Some, None, IsOk};
+ghost use Rattle.jl_types.specs.Events.Event.{Event};
+ghost use Rattle.jl_types.specs.Events.Verdict.{verdict};
+ghost use Rattle.jl_events.specs.Accepted.{event_of};
+ghost use Rattle.jl_core.specs.State.{State, world_of};
 ghost use Rattle.jl_renewal.specs.Carries as carries;
-ghost use Rattle.jl_renewal.specs.Carries.{IsMade, IsNoted, IsCarried, IsUncarried, IsTaken};
+ghost use Rattle.jl_renewal.specs.Carries.{IsMade, IsNoted, IsCarried, IsUncarried, IsTaken, AreLeft, with_made, with_number};
+ghost use Rattle.jl_renewal.specs.Moved.{Flags, IsBeside, IsFaultBeside};
 
 use crate::carried::carried_event;
 use crate::numbers::Renumbering;
 use jl_core::{Accepted, Entry, EventMachine};
 use jl_relink::World;
 use jl_types::{Event, Made, Refusal};
-use std::alloc::Global;
+use std::alloc::{AllocError, Global};
 
 /// Why an entry isn't carried over.
 #[derive(Debug, Drop)]
 pub enum CarryFault {
-    /// It names what the fresh core doesn't have: a call site or switch point that was released, or what an entry made that wasn't
-    /// carried.
+    /// It names what the fresh core doesn't have: a call site or switch point that was released, or what an entry made that is gone
+    /// itself. What it made is noted as gone, so that what later entries make keeps its number.
     Gone,
     /// The fresh core refuses the event: for want of memory alone, if it stands beside the old core
     /// ([`fresh_cores_stay_beside`](crate::fresh_cores_stay_beside)).
@@ -28,7 +33,8 @@ pub enum CarryFault {
 ///
 /// # Errors
 ///
-/// [`CarryFault`]; want of memory is a refusal. The fresh core and the numbers are as before then.
+/// [`CarryFault`]; want of memory is a refusal. The fresh core is as before then. So are the numbers after a refusal. Where the fresh core
+/// stands beside the old one as that accepts the entry, want of memory is the only refusal. Then only an event of a call site can be gone.
 pub fn carry<M: EventMachine>(
     alloc: Global,
     fresh: &mut M,
@@ -38,17 +44,51 @@ pub fn carry<M: EventMachine>(
 ) -> Result<(), CarryFault>
     ensures carried { OnOk result (IsCarried old.now entry.now numbers.old numbers.new (M.state fresh.old) (M.state fresh.new)) }
     ensures uncarried { IfErr result (IsUncarried old.now entry.now numbers.old (M.state fresh.old)) }
-    ensures numbers { OnErr result (numbers.new ≡ numbers.old) }
+    ensures numbers { IfErr result (AreLeft entry.now.reply.made numbers.old numbers.new) }
     ensures unchanged { OnErr result (M.state fresh.new ≡ M.state fresh.old) }
+    ensures beside { (k : Flags) (before : State) (e : Event) → IsBeside k before (M.state fresh.old) numbers.old
+        → event_of old.now.classes.rows entry.now.event ≡ Some e → IsOk (verdict before.max_sites (world_of before) e) → IfErr result (IsFaultBeside e) }
 {
     if let Accepted::Install(_) = entry.event() {
         return Ok(());
     }
     match carried_event(alloc, numbers, old, entry.event()) {
         Ok(Some(event)) => accept_or_fault(alloc, fresh, numbers, event, entry.reply().made),
-        Ok(None) => Err(CarryFault::Gone),
+        Ok(None) => match note_gone(numbers, entry.reply().made) {
+            Ok(()) => Err(CarryFault::Gone),
+            Err(_) => Err(CarryFault::Refused(Refusal::Memory)),
+        },
         Err(_) => Err(CarryFault::Refused(Refusal::Memory)),
     }
+}
+
+/// The numbers have it that what an old event made is gone, if its number is the next one there. Want of memory is an error; the numbers
+/// are as before then.
+fn note_gone(numbers: &mut Renumbering, made: Made) -> Result<(), AllocError>
+    ensures noted { OnOk result (numbers.new ≡ with_made numbers.old made None) }
+    ensures lacks { OnErr result (numbers.new ≡ numbers.old) }
+{
+    match made {
+        Made::Nothing => Ok(()),
+        Made::Loader(old) => note_none(&mut numbers.loaders, old.number()),
+        Made::Class(old) => note_none(&mut numbers.classes, old.number()),
+        Made::Site(old) => note_none(&mut numbers.sites, old.number()),
+        Made::CallSite(old) => note_none(&mut numbers.call_sites, old.number()),
+        Made::Switch(old) => note_none(&mut numbers.switches, old.number()),
+    }
+}
+
+/// The list has none for the old number, if that is the next one there. Want of memory is an error; the list is as before then.
+fn note_none(numbers: &mut Vec<Option<u32>>, old: u32) -> Result<(), AllocError>
+    ensures noted { OnOk result (numbers.new.items ≡ with_number numbers.old.items old None) }
+    ensures lacks { OnErr result (numbers.new.items ≡ numbers.old.items) }
+{
+    if old as usize != numbers.len() {
+        return Ok(());
+    }
+    numbers.reserve(1)?;
+    numbers.push_reserved(None);
+    Ok(())
 }
 
 /// [`accept_made`], whose refusal is told as a fault.
@@ -61,7 +101,7 @@ fn accept_or_fault<M: EventMachine>(
 ) -> Result<(), CarryFault>
     ensures made { OnOk result (IsMade event made numbers.old numbers.new (M.state fresh.old) (M.state fresh.new)) }
     ensures fault { IfErr result (carries.IsFaultOf event (M.state fresh.old)) }
-    ensures numbers { OnErr result (numbers.new ≡ numbers.old) }
+    ensures numbers { IfErr result (AreLeft made numbers.old numbers.new) }
     ensures unchanged { OnErr result (M.state fresh.new ≡ M.state fresh.old) }
 {
     match accept_made(alloc, fresh, numbers, event, made) {

@@ -3,7 +3,8 @@
 //! A core's log only grows, and its numbers are never given again. So a process that runs for long goes over to a fresh core from time
 //! to time. `specs/Numbers` says how what stays is numbered, `specs/Staying` what stays, `specs/Renewal` by which events the fresh core
 //! comes to be, and `specs/Renewed` what there is to link in it then. `specs/Carries` says what an event of the old core is there, and
-//! `specs/Moved` what there is after such events. The other definitions here are means of proof.
+//! `specs/Moved` what there is after such events. `specs/Told` and `specs/Adds` say what a refusal leaves. The other definitions here are
+//! means of proof.
 #![tactic(auto)]
 
 mod apply;
@@ -29,4 +30,4 @@ pub use laws::{
 pub use links::{fresh_links, install_all};
 pub use numbers::Renumbering;
 pub use released::Released;
-pub use renewal::{refill, renew};
+pub use renewal::{refill, renew, try_refill};

@@ -1,25 +1,25 @@
 //! The events that request places and bind invokedynamics.
 
-ghost use Rattle.std.specs.Prelude.{◌≡◌, filter_map, OnOk};
+ghost use Rattle.std.specs.Prelude.{◌≡◌, filter_map, OnOk, IfErr};
 ghost use Rattle.jl_renewal.specs.Renewal as renewal;
-ghost use Rattle.jl_renewal.specs.Adds.{MayAdd, Adds};
+ghost use Rattle.jl_renewal.specs.Adds.{Adds, IsStoppedAt};
 
 use crate::apply::add_if_any;
 use crate::numbers::Renumbering;
 use indexmap::{IndexMap, IndexSet};
 use jl_core::EventMachine;
-use jl_types::{CallSiteId, Event, Place, SiteNo};
-use std::alloc::{AllocError, Global};
+use jl_types::{CallSiteId, Event, Place, Refusal, SiteNo};
+use std::alloc::Global;
 
-/// Requests the places in classes that stay, in order. Want of memory is an error.
+/// Requests the places in classes that stay, in order. A refusal is the error.
 pub(crate) fn add_requests<M: EventMachine>(
     alloc: Global,
     fresh: &mut M,
     places: &IndexSet<Place>,
     numbers: &Renumbering,
-) -> Result<(), AllocError>
-    requires { MayAdd (filter_map (renewal.request numbers.now) places.now.keys) (M.state fresh.old) }
-    ensures { OnOk result (Adds (filter_map (renewal.request numbers.now) places.now.keys) (M.state fresh.old) (M.state fresh.new)) }
+) -> Result<(), Refusal>
+    ensures adds { OnOk result (Adds (filter_map (renewal.request numbers.now) places.now.keys) (M.state fresh.old) (M.state fresh.new)) }
+    ensures stops { IfErr result (IsStoppedAt (filter_map (renewal.request numbers.now) places.now.keys) (M.state fresh.old) (M.state fresh.new)) }
 {
     let places = places.as_slice();
     for place in places {
@@ -40,15 +40,15 @@ pub(crate) fn request(numbers: &Renumbering, place: &Place) -> Option<Event>
     }))
 }
 
-/// Binds the invokedynamics that stay, in order. Want of memory is an error.
+/// Binds the invokedynamics that stay, in order. A refusal is the error.
 pub(crate) fn add_bindings<M: EventMachine>(
     alloc: Global,
     fresh: &mut M,
     bindings: &IndexMap<SiteNo, CallSiteId>,
     numbers: &Renumbering,
-) -> Result<(), AllocError>
-    requires { MayAdd (filter_map (renewal.binding numbers.now) bindings.now.entries) (M.state fresh.old) }
-    ensures { OnOk result (Adds (filter_map (renewal.binding numbers.now) bindings.now.entries) (M.state fresh.old) (M.state fresh.new)) }
+) -> Result<(), Refusal>
+    ensures adds { OnOk result (Adds (filter_map (renewal.binding numbers.now) bindings.now.entries) (M.state fresh.old) (M.state fresh.new)) }
+    ensures stops { IfErr result (IsStoppedAt (filter_map (renewal.binding numbers.now) bindings.now.entries) (M.state fresh.old) (M.state fresh.new)) }
 {
     let bound: Vec<(SiteNo, CallSiteId)> = bindings
         .iter()
@@ -57,15 +57,15 @@ pub(crate) fn add_bindings<M: EventMachine>(
     add_each(alloc, fresh, bound.as_slice(), numbers)
 }
 
-/// Binds those of these that stay, in order. Want of memory is an error.
+/// Binds those of these that stay, in order. A refusal is the error.
 fn add_each<M: EventMachine>(
     alloc: Global,
     fresh: &mut M,
     bound: &[(SiteNo, CallSiteId)],
     numbers: &Renumbering,
-) -> Result<(), AllocError>
-    requires { MayAdd (filter_map (renewal.binding numbers.now) bound.now) (M.state fresh.old) }
-    ensures { OnOk result (Adds (filter_map (renewal.binding numbers.now) bound.now) (M.state fresh.old) (M.state fresh.new)) }
+) -> Result<(), Refusal>
+    ensures adds { OnOk result (Adds (filter_map (renewal.binding numbers.now) bound.now) (M.state fresh.old) (M.state fresh.new)) }
+    ensures stops { IfErr result (IsStoppedAt (filter_map (renewal.binding numbers.now) bound.now) (M.state fresh.old) (M.state fresh.new)) }
 {
     for one in bound {
         add_if_any(alloc, fresh, binding(numbers, one.0, one.1))?;

@@ -1,9 +1,9 @@
 //! A fresh core that has what stays of an old one.
 
-ghost use Rattle.std.specs.Prelude.{◌≡◌, ◌≤◌, ◌++◌, IfOk, IfErr, OnOk};
-ghost use Rattle.jl_renewal.specs.Renewal.{IsRenewal, IsRefusedRenewal, IsPast, IsRefilled, new_loaders, site_events};
-ghost use Rattle.jl_renewal.specs.Told.{told_events};
-ghost use Rattle.jl_renewal.specs.Adds.{MayAdd, Adds};
+ghost use Rattle.std.specs.Prelude.{◌≡◌, ◌≤◌, IfOk, IfErr, OnOk};
+ghost use Rattle.jl_renewal.specs.Renewal.{IsRenewal, IsRefusedRenewal, IsPast, IsRefilled, site_events};
+ghost use Rattle.jl_renewal.specs.Told.{told_renewal, IsFilledFrom, IsPartlyFilled};
+ghost use Rattle.jl_renewal.specs.Adds.{Adds, IsStoppedAt};
 ghost use Rattle.jl_core.specs.State.{world_of, empty_core};
 
 use crate::call_sites::{add_call_sites, add_invalidation, add_switches};
@@ -16,7 +16,7 @@ use crate::stays::renumbering;
 use jl_core::{Core, Entry, EventMachine};
 use jl_relink::World;
 use jl_types::Refusal;
-use std::alloc::{AllocError, Global};
+use std::alloc::Global;
 
 /// A fresh core that has what stays of the old one, in the same order, under new numbers; so many places may be requested there. What
 /// stays are the loaders that aren't retired with their classes and the sites in these, and of the call sites and switch points those that
@@ -49,7 +49,7 @@ pub fn renew(
 ///
 /// # Errors
 ///
-/// Those of [`renew`].
+/// Those of [`renew`]. The fresh core has accepted a front of the renewal's events then, and no others.
 pub fn refill<M: EventMachine>(
     alloc: Global,
     fresh: &mut M,
@@ -62,6 +62,32 @@ pub fn refill<M: EventMachine>(
     requires empty { M.state fresh.old ≡ empty_core max_sites }
     ensures refilled { IfOk result (λ numbers. IsRefilled old.now log.now released.now numbers (M.state fresh.old) (M.state fresh.new)) }
     ensures refused { IfErr result (IsRefusedRenewal old.now max_sites) }
+    ensures stops { IfErr result (IsPartlyFilled old.now log.now released.now max_sites (M.state fresh.old) (M.state fresh.new)) }
+{
+    try_refill(alloc, fresh, old, log, released, max_sites)
+}
+
+/// As [`refill`], where nobody has shown that the world and the log are one past. An event may be refused then, and that refusal is the
+/// error.
+///
+/// # Errors
+///
+/// `SitesFull` where more sites stay than may be requested there; want of memory; the refusal of an event. The fresh core has accepted those
+/// before it then, and no others.
+pub fn try_refill<M: EventMachine>(
+    alloc: Global,
+    fresh: &mut M,
+    old: &World,
+    log: &[Entry],
+    released: &Released,
+    max_sites: u32,
+) -> Result<Renumbering, Refusal>
+    requires empty { M.state fresh.old ≡ empty_core max_sites }
+    ensures added { IfOk result (λ numbers. IsFilledFrom old.now log.now released.now numbers (M.state fresh.old) (M.state fresh.new)) }
+    ensures past { IsPast old.now log.now
+        → IfOk result (λ numbers. IsRefilled old.now log.now released.now numbers (M.state fresh.old) (M.state fresh.new)) }
+    ensures refused { IsPast old.now log.now → IfErr result (IsRefusedRenewal old.now max_sites) }
+    ensures stops { IfErr result (IsPartlyFilled old.now log.now released.now max_sites (M.state fresh.old) (M.state fresh.new)) }
 {
     // Shows that what is present rests on what is present.
     let _classes = old.classes.count_in_order();
@@ -70,17 +96,16 @@ pub fn refill<M: EventMachine>(
     Ok(numbers)
 }
 
-/// Gives the fresh core what stays of the old one, but for the links. Want of memory is an error.
+/// Gives the fresh core what stays of the old one, but for the links. A refusal is the error.
 fn add_all<M: EventMachine>(
     alloc: Global,
     fresh: &mut M,
     old: &World,
     log: &[Entry],
     numbers: &Renumbering,
-) -> Result<(), AllocError>
-    requires { MayAdd (new_loaders numbers.now.loaders ++ (told_events old.now numbers.now log.now ++ site_events old.now numbers.now)) (M.state fresh.old) }
-    ensures { OnOk result (Adds (new_loaders numbers.now.loaders ++ (told_events old.now numbers.now log.now ++ site_events old.now numbers.now))
-        (M.state fresh.old) (M.state fresh.new)) }
+) -> Result<(), Refusal>
+    ensures adds { OnOk result (Adds (told_renewal old.now numbers.now log.now) (M.state fresh.old) (M.state fresh.new)) }
+    ensures stops { IfErr result (IsStoppedAt (told_renewal old.now numbers.now log.now) (M.state fresh.old) (M.state fresh.new)) }
 {
     add_loaders(alloc, fresh, numbers.loaders.as_slice())?;
     add_classes(alloc, fresh, old, numbers, log)?;
@@ -88,15 +113,15 @@ fn add_all<M: EventMachine>(
     Ok(())
 }
 
-/// Makes the switch points and call sites, requests the places and binds the invokedynamics. Want of memory is an error.
+/// Makes the switch points and call sites, requests the places and binds the invokedynamics. A refusal is the error.
 fn add_sites<M: EventMachine>(
     alloc: Global,
     fresh: &mut M,
     old: &World,
     numbers: &Renumbering,
-) -> Result<(), AllocError>
-    requires { MayAdd (site_events old.now numbers.now) (M.state fresh.old) }
-    ensures { OnOk result (Adds (site_events old.now numbers.now) (M.state fresh.old) (M.state fresh.new)) }
+) -> Result<(), Refusal>
+    ensures adds { OnOk result (Adds (site_events old.now numbers.now) (M.state fresh.old) (M.state fresh.new)) }
+    ensures stops { IfErr result (IsStoppedAt (site_events old.now numbers.now) (M.state fresh.old) (M.state fresh.new)) }
 {
     add_switches(alloc, fresh, numbers.switches.as_slice())?;
     add_invalidation(alloc, fresh, &old.sites, numbers)?;

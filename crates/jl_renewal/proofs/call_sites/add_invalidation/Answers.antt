@@ -1,11 +1,10 @@
-use Rattle.std.specs.Prelude.{List}
-use Rattle.std.proofs.Common.{ap, sym, subst, ◌∙◌}
-use Rattle.jl_types.specs.Events.Event.{Event}
-use Rattle.jl_renewal.specs.Renewal.{invalidation}
-use Rattle.jl_renewal.specs.Adds.{MayAdd}
+use Rattle.std.proofs.lemmas.Result.{err_from_is_err_and}
+use Rattle.jl_renewal.specs.Renewal.{invalidation, invalid_points}
+use Rattle.jl_renewal.proofs.StopLaws.{stopped_before}
 use Rattle.jl_renewal.proofs.call_sites.add_invalidation.Goals as goal
 
-pub add_if_any-requires : goal.add_if_any-requires
-add_if_any-requires g c =
-    subst (λ (es : List Event). MayAdd es (g.M.EventMachine.state c.args.fresh.now))
-    (sym (c.invalidation_of.ensures ∙ ap invalidation c.in_ok-points.ensures)) c.requires
+pub returns-in_err-points-clause-stops : goal.returns-in_err-points-clause-stops
+returns-in_err-points-clause-stops g c =
+    let p = err_from_is_err_and c.from_residual.result c.from_residual.ensures.1 in
+    rw (p.1)
+    (stopped_before (invalidation (invalid_points c.args.old.now c.args.numbers.now)) _ _ p.2)

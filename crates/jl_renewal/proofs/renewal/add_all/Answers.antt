@@ -1,36 +1,37 @@
-use Rattle.std.specs.Prelude.{ℕ, ◌++◌, List, Option}
-use Rattle.std.proofs.Common.{ap, sym, subst, ◌∙◌}
+use Rattle.std.specs.Prelude.{◌++◌}
+use Rattle.std.proofs.Common.{ap, ◌∙◌}
+use Rattle.std.proofs.lemmas.Result.{err_from_is_err_and}
 use Rattle.jl_renewal.specs.Numbers.{Numbers}
 use Rattle.jl_renewal.specs.Renewal.{new_loaders, site_events}
 use Rattle.jl_renewal.specs.Told.{told_events}
-use Rattle.jl_renewal.specs.Adds.{MayAdd}
 use Rattle.jl_renewal.proofs.AddLaws.{adds_as}
-use Rattle.jl_renewal.proofs.FollowLaws.{may_first, may_then}
+use Rattle.jl_renewal.proofs.StopLaws.{stopped_as, stopped_first, stopped_then}
 use Rattle.jl_renewal.proofs.renewal.add_all.Goals as goal
 
-pub add_loaders-requires : goal.add_loaders-requires
-add_loaders-requires g c =
-    let told = told_events c.args.old.now c.args.numbers.now c.args.log.now in
-    let sites = site_events c.args.old.now c.args.numbers.now in
-    subst (λ (numbers : List (Option ℕ)). MayAdd (new_loaders numbers) (g.M.EventMachine.state c.args.fresh.now))
-    (sym (c.as_slice.ensures.value ∙ ap (λ (n : Numbers). n.loaders) c.numbers.view_is))
-    (may_first (new_loaders c.args.numbers.now.loaders) (told ++ sites) (g.M.EventMachine.state c.args.fresh.now) c.requires)
+pub returns-in_err-add_loaders-clause-stops : goal.returns-in_err-add_loaders-clause-stops
+returns-in_err-add_loaders-clause-stops g c =
+    let p = err_from_is_err_and c.from_residual.result c.from_residual.ensures.1 in
+    rw (p.1, p.2)
+    (stopped_first (new_loaders c.args.numbers.now.loaders)
+    (told_events c.args.old.now c.args.numbers.now c.args.log.now ++ site_events c.args.old.now c.args.numbers.now) _ _ _
+    (stopped_as new_loaders (c.as_slice.ensures.value ∙ ap (λ (n : Numbers). n.loaders) c.numbers.view_is) c.in_err-add_loaders.ensures.stops))
 
-pub add_classes-requires : goal.add_classes-requires
-add_classes-requires g c =
-    let told = told_events c.args.old.now c.args.numbers.now c.args.log.now in
-    let sites = site_events c.args.old.now c.args.numbers.now in
-    may_first told sites (g.M.EventMachine.state c.add_loaders.new.fresh)
-    (may_then (new_loaders c.args.numbers.now.loaders) (told ++ sites) (g.M.EventMachine.state c.args.fresh.now)
-    (g.M.EventMachine.state c.add_loaders.new.fresh) c.requires
-    (adds_as new_loaders (c.as_slice.ensures.value ∙ ap (λ (n : Numbers). n.loaders) c.numbers.view_is) c.in_ok-add_loaders.ensures))
+pub returns-in_err-add_classes-clause-stops : goal.returns-in_err-add_classes-clause-stops
+returns-in_err-add_classes-clause-stops g c =
+    let p = err_from_is_err_and c.from_residual-in_err-add_classes.result c.from_residual-in_err-add_classes.ensures.1 in
+    rw (p.1, p.2)
+    (stopped_then (new_loaders c.args.numbers.now.loaders)
+    (told_events c.args.old.now c.args.numbers.now c.args.log.now ++ site_events c.args.old.now c.args.numbers.now) _ _ _ _
+    (adds_as new_loaders (c.as_slice.ensures.value ∙ ap (λ (n : Numbers). n.loaders) c.numbers.view_is) c.in_ok-add_loaders.ensures.adds)
+    (stopped_first (told_events c.args.old.now c.args.numbers.now c.args.log.now) (site_events c.args.old.now c.args.numbers.now) _ _ _
+    c.in_err-add_classes.ensures.stops))
 
-pub add_sites-requires : goal.add_sites-requires
-add_sites-requires g c =
-    let told = told_events c.args.old.now c.args.numbers.now c.args.log.now in
-    let sites = site_events c.args.old.now c.args.numbers.now in
-    may_then told sites (g.M.EventMachine.state c.add_loaders.new.fresh) (g.M.EventMachine.state c.add_classes.new.fresh)
-    (may_then (new_loaders c.args.numbers.now.loaders) (told ++ sites) (g.M.EventMachine.state c.args.fresh.now)
-    (g.M.EventMachine.state c.add_loaders.new.fresh) c.requires
-    (adds_as new_loaders (c.as_slice.ensures.value ∙ ap (λ (n : Numbers). n.loaders) c.numbers.view_is) c.in_ok-add_loaders.ensures))
-    c.in_ok-add_classes.ensures
+pub returns-in_err-add_sites-clause-stops : goal.returns-in_err-add_sites-clause-stops
+returns-in_err-add_sites-clause-stops g c =
+    let p = err_from_is_err_and c.from_residual-in_err-add_sites.result c.from_residual-in_err-add_sites.ensures.1 in
+    rw (p.1, p.2)
+    (stopped_then (new_loaders c.args.numbers.now.loaders)
+    (told_events c.args.old.now c.args.numbers.now c.args.log.now ++ site_events c.args.old.now c.args.numbers.now) _ _ _ _
+    (adds_as new_loaders (c.as_slice.ensures.value ∙ ap (λ (n : Numbers). n.loaders) c.numbers.view_is) c.in_ok-add_loaders.ensures.adds)
+    (stopped_then (told_events c.args.old.now c.args.numbers.now c.args.log.now) (site_events c.args.old.now c.args.numbers.now) _ _ _ _
+    c.in_ok-add_classes.ensures.adds c.in_err-add_sites.ensures.stops))
