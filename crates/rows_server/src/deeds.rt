@@ -3,6 +3,7 @@
 use crate::deeds::Class::*;
 use crate::deeds::Deed::*;
 use jl_class::ClassFile;
+use jl_names::Seq;
 use jl_relink::Prepared;
 use jl_types::{
     CallSiteId, CallSiteKind, ClassId, Event, LoaderId, MethodId, Place, PrepareFault, SiteNo,
@@ -119,16 +120,22 @@ pub(crate) enum Deed {
     Delegate(u32, Class),
     /// The request of the instruction at this pc of the class's first method.
     Request(u32, u32),
-    /// A mutable call site more, of class 1's method 1.
-    CallSite,
-    /// The call site of this number is bound to the invokedynamic of this number.
-    Bind(u32),
+    /// A mutable call site more, of the class's method 1.
+    CallSite(u32),
+    /// A mutable call site more, of the class's method 1 while the switch point of this number is valid, and of its method 2 from then on.
+    Guarded(u32, u32),
+    /// The invokedynamic of this number is bound to the call site of that number.
+    Bind(u32, u32),
     /// The call site of this number gets this method of class 1.
     Retarget(u32, u16),
+    /// The call site of this number gets what a guarded one has, of this switch point and class.
+    Guard(u32, u32, u32),
     /// The sites whose bits are set get the links that they have from scratch then.
     Install(u64),
     /// A new switch point.
     Switch,
+    /// The switch point of this number becomes invalid.
+    Invalidate(u32),
     /// The loader goes.
     Retire(u32),
 }
@@ -147,18 +154,18 @@ pub(crate) const ONE_SITE: &[Deed] = &[
 pub(crate) const DYNAMIC: &[Deed] = &[
     Define(0, Object),
     Define(0, T),
-    CallSite,
-    CallSite,
-    CallSite,
-    CallSite,
+    CallSite(1),
+    CallSite(1),
+    CallSite(1),
+    CallSite(1),
     Request(1, 0),
     Request(1, 5),
     Request(1, 10),
     Request(1, 15),
-    Bind(0),
-    Bind(1),
-    Bind(2),
-    Bind(3),
+    Bind(0, 0),
+    Bind(1, 1),
+    Bind(2, 2),
+    Bind(3, 3),
 ];
 
 /// The four calls of W 1, without links.
@@ -205,6 +212,21 @@ pub(crate) fn method(class: u32, index: u16) -> MethodId {
     }
 }
 
+/// The class's method 1 while the switch point is valid, and its method 2 from then on.
+fn guard(alloc: Global, point: u32, class: u32) -> Result<Target, AllocError> {
+    let first = Box::new(alloc, Target::method(method(class, 1)))?;
+    let fallback = Box::new(alloc, Target::method(method(class, 2)))?;
+    Ok(Target::guard(SwitchId::new(point), first, fallback))
+}
+
+/// A mutable call site more, of this target, if it is there.
+fn call_site(alloc: Global, target: Result<Target, AllocError>) -> Option<Event> {
+    match (named(alloc, "()V"), target) {
+        (Ok(ty), Ok(target)) => Some(Event::NewCallSite(CallSiteKind::Mutable, ty, target)),
+        _ => None,
+    }
+}
+
 /// The event, but for installs.
 pub(crate) fn event(alloc: Global, deed: &Deed) -> Option<Event> {
     match deed {
@@ -220,21 +242,23 @@ pub(crate) fn event(alloc: Global, deed: &Deed) -> Option<Event> {
             method: 0,
             pc: *pc,
         })),
-        CallSite => match named(alloc, "()V") {
-            Ok(ty) => Some(Event::NewCallSite(
-                CallSiteKind::Mutable,
-                ty,
-                Target::method(method(1, 1)),
-            )),
-            Err(_) => None,
-        },
-        Bind(number) => Some(Event::Bind(SiteNo::new(*number), CallSiteId::new(*number))),
+        CallSite(class) => call_site(alloc, Ok(Target::method(method(*class, 1)))),
+        Guarded(point, class) => call_site(alloc, guard(alloc, *point, *class)),
+        Bind(site, number) => Some(Event::Bind(SiteNo::new(*site), CallSiteId::new(*number))),
         Retarget(number, index) => Some(Event::SetTarget(
             CallSiteId::new(*number),
             Target::method(method(1, *index)),
         )),
+        Guard(number, point, class) => match guard(alloc, *point, *class) {
+            Ok(target) => Some(Event::SetTarget(CallSiteId::new(*number), target)),
+            Err(_) => None,
+        },
         Install(_) => None,
         Switch => Some(Event::NewSwitch),
+        Invalidate(number) => match vec![in alloc; SwitchId::new(*number); 1] {
+            Ok(points) => Some(Event::Invalidate(Seq::of(points))),
+            Err(_) => None,
+        },
         Retire(loader) => Some(Event::Retire(LoaderId::new(*loader))),
     }
 }

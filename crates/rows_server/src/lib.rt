@@ -5,6 +5,8 @@
 #[cfg(test)]
 mod acts;
 #[cfg(test)]
+mod carrying;
+#[cfg(test)]
 mod deeds;
 #[cfg(test)]
 mod definitions;

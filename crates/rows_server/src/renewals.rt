@@ -1,21 +1,19 @@
-//! A server goes over to a fresh one while threads define and call: the fresh book is filled beside the old server, takes over what that
-//! accepted meanwhile, and its own server answers from then on.
+//! A server goes over to a fresh one while threads define and call: the fresh book is filled beside the old server, takes over its links and
+//! what it accepts meanwhile, and its own server answers from then on. The threads stop to write for the last entries alone.
 
 ghost use Rattle.std.specs.Prelude.{◌≡◌, []};
-ghost use Rattle.jl_renewal.specs.Renewal.{IsPast};
 
+use crate::carrying::Comes::*;
+use crate::carrying::{CallRow, adds, begin, carries, have_links, is_called, links_come};
 use crate::deeds::Class::*;
 use crate::deeds::Deed::*;
-use crate::deeds::{Deed, event, method};
-use crate::definitions::{are_legal, define, is_legal, newest};
+use crate::deeds::{Deed, event};
+use crate::definitions::{are_legal, define, newest};
 use crate::scripts::Part;
-use crate::workers::{Shared, Worker, employ, receiver};
-use jl_core::Entry;
-use jl_names::Seq;
-use jl_relink::World;
-use jl_renewal::{Released, Renumbering, carry, fresh_links, install_all, refill};
-use jl_server::{Book, Caller, LinkServer, Name, Parts, Past};
-use jl_types::{Answer, ClassId, Link, Refusal, SiteNo};
+use crate::workers::{Shared, Worker, employ};
+use jl_renewal::Renumbering;
+use jl_server::{Book, Caller, LinkServer, Name, Parts};
+use jl_types::ClassId;
 use rows_threads::{Round, at_once};
 use std::alloc::{AllocError, Global};
 use std::marker::{Brand, Model};
@@ -45,49 +43,110 @@ const LATER: u32 = 20;
 const STRETCH: u32 = 8;
 
 /// How often a thread calls in the fresh server.
-const CALLS: usize = 200;
+const CALLS_LATER: usize = 200;
 
-/// How often the entries that came meanwhile are carried over before the writers are to stop.
+/// How often the entries that came meanwhile are carried over at the least before the writers are to stop.
 const TIMES: usize = 3;
 
-/// The install of all sites.
+/// How many threads write, those that install among them.
+const INSTALLERS: u64 = 5;
+
+/// The install of the sites that the threads call.
 const INSTALL: Deed = Install(0xff);
 
-/// What comes before. Loader 2 and class 2 go, so class 3, which loader 1 has defined, and those that are defined later, have other numbers
-/// in the fresh server.
+/// What comes before. Loader 2 goes, with C 2, M 3 and site 8. Loader 1 has defined Many 4, loader 0 T 5, loader 3 R 6, which overrides A.f.
+/// Switch point 1 is invalid. Call site 1 guards by it and is bound at site 9; call site 2 is bound to nothing.
 const BEFORE: &[Deed] = &[
     Define(0, Object),
     Define(0, A),
     Loader,
     Loader,
+    Loader,
     Delegate(2, Object),
     Delegate(2, A),
     Define(2, C),
+    Define(2, M),
     Delegate(1, Object),
     Delegate(1, A),
     Define(1, Many),
+    Define(0, T),
+    Delegate(3, Object),
+    Delegate(3, A),
+    Define(3, R),
+    Switch,
+    Switch,
+    Switch,
+    Invalidate(1),
+    CallSite(5),
+    Guarded(1, 5),
+    CallSite(5),
+    Request(4, 0),
+    Request(4, 3),
+    Request(4, 6),
+    Request(4, 9),
+    Request(4, 12),
+    Request(4, 15),
+    Request(4, 18),
+    Request(4, 21),
     Request(3, 0),
-    Request(3, 3),
-    Request(3, 6),
-    Request(3, 9),
-    Request(3, 12),
-    Request(3, 15),
-    Request(3, 18),
-    Request(3, 21),
-    INSTALL,
+    Request(5, 0),
+    Bind(9, 1),
+    Install(0x3ff),
     Retire(2),
-    INSTALL,
+    Install(0x2ff),
 ];
 
-/// What the first writer adds once it has stopped to define. Loader 3 comes and goes.
-const LAST: &[Deed] = &[
-    Loader,
-    Delegate(3, Object),
+/// The call site and the switch point of this number are let go.
+const GONE: &[u32] = &[0];
+
+/// What the first writer adds once the fresh book is filled: loader 4 finds what M wants, and defines M.
+const MEANWHILE: &[Deed] = &[Loader, Delegate(4, Object), Delegate(4, A), Define(4, M)];
+
+/// What it adds once it has requested M's site, which is 10. Call site 3 guards by the valid switch point 3 and is bound at site 11. Call site
+/// 2 guards by switch point 2, which becomes invalid. R goes.
+const THEN: &[Deed] = &[
     Switch,
-    Request(3, 24),
-    Request(3, 24),
+    Guarded(3, 5),
+    Request(5, 5),
+    Bind(11, 3),
+    Install(0x800),
+    Guard(2, 2, 5),
+    Invalidate(2),
     Retire(3),
 ];
+
+/// What it adds once it is to stop. Call site 4, which is bound at site 12, guards by switch point 4, which becomes invalid. All sites that
+/// are there are installed; site 12 is requested twice.
+const LAST: &[Deed] = &[
+    Switch,
+    CallSite(5),
+    Request(5, 10),
+    Request(5, 10),
+    Bind(12, 4),
+    Guard(4, 4, 5),
+    Invalidate(4),
+    Install(0x1eff),
+];
+
+/// How many sites that stay are linked then.
+const LINKS: usize = 12;
+
+/// What it adds in the fresh server, where T is class 3: the call site that was bound to nothing is 1 and is bound at site 12.
+const LATER_STILL: &[Deed] = &[Request(3, 15), Bind(12, 1)];
+
+/// Many is class 2 in the fresh server, T 3 and R 4. Loader 3 is 2 and has gone. Site 8 was 9, where the switch point is invalid: T's method
+/// 2 runs. Site 9 is M's. Site 10 was 11, where the switch point is valid; site 11 was 12, where it isn't.
+const CALLS: &[CallRow] = &[
+    CallRow(0, Some(1), Runs(1, 0), false),
+    CallRow(0, Some(4), IsNoReceiver, false),
+    CallRow(8, None, Runs(3, 2), true),
+    CallRow(9, Some(1), Runs(1, 0), false),
+    CallRow(10, None, Runs(3, 1), true),
+    CallRow(11, None, Runs(3, 2), true),
+];
+
+/// The call site that was bound to nothing has got a guard by a switch point that is invalid.
+const LATER_CALL: &CallRow = &CallRow(12, None, Runs(3, 2), false);
 
 /// A book that has taken no event, and how many sites may be requested there.
 struct Fresh<L: Name, S: Wait + Drop> {
@@ -166,6 +225,8 @@ struct Renewal<'a, K: Name, L: Name, R: Wait, S: Wait + Drop> {
     pair: Mutex<Option<Pair<L, S>>>,
     /// 1 once the writers are to stop.
     stop: AtomicU64,
+    /// 1 once the fresh book is filled, or won't be; 2 once the first writer has added what comes meanwhile.
+    begun: AtomicU64,
     /// 1 once the fresh server is there, or won't be.
     moved: AtomicU64,
 }
@@ -180,48 +241,78 @@ fn wait<R: Wait>(rt: &R, count: &AtomicU64, least: u64) {
     }
 }
 
-/// Whether the fresh server accepts the definition of the class of this number.
-fn defines<K: Name, L: Name, R: Wait, S: Wait + Drop>(
+/// Whether the fresh server accepts the deed's event.
+fn does_later<K: Name, L: Name, R: Wait, S: Wait + Drop>(
     renewal: &Renewal<'_, K, L, R, S>,
     caller: &mut Caller<L>,
-    number: u32,
+    deed: &Deed,
 ) -> bool {
     let (rt, alloc) = (renewal.old.rt, renewal.old.alloc);
-    match (&*renewal.pair.lock(rt), event(alloc, &Below(number, false))) {
+    match (&*renewal.pair.lock(rt), event(alloc, deed)) {
         (Some(pair), Some(event)) => caller.apply(rt, alloc, &pair.server, event).is_ok(),
         _ => false,
     }
 }
 
-/// Defines classes in the old server until it is to stop, and the first writer adds the last events; installs all sites, and defines some
-/// more in the fresh one.
-fn write<K: Name, L: Name, R: Wait, S: Wait + Drop>(
+/// Defines classes in the old server until it is to stop.
+fn define_on<K: Name, L: Name, R: Wait, S: Wait + Drop>(
     renewal: &Renewal<'_, K, L, R, S>,
-    mover: &mut Mover<K, L, S>,
-    writer: usize,
+    worker: &mut Worker<K>,
+    number: &mut u32,
 ) {
-    let writer = u32::try_from(writer).unwrap_or(u32::MAX);
-    let mut number = writer.wrapping_mul(ROUNDS.saturating_add(LATER));
     for round in 0..ROUNDS {
         if round >= STRETCH && renewal.stop.load(Ordering::SeqCst) > 0 {
             break;
         }
         define(
             &renewal.old,
-            &mut mover.old,
-            number,
+            worker,
+            *number,
             round % STRETCH == STRETCH - 1,
         );
-        number = number.wrapping_add(1);
+        *number = number.wrapping_add(1);
     }
+}
+
+/// Adds in the fresh server what the first writer adds there, and tells whether it was accepted and the call comes to what it must.
+fn adds_later<K: Name, L: Name, R: Wait, S: Wait + Drop>(
+    renewal: &Renewal<'_, K, L, R, S>,
+    worker: &mut Worker<L>,
+) -> bool {
+    let mut all = true;
+    for deed in LATER_STILL {
+        all = does_later(renewal, &mut worker.caller, deed) && all;
+    }
+    is_so_later(renewal, worker, LATER_CALL) && all
+}
+
+/// Defines classes in the old server until it is to stop, and then some more in the fresh one. The first writer adds all else.
+fn write<K: Name, L: Name, R: Wait, S: Wait + Drop>(
+    renewal: &Renewal<'_, K, L, R, S>,
+    mover: &mut Mover<K, L, S>,
+    writer: usize,
+) {
     if writer == 0 {
-        let _added = renewal.old.does_all(&mut mover.old, LAST);
+        wait(renewal.old.rt, &renewal.begun, 1);
+        let so = adds(&renewal.old, &mut mover.old, MEANWHILE, THEN);
+        mover.old.expect(so);
+        renewal.begun.store(2, Ordering::SeqCst);
     }
-    let _installed = renewal.old.does(&mut mover.old, &INSTALL);
+    let writer_number = u32::try_from(writer).unwrap_or(u32::MAX);
+    let mut number = writer_number.wrapping_mul(ROUNDS.saturating_add(LATER));
+    define_on(renewal, &mut mover.old, &mut number);
+    if writer == 0 {
+        let so = renewal.old.does_all(&mut mover.old, LAST);
+        mover.old.expect(so);
+    }
     renewal.old.come.fetch_add(1, Ordering::SeqCst);
     wait(renewal.old.rt, &renewal.moved, 1);
+    if writer == 0 {
+        let so = adds_later(renewal, &mut mover.fresh);
+        mover.fresh.expect(so);
+    }
     for _ in 0..LATER {
-        let so = defines(renewal, &mut mover.fresh.caller, number);
+        let so = does_later(renewal, &mut mover.fresh.caller, &Below(number, false));
         mover.fresh.expect(so);
         number = number.wrapping_add(1);
     }
@@ -249,177 +340,76 @@ fn new_numbers<K: Name, L: Name, R: Wait, S: Wait + Drop>(
     }
 }
 
-/// Whether a call of site 0 on an object of the class comes to the other class's method in the fresh server, where it is asked under the
-/// lock.
-fn is_asked<K: Name, L: Name, R: Wait, S: Wait + Drop>(
+/// Whether the call comes to this in the fresh server.
+fn is_so_later<K: Name, L: Name, R: Wait, S: Wait + Drop>(
     renewal: &Renewal<'_, K, L, R, S>,
-    caller: &mut Caller<L>,
-    class: u32,
-    runner: u32,
+    worker: &mut Worker<L>,
+    row: &CallRow,
 ) -> bool {
     let rt = renewal.old.rt;
-    let site = SiteNo::new(0);
     match &*renewal.pair.lock(rt) {
-        Some(pair) => {
-            let answer = caller.ask(rt, &pair.server, site, receiver(Some(class)));
-            answer == Answer::Run(method(runner, 0))
-        }
+        Some(pair) => is_called(rt, &pair.server, worker, row),
         None => false,
     }
 }
 
-/// Calls in the old server, where it installs now and then, until there is a fresh one; and then in that, by the new numbers.
+/// Calls in the old server, where it installs now and then, until the writers are to stop.
+fn call_and_install<K: Name, L: Name, R: Wait, S: Wait + Drop>(
+    renewal: &Renewal<'_, K, L, R, S>,
+    worker: &mut Worker<K>,
+) {
+    let mut turn = 0u32;
+    for _ in renewal.old.rt.forever() {
+        if renewal.stop.load(Ordering::SeqCst) > 0 {
+            break;
+        }
+        if turn % STRETCH == 0 {
+            let _installed = renewal.old.does(worker, &INSTALL);
+        }
+        let so = are_legal(&renewal.old, worker, 0, true);
+        worker.expect(so);
+        turn = turn.wrapping_add(1);
+    }
+    renewal.old.come.fetch_add(1, Ordering::SeqCst);
+}
+
+/// Calls in the fresh server, by the new numbers.
+fn call_later<K: Name, L: Name, R: Wait, S: Wait + Drop>(
+    renewal: &Renewal<'_, K, L, R, S>,
+    worker: &mut Worker<L>,
+) {
+    let (a, plain, overrider) = new_numbers(renewal);
+    worker.expect(a > 0 && plain > 0 && overrider > 0);
+    let on_plain = CallRow(0, Some(plain), Runs(a, 0), false);
+    let on_overrider = CallRow(0, Some(overrider), Runs(overrider, 0), false);
+    for _ in 0..CALLS_LATER {
+        let mut so = is_so_later(renewal, worker, &on_plain)
+            && is_so_later(renewal, worker, &on_overrider);
+        for row in CALLS {
+            so = is_so_later(renewal, worker, row) && so;
+        }
+        worker.expect(so);
+    }
+}
+
+/// Calls in the old server until there is a fresh one, and then in that.
 fn call<K: Name, L: Name, R: Wait, S: Wait + Drop>(
     renewal: &Renewal<'_, K, L, R, S>,
     mover: &mut Mover<K, L, S>,
 ) {
-    let mut turn = 0u32;
+    call_and_install(renewal, &mut mover.old);
     for _ in renewal.old.rt.forever() {
         if renewal.moved.load(Ordering::SeqCst) > 0 {
             break;
         }
-        if turn % STRETCH == 0 {
-            let _installed = renewal.old.does(&mut mover.old, &INSTALL);
-        }
         let so = are_legal(&renewal.old, &mut mover.old, 0, true);
         mover.old.expect(so);
-        turn = turn.wrapping_add(1);
     }
-    let (a, plain, overrider) = new_numbers(renewal);
-    mover.fresh.expect(a > 0 && plain > 0 && overrider > 0);
-    for _ in 0..CALLS {
-        let so = is_legal(&mut mover.fresh, 0, a, a)
-            && is_legal(&mut mover.fresh, 0, plain, a)
-            && is_legal(&mut mover.fresh, 0, overrider, overrider)
-            && is_asked(renewal, &mut mover.fresh.caller, plain, a)
-            && is_asked(renewal, &mut mover.fresh.caller, overrider, overrider);
-        mover.fresh.expect(so);
-    }
+    call_later(renewal, &mut mover.fresh);
 }
 
-/// Gives the book what stays in the old server, where nothing was released.
-fn refilled<K: Name, L: Name, S: Wait + Drop>(
-    alloc: Global,
-    book: &mut Book<L, S>,
-    past: &Past<K>,
-    sites: u32,
-) -> Result<Renumbering, Refusal>
-    requires past { IsPast past.now.world.world past.now.entries.items }
-    requires book { book.old ≡ [] }
-    requires sites { sites ≡ L.max_sites }
-{
-    let released = Released {
-        call_sites: Seq::of(Vec::new(alloc)),
-        switches: Seq::of(Vec::new(alloc)),
-    };
-    refill(
-        alloc,
-        book,
-        past.world.world(),
-        past.entries.as_slice(),
-        &released,
-        sites,
-    )
-}
-
-/// The same of what the old server has come to, with how many events that is.
-fn begin<K: Name, L: Name, R: Wait, S: Wait + Drop>(
-    renewal: &Renewal<'_, K, L, R, S>,
-    caller: &mut Caller<K>,
-    book: &mut Book<L, S>,
-    sites: u32,
-) -> Option<(u64, Renumbering)>
-    requires book { book.old ≡ [] }
-    requires sites { sites ≡ L.max_sites }
-{
-    let (rt, alloc) = (renewal.old.rt, renewal.old.alloc);
-    match &caller.entries(rt, alloc, renewal.old.server, 0) {
-        Ok(past) => match refilled(alloc, book, past, sites) {
-            Ok(numbers) => Some((past.seen.serial(), numbers)),
-            Err(_) => None,
-        },
-        Err(_) => None,
-    }
-}
-
-/// Whether all these entries are carried over.
-fn are_carried<L: Name, S: Wait + Drop>(
-    alloc: Global,
-    book: &mut Book<L, S>,
-    numbers: &mut Renumbering,
-    old: &World,
-    entries: &[Entry],
-) -> bool {
-    let mut all = true;
-    for entry in entries {
-        all = carry(alloc, book, numbers, old, entry).is_ok() && all;
-    }
-    all
-}
-
-/// Whether all entries behind the first so many are carried over. That is how many there are then.
-fn carries<K: Name, L: Name, R: Wait, S: Wait + Drop>(
-    renewal: &Renewal<'_, K, L, R, S>,
-    caller: &mut Caller<K>,
-    book: &mut Book<L, S>,
-    numbers: &mut Renumbering,
-    from: &mut u64,
-) -> bool {
-    let (rt, alloc) = (renewal.old.rt, renewal.old.alloc);
-    match &caller.entries(rt, alloc, renewal.old.server, *from as usize) {
-        Ok(past) => {
-            *from = past.seen.serial();
-            are_carried(
-                alloc,
-                book,
-                numbers,
-                past.world.world(),
-                past.entries.as_slice(),
-            )
-        }
-        Err(_) => false,
-    }
-}
-
-/// Whether all these links are installed in the book, as they are there, and there are some.
-fn are_installed<L: Name, S: Wait + Drop>(
-    alloc: Global,
-    book: &mut Book<L, S>,
-    numbers: &Renumbering,
-    linked: &[(SiteNo, Link)],
-) -> bool {
-    let rows = match &book.snapshot(alloc) {
-        Ok((snapshot, _seen)) => fresh_links(alloc, snapshot.world(), linked, numbers),
-        Err(_) => Err(AllocError),
-    };
-    match &rows {
-        Ok(rows) => {
-            install_all(alloc, book, rows.as_slice()).is_ok()
-                && match &book.links(alloc) {
-                    Ok(links) => !linked.is_empty() && links.len() == linked.len(),
-                    Err(_) => false,
-                }
-        }
-        Err(_) => false,
-    }
-}
-
-/// Whether the links of the old server come over.
-fn links_come<K: Name, L: Name, R: Wait, S: Wait + Drop>(
-    renewal: &Renewal<'_, K, L, R, S>,
-    caller: &mut Caller<K>,
-    book: &mut Book<L, S>,
-    numbers: &Renumbering,
-) -> bool {
-    let (rt, alloc) = (renewal.old.rt, renewal.old.alloc);
-    match &renewal.old.server.links(rt, alloc, caller) {
-        Ok(list) => are_installed(alloc, book, numbers, list.rows.as_slice()),
-        Err(_) => false,
-    }
-}
-
-/// Whether all that comes behind the first so many events is carried over: some of it while the writers write, the rest once they have
-/// stopped; and then the links come.
+/// Whether the links come, and all that comes after the first so many events is carried over: all of it but the last entries while the
+/// writers write, and these once they have stopped.
 fn carries_on<K: Name, L: Name, R: Wait, S: Wait + Drop>(
     renewal: &Renewal<'_, K, L, R, S>,
     caller: &mut Caller<K>,
@@ -427,16 +417,19 @@ fn carries_on<K: Name, L: Name, R: Wait, S: Wait + Drop>(
     numbers: &mut Renumbering,
     from: u64,
 ) -> bool {
+    let old = &renewal.old;
     let mut from = from;
-    let mut all = true;
+    let mut all = links_come(old, caller, book, numbers);
     for _ in 0..TIMES {
-        all = carries(renewal, caller, book, numbers, &mut from) && all;
+        all = carries(old, caller, book, numbers, &mut from) && all;
     }
+    wait(old.rt, &renewal.begun, 2);
+    all = carries(old, caller, book, numbers, &mut from) && all;
     renewal.stop.store(1, Ordering::SeqCst);
-    wait(renewal.old.rt, &renewal.old.come, WRITERS as u64);
-    carries(renewal, caller, book, numbers, &mut from)
+    wait(old.rt, &old.come, INSTALLERS);
+    carries(old, caller, book, numbers, &mut from)
         && all
-        && links_come(renewal, caller, book, numbers)
+        && have_links(old, caller, book, numbers, from, LINKS)
 }
 
 /// The numbers, where all comes over into the book.
@@ -449,8 +442,9 @@ fn come_over<K: Name, L: Name, R: Wait, S: Wait + Drop>(
     requires book { book.old ≡ [] }
     requires sites { sites ≡ L.max_sites }
 {
-    match begin(renewal, caller, book, sites) {
+    match begin(&renewal.old, caller, book, GONE, sites) {
         Some((from, mut numbers)) => {
+            renewal.begun.store(1, Ordering::SeqCst);
             if carries_on(renewal, caller, book, &mut numbers, from) {
                 Some(numbers)
             } else {
@@ -486,6 +480,7 @@ fn renew<K: Name, L: Name, R: Wait, S: Wait + Drop>(
     let pair = renewed(renewal, &mut worker.caller, fresh);
     worker.expect(pair.is_some());
     *renewal.pair.lock(renewal.old.rt) = pair;
+    renewal.begun.store(1, Ordering::SeqCst);
     renewal.stop.store(1, Ordering::SeqCst);
     renewal.moved.store(1, Ordering::SeqCst);
 }
@@ -545,6 +540,7 @@ fn holds<
         },
         pair: Mutex::new(None),
         stop: AtomicU64::new(0),
+        begun: AtomicU64::new(0),
         moved: AtomicU64::new(0),
     };
     let begun = match movers.first_mut() {

@@ -67,7 +67,10 @@ module _ (ℓ : NamedLft) (K L R S : RattleType) (g : name.Ghosts K.Denot) (h : 
         shared_field ℓ K R S g r s,
         (
           pair_sync L S h s,
-          (search (sendable, of_std) depth 12, (search (sendable, of_std) depth 12, tt)),
+          (
+            search (sendable, of_std) depth 12,
+            (search (sendable, of_std) depth 12, (search (sendable, of_std) depth 12, tt)),
+          ),
         ),
       ) in
       recorded_sync _ O.D O.to O.to_one (struct_sync (declared.shape O) all)

@@ -5,8 +5,8 @@ use Rattle.jl_types.specs.Events.History.{world_after}
 use Rattle.jl_core.specs.Logs.{shown}
 use Rattle.jl_core.specs.State.{AreAnswered}
 use Rattle.jl_server.specs.History.{core_of, logged_of}
-use Rattle.rows_server.proofs.renewals.Pasts.{is_past}
-use Rattle.rows_server.proofs.renewals.begin.Goals as goal
+use Rattle.rows_server.proofs.carrying.Pasts.{is_past}
+use Rattle.rows_server.proofs.carrying.begin.Goals as goal
 
 holds : {X E : Type 0} {x : X} (P : X → Type 0) (r : Result X E) → r ≡ Ok x → IfOk r P → P x
 holds P r is h = subst (λ q. IfOk q P) is h
