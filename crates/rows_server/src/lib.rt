@@ -7,6 +7,8 @@ mod acts;
 #[cfg(test)]
 mod carrying;
 #[cfg(test)]
+mod chains;
+#[cfg(test)]
 mod deeds;
 #[cfg(test)]
 mod definitions;
