@@ -79,6 +79,41 @@ impl Renumbering {
     {
         Some(SwitchId::new(new_number(self.switches.as_slice(), old.number())?))
     }
+
+    /// Of each old loader, in order, its number in the fresh core, or none.
+    pub fn loaders(&self) -> &[Option<u32>]
+        ensures { result.now ≡ self.now.loaders }
+    {
+        self.loaders.as_slice()
+    }
+
+    /// Of each old class, in order, its number in the fresh core, or none.
+    pub fn classes(&self) -> &[Option<u32>]
+        ensures { result.now ≡ self.now.classes }
+    {
+        self.classes.as_slice()
+    }
+
+    /// Of each old site, in order, its number in the fresh core, or none.
+    pub fn sites(&self) -> &[Option<u32>]
+        ensures { result.now ≡ self.now.sites }
+    {
+        self.sites.as_slice()
+    }
+
+    /// Of each old call site, in order, its number in the fresh core, or none.
+    pub fn call_sites(&self) -> &[Option<u32>]
+        ensures { result.now ≡ self.now.call_sites }
+    {
+        self.call_sites.as_slice()
+    }
+
+    /// Of each old switch point, in order, its number in the fresh core, or none.
+    pub fn switches(&self) -> &[Option<u32>]
+        ensures { result.now ≡ self.now.switches }
+    {
+        self.switches.as_slice()
+    }
 }
 
 /// The new number of what had this one, if it stays.
