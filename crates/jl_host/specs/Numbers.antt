@@ -49,9 +49,6 @@ open_already = 35
 abbrev pub too_short : ℕ
 too_short = 36
 
-abbrev pub released : ℕ
-released = 37
-
 -- ---- refusals
 
 abbrev pub status_of_refusal : Refusal → ℕ
