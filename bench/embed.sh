@@ -5,8 +5,9 @@
 #
 # It builds the archive first, by `rt lib` in crates/linkd_c, unless LINKD_ARCHIVE names one. It needs rt, cc, c++, ar, nm, cargo,
 # valgrind, and java and javac of JAVA_HOME or else of the PATH, of version 17 to 25. ROUNDS (200) is how often the host in C plays its
-# round, COMPILED (40) how often the one that compiles does, and RENEWED (200) how often the one that renews does. A sanitizer that cc doesn't have, or whose programs don't run here, is said
-# and left out. It ends with status 0 only where all is as it must be.
+# round, COMPILED (40) how often the one that compiles does, RENEWED (200) how often the one that renews does, and STEPPED (40) how often the
+# one that renews in steps does. A sanitizer that cc doesn't have, or whose programs don't run here, is said and left out. It ends with status
+# 0 only where all is as it must be.
 set -eu
 top=$(cd "$(dirname "$0")/.." && pwd)
 export LC_ALL=C
@@ -77,6 +78,8 @@ build_c "$work/compilers" "$host/compilers.c"
 "$work/compilers" "$work/compiled" "${COMPILED:-40}"
 build_c "$work/renewing" "$host/renewing.c"
 "$work/renewing" "$work/classes" "${RENEWED:-200}"
+build_c "$work/stepping" "$host/stepping.c"
+"$work/stepping" "$work/compiled" "${STEPPED:-40}"
 
 echo "== the hosts in C, under valgrind"
 under_valgrind() {
@@ -87,9 +90,10 @@ under_valgrind() {
 under_valgrind "$work/host_c" "$work/classes" Triangle 4
 under_valgrind "$work/compilers" "$work/compiled" 4
 under_valgrind "$work/renewing" "$work/classes" 20
+under_valgrind "$work/stepping" "$work/compiled" 2
 
 # The archive isn't built with them: they see the hosts, what these lend, and what is taken from malloc. Nor is the count seen by which
-# views and linkers share what they have, so that the thread sanitizer takes the free of the last one for a race with the others' reads.
+# views, renewals and linkers share what they have, so that the thread sanitizer takes the free of the last one for a race with the others' reads.
 echo 'race:*::drop' > "$work/shared.txt"
 export TSAN_OPTIONS="suppressions=$work/shared.txt print_suppressions=0"
 for sanitizers in address,undefined thread; do
@@ -100,7 +104,7 @@ for sanitizers in address,undefined thread; do
         echo "left out: cc hasn't it, or its programs don't run here"
         continue
     fi
-    for program in host compilers renewing; do
+    for program in host compilers renewing stepping; do
         cc -std=c11 -O1 -g -Wall -Wextra -Werror $sanitize -pthread -I"$top/include" -o "$work/sanitized_$program" "$host/$program.c" \
             "$work/liblinkd.a"
     done
@@ -109,6 +113,8 @@ for sanitizers in address,undefined thread; do
     "$work/sanitized_compilers" "$work/compiled" 10 > "$work/under.txt"
     tail -n 1 "$work/under.txt"
     "$work/sanitized_renewing" "$work/classes" 30 > "$work/under.txt"
+    tail -n 1 "$work/under.txt"
+    "$work/sanitized_stepping" "$work/compiled" 10 > "$work/under.txt"
     tail -n 1 "$work/under.txt"
 done
 

@@ -2,7 +2,7 @@
 """Holds the pages to the sources. Of docs/PROMISES.md each call is a public function of the file that it leads to, with a clause of each
 name that stands behind it in brackets, and so is each of README.md's promises; each crate and script is there; docs/DEFINITIONS.md
 names each file of definitions; docs/CRATES.md names each crate below those that it uses; each link of a page leads to a file; and the newest
-known version of class files is the same wherever it has to be written again.
+known version of class files and the version of the header are the same wherever they have to be written again.
 
     bench/promises.py     at the top of the repository; prints what isn't so, and ends with status 0 where all is
 """
@@ -18,6 +18,13 @@ NEWEST = {
     "bindings/rust/src/lib.rs": r"pub const NEWEST_KNOWN: u16 = (\d+);",
     "bindings/java/src/linkd/Linker.java": r"int NEWEST_KNOWN = (\d+);",
     "tools/classes.py": r"\nNEWEST_KNOWN = (\d+)\n",
+}
+# The same of the version of the header.
+HEADER = {
+    "include/linkd.h": r"#define LINKD_VERSION (\d+)\n",
+    "crates/linkd_c/src/lib.rt": r"fn linkd_version\(\) -> u32\n    ensures \{ result ≡ (\d+) \}\n",
+    "bindings/rust/src/raw.rs": r"pub const VERSION: u32 = (\d+);",
+    "bindings/java/src/linkd/Library.java": r"int VERSION = (\d+);",
 }
 
 
@@ -73,11 +80,11 @@ def crates():
     ]
 
 
-def newest():
-    """The places that have another newest known version than the first, or none."""
-    said = {path: re.findall(pattern, (TOP / path).read_text()) for path, pattern in NEWEST.items()}
+def differing(what, places):
+    """The places that have another version than the first, or none."""
+    said = {path: re.findall(pattern, (TOP / path).read_text()) for path, pattern in places.items()}
     first, *others = said
-    return [f"{path}: the newest known version is {said[path]}, and in {first} {said[first]}" for path in others if said[path] != said[first]]
+    return [f"{path}: {what} is {said[path]}, and in {first} {said[first]}" for path in others if said[path] != said[first]]
 
 
 def promised(page, rows, found, are_named):
@@ -101,7 +108,7 @@ def promised(page, rows, found, are_named):
 
 def main():
     page, found = (TOP / "docs/PROMISES.md").read_text(), clauses()
-    wrong = definitions() + crates() + newest()
+    wrong = definitions() + crates() + differing("the newest known version", NEWEST) + differing("the version of the header", HEADER)
     wrong += promised(TOP / "docs/PROMISES.md", page.split("## What no clause says")[0], found, True)
     first = (TOP / "README.md").read_text().split("## What is proved")[1].split("\n## ")[0]
     wrong += promised(TOP / "README.md", first, found, False)

@@ -234,6 +234,104 @@ static void renewed(linkd_seat *seat) {
     MUST(linkd_seat_refresh(seat, at) == LINKD_DONE);
 }
 
+/* What a renewal in steps is refused: released are the call sites 0 and 2, and both switch points. */
+static void refused_steps(linkd_renewal *renewal, linkd *fresh, const linkd_released *released, linkd_numbers *numbers) {
+    length = 7;
+    TELLS(linkd_renewal_fill(renewal, &told), LINKD_CLOSED, 0, 0, 0);
+    TELLS(linkd_renewal_finish(renewal, at, fresh, &told, numbers), LINKD_CLOSED, 0, 0, 0);
+    MUST(linkd_renewal_take(renewal, at, 1, &length) == LINKD_CLOSED && length == 7);
+    MUST(linkd_renewal_begin(renewal, fresh, 3, released) == LINKD_CLOSED);
+    MUST(linkd_renewal_begin(renewal, at, 0, released) == LINKD_MALFORMED);
+    MUST(linkd_renewal_begin(renewal, at, 1048577, released) == LINKD_MALFORMED);
+    TELLS(linkd_renewal_fill(renewal, &told), LINKD_CLOSED, 0, 0, 0);
+
+    MUST(linkd_renewal_begin(renewal, at, 2, released) == LINKD_DONE);
+    MUST(linkd_renewal_begin(renewal, at, 3, released) == LINKD_OPEN_ALREADY);
+    MUST(linkd_renewal_take(renewal, fresh, 1, &length) == LINKD_CLOSED && length == 7);
+    TELLS(linkd_renewal_finish(renewal, fresh, at, &told, numbers), LINKD_CLOSED, 0, 0, 0);
+    MUST(linkd_open(fresh, 1) == LINKD_DONE);
+    TELLS(linkd_renewal_finish(renewal, at, fresh, &told, numbers), LINKD_OPEN_ALREADY, 0, 0, 0);
+    linkd_close(fresh);
+    numbers->switch_capacity--;
+    TELLS(linkd_renewal_finish(renewal, at, fresh, &told, numbers), LINKD_TOO_SHORT, 0, 0, 0);
+    numbers->switch_capacity++;
+    TELLS(linkd_renewal_finish(renewal, at, fresh, &told, numbers), LINKD_SITES_FULL, 0, 0, 0);
+    TELLS(linkd_renewal_fill(renewal, &told), LINKD_SITES_FULL, 0, 0, 0);
+    linkd_renewal_leave(renewal);
+}
+
+/* An event that names what was released; and another linker than that of the begin. */
+static void ended_steps(linkd_renewal *renewal, linkd *fresh, const linkd_released *released, linkd_numbers *numbers) {
+    linkd *other = block(linkd_size(), linkd_align());
+    linkd_blank(other);
+    MUST(linkd_renewal_begin(renewal, at, 3, released) == LINKD_DONE);
+    MUST(linkd_renewal_take(renewal, at, 0, &length) == LINKD_DONE && length > 0);
+    uint32_t before = (uint32_t)length;
+    TELLS(set_target(2, "{\"method\":[3,3]}"), LINKD_DONE, 0, 0, 0);
+    MUST(linkd_renewal_take(renewal, at, before + 1, &length) == LINKD_DONE && length == 0);
+    TELLS(linkd_renewal_fill(renewal, &told), LINKD_RELEASED, before, 0, 2);
+    TELLS(linkd_renewal_finish(renewal, at, fresh, &told, numbers), LINKD_RELEASED, before, 0, 2);
+    linkd_renewal_leave(renewal);
+    TELLS(linkd_renewal_fill(renewal, &told), LINKD_CLOSED, 0, 0, 0);
+
+    MUST(linkd_open(other, 3) == LINKD_DONE);
+    MUST(linkd_renewal_begin(renewal, at, 3, released) == LINKD_DONE);
+    MUST(linkd_renewal_take(renewal, other, 1, &length) == LINKD_DONE && length == 0);
+    TELLS(linkd_renewal_finish(renewal, other, fresh, &told, numbers), LINKD_MALFORMED, 0, 0, 0);
+    MUST(linkd_counts(fresh, &(linkd_count){0}) == LINKD_CLOSED);
+    linkd_renewal_leave(renewal);
+    linkd_renewal_leave(renewal);
+    linkd_close(other);
+    free(other);
+}
+
+/* Nothing is made before all is taken; what comes then is carried over. The install is left. */
+static void begun_and_filled(linkd_renewal *renewal, const linkd_released *released) {
+    MUST(linkd_renewal_begin(renewal, at, 3, released) == LINKD_DONE);
+    MUST(linkd_renewal_take(renewal, at, 1, &length) == LINKD_DONE && length > 1);
+    TELLS(linkd_renewal_fill(renewal, &told), LINKD_DONE, 0, 0, 0);
+    MUST(linkd_renewal_take(renewal, at, length, &length) == LINKD_DONE && length == 0);
+    TELLS(linkd_new_switch(at, &told), LINKD_DONE, 2, 0, 0);
+    TELLS(linkd_renewal_fill(renewal, &told), LINKD_DONE, 0, 0, 0);
+    TELLS(linkd_invalidate(at, released->call_sites + 2, 1, &told), LINKD_DONE, 0, 0, 0);
+    sites[0] = 2;
+    TELLS(linkd_install(at, sites, 1, &told), LINKD_DONE, 0, 0, 0);
+    MUST(linkd_renewal_take(renewal, at, 2, &length) == LINKD_DONE && length == 1);
+    TELLS(linkd_renewal_fill(renewal, &told), LINKD_DONE, 0, 0, 0);
+}
+
+static void renewed_in_steps(linkd_seat *seat) {
+    static const uint32_t gone[] = {2, 1, 0, 9};
+    uint32_t loaders[2], classes[15], renewed_sites[3], call_sites[3], switches[3];
+    linkd_released released = {gone, 4, gone + 1, 2};
+    linkd_numbers numbers = {loaders, 2, classes, 15, renewed_sites, 3, call_sites, 3, switches, 2};
+    linkd_count count;
+    linkd *fresh = block(linkd_size(), linkd_align());
+    linkd_renewal *renewal = block(linkd_renewal_size(), linkd_renewal_align());
+    linkd_blank(fresh);
+    linkd_renewal_blank(renewal);
+    refused_steps(renewal, fresh, &released, &numbers);
+
+    begun_and_filled(renewal, &released);
+    numbers.switch_capacity = 3;
+    TELLS(linkd_renewal_finish(renewal, at, fresh, &told, &numbers), LINKD_DONE, 0, 0, 0);
+    TELLS(linkd_renewal_fill(renewal, &told), LINKD_CLOSED, 0, 0, 0);
+    MUST(loaders[1] == 1 && classes[13] == 13 && renewed_sites[2] == 2);
+    MUST(call_sites[0] == LINKD_NO_NUMBER && call_sites[1] == 0 && call_sites[2] == LINKD_NO_NUMBER);
+    MUST(switches[0] == LINKD_NO_NUMBER && switches[1] == LINKD_NO_NUMBER && switches[2] == 0);
+    MUST(linkd_counts(fresh, &count) == LINKD_DONE && count.classes == 14 && count.call_sites == 1 && count.switches == 1);
+    MUST(linkd_link_of(fresh, 1, &link) == LINKD_DONE && link.kind == LINKD_MEGA);
+    MUST(linkd_link_of(fresh, 2, &link) == LINKD_DONE && link.kind == LINKD_PLAIN && row_is(&link.rows[0], 0, LINKD_RUN, 3, 1));
+    MUST(linkd_seat_refresh(seat, fresh) == LINKD_DONE);
+    MUST(comes_to(linkd_seat_call(seat, 2, LINKD_NULL, &answer), LINKD_RUN, 3, 1));
+    linkd_close(fresh);
+
+    ended_steps(renewal, fresh, &released, &numbers);
+    free(renewal);
+    free(fresh);
+    MUST(linkd_seat_refresh(seat, at) == LINKD_DONE);
+}
+
 int main(void) {
     linkd_target_part parts[] = {
         {LINKD_GUARD_TARGET, 1, 0}, {LINKD_METHOD_TARGET, 3, 0}, {LINKD_METHOD_TARGET, 3, 1}, {LINKD_INVOKER_TARGET, 7, 0}};
@@ -417,6 +515,7 @@ int main(void) {
 
     linkd_view *view = viewed();
     renewed(seat);
+    renewed_in_steps(seat);
     linkd_close(at);
     closed(seat);
     MUST(linkd_view_take(view, at) == LINKD_CLOSED);

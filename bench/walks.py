@@ -1,5 +1,5 @@
 #!/usr/bin/env python3
-"""Writes the walks (proofs/EXPORT/Proof.antt) of a static library's exports, as src/lib.rt declares them.
+"""Writes the walks (proofs/EXPORT/Proof.antt, or proofs/MODULE/EXPORT/Proof.antt) of a static library's exports, as src/ declares them.
 
     walks.py [EXPORT ..]        from anywhere; with names, only these exports' walks
 
@@ -20,8 +20,8 @@ same relation of its old and its new value:
         ensures { IsDefine loader bytes.now self.old result told.new self.new }
 
 R and the structs that cross stand in a library below, and MODULES says in which of its modules. `alloc` stands first, where there is
-one, and then the handles. Of two handles, the method is the first one's, and takes the other as a `&mut`; `old` and `new` are pairs
-then. The other parameters are numbers, slices, and `&mut`s of numbers, of #[repr(C)] structs and of slices, of numbers or of such structs.
+one, and then the handles. Of two or three handles, the method is the first one's, and takes the others as `&mut`s; `old` and `new` are
+tuples then. The other parameters are numbers, slices, and `&mut`s of numbers, of #[repr(C)] structs and of slices, of numbers or of such structs.
 The result is a u32, or there is none. An export may also write a new value into room, of which the method says `result ≡ VALUE`:
 
     pub unsafe extern "C" fn linkd_blank(at: *mut Linkd)
@@ -44,7 +44,7 @@ from pathlib import Path
 CRATE = Path(__file__).resolve().parent.parent / 'crates/linkd_c'
 LIBRARY = 'jl_host'
 MODULES = {
-    'Linker': 'linker', 'Seat': 'seat', 'Memo': 'memo', 'View': 'view',
+    'Linker': 'linker', 'Seat': 'seat', 'Memo': 'memo', 'View': 'view', 'Renewal': 'renewal',
     'Told': 'told', 'CallAnswer': 'shown', 'LinkShown': 'shown', 'LinkRow': 'reading', 'TargetPart': 'targets',
     'Invocation': 'invocations', 'Counts': 'renew',
 }
@@ -69,6 +69,7 @@ class Handle:
 class Export:
     """An export as it is declared: what it says, in its own words, is `relation`, of an `old` and a `new` of the type `value`."""
 
+    module: str  # of the crate, or none where it is the root
     name: str
     params: list
     handles: list
@@ -80,6 +81,10 @@ class Export:
     @property
     def is_blank(self):
         return not self.value
+
+    @property
+    def path(self):
+        return [self.module, self.name] if self.module else [self.name]
 
 
 @dataclass(frozen=True)
@@ -171,8 +176,8 @@ def read_params(text):
     return params
 
 
-def read_exports(source):
-    """The exports that take a handle."""
+def read_exports(module, source):
+    """The exports of a module that take a handle."""
     exports = []
     declared = r'pub unsafe extern "C" fn (\w+)\(([^)]*)\)(?: -> (\w+))?\n(.*?)\n\{\n(.*?)\n\}'
     for name, params, result, clauses, body in re.findall(declared, source, re.S):
@@ -183,12 +188,12 @@ def read_exports(source):
         params = read_params(params)
         if m := re.search(r'\.write\(\w+::(\w+)\(\)\)', body):
             value = re.search(r'ensures\* \{ sem 𝓛 \(\w+ at (.*)\) \}', clauses)
-            exports.append(Export(name, params, handles, m.group(1), value.group(1), result='unit'))
+            exports.append(Export(module, name, params, handles, m.group(1), value.group(1), result='unit'))
             continue
         method = re.search(r'\(\*\(at as \*mut \w+\)\)\s*\.(\w+)\(', body).group(1)
         value = re.search(r'ghost old: \{ (.*?) \}', clauses).group(1)
         relation = re.search(r'λ new\. (.*?)\)\) \}$', clauses).group(1)
-        exports.append(Export(name, params, handles, method, relation, value, result or 'unit'))
+        exports.append(Export(module, name, params, handles, method, relation, value, result or 'unit'))
     return exports
 
 
@@ -282,15 +287,17 @@ class Walk:
         self.heap = export.params[0].kind == 'heap'
         self.first = 1 if self.heap else 0  # the first handle's place among the parameters
         self.after = '.1' * (self.first + len(export.handles))  # from all parameters to those behind the handles
-        self.two = len(export.handles) == 2
-        self.lent = [
-            Lent(handle, i, f'a{".1" * (self.first + i)}.0', f'x.{i}' if self.two else 'x', f'ws{".1" * (1 + self.first) * i}.0')
-            for i, handle in enumerate(export.handles)
-        ]
+        self.many = len(export.handles) > 1
+        self.lent = [self.lent_of(i, handle) for i, handle in enumerate(export.handles)]
         self.pointers = ' '.join(h.pointer for h in self.lent)
-        self.last = f'({self.lent[0].last}, {self.lent[1].last})' if self.two else 'ws.0'
+        self.last = f'({", ".join(h.last for h in self.lent)})' if self.many else 'ws.0'
         self.context = Context('owned', 'asked')
         self.lines = []
+
+    def lent_of(self, i, handle):
+        """The method takes the first handle's value before the heap, and the others' after it."""
+        place = self.first + i
+        return Lent(handle, i, f'a{".1" * place}.0', f'x.{i}' if self.many else 'x', f'ws{".1" * place if i else ""}.0')
 
     def say(self, line):
         self.lines.append('    ' + line.rstrip())
@@ -323,13 +330,17 @@ class Walk:
         """The parameters but for the handles are one entry, or two where there is a heap, and no handle is null."""
         c = self.context
         lies = ' ⊛ '.join(f'‵ ({h.handle.at} {h.pointer} {h.old})' for h in self.lent)
-        lies = f'({lies})' if self.two else lies
+        lies = f'({lies})' if self.many else lies
         self.say(f'qed 𝓛 ((raw (alive 𝓛 S κs qs) ⊛ ‵ (owns (types_at S.params κs) a (y {self.pointers}).0.4)) ∷ {lies} ∷ []) ∵')
         line = c.split('owned', 'tokens', 'rest') + c.front('rest')
         if self.heap:
             line += c.split('rest', 'heap', 'rest', step='fsplit') + c.front('rest')
         line += 'fsplit ! $ drop ! $ ' * len(self.lent)
-        self.say(line + (c.split('asked', 'lies0', 'lies1') if self.two else c.turn(['asked'], '', 'lies0')))
+        if not self.many:
+            line += c.turn(['asked'], '', 'lies0')
+        for h in self.lent[1:]:
+            line += c.split('asked', f'lies{h.order - 1}', f'lies{h.order}' if h is self.lent[-1] else 'asked')
+        self.say(line)
         for h in self.lent:
             places = [g.block if g.order < h.order else 'p' if g is h else g.pointer for g in self.lent]
             y = f'(y {" ".join(places)})'
@@ -358,7 +369,7 @@ class Walk:
         spots = [f'vptr {h.spot} ∷ []' for h in self.lent]
         vals = nested(spots[:1] + ['heap_val ∷ []'] * self.heap + spots[1:], f'(y {self.pointers}).0.4{self.after}')
         self.say(f'let z : G.Ghost = (({lifetimes}, {shares}, tt, {args}, {vals}), tt) in')
-        line = c.join('lent1', 'rest', 'rest', step='fjoin') if self.two else ''
+        line = ''.join(c.join(f'lent{h.order}', 'rest', 'rest', step='fjoin') for h in reversed(self.lent[1:]))
         line += c.join('heap', 'rest', 'rest', step='fjoin') if self.heap else ''
         line += c.join('lent0', 'rest', 'rest', step='fjoin')
         for h in reversed(self.lent):
@@ -375,7 +386,7 @@ class Walk:
         c, export = self.context, self.export
         row = export.result
         result = 'Unit {0}' if row == 'unit' else 'ℕ'
-        value = f'({export.value})' if self.two else export.value
+        value = f'({export.value})' if self.many else export.value
         self.say(f'let P : {result} → Lasts g.ended z.0.0 z.0.3 → {value} → Type 0 = λ u ws new. {self.relation()} in')
         self.say(f'{ANSWERS} (lasts g.ended z.0.0 z.0.3) (λ u ws. P u ws {self.last}) (λ u. id⊢ 𝓤 _) (λ u ws told.')
         tokens = ''.join(f'‵ (flft (α{h.mark} ∷ []) full_share) ⊛ ' for h in self.lent) + 'raw (alive 𝓛 S κs qs)'
@@ -390,7 +401,7 @@ class Walk:
             typed = f'((uint_Lawful 𝓛 w{BITS[row]}).typed u _ is).0'
             self.say(line + f'peeks ! {row} (Is {row}) (shows 𝓛 {row}) u (v ∷ []) (λ is. lands_as ! refl refl {typed} $')
         line = ''
-        for part in ['last0'] + ['heap'] * self.heap + ['last1'] * self.two:
+        for part in ['last0'] + ['heap'] * self.heap + [f'last{h.order}' for h in self.lent[1:]]:
             line += c.split('rest', part, 'rest', step='fsplit')
         self.say(line)
 
@@ -409,13 +420,12 @@ class Walk:
         for h in self.lent:
             i, m = h.order, h.mark
             self.say(c.turn([f'last{i}', f'token{i}', f'lender{i}'], f'takes_back ! tt R{m} α{m} δ{m} {h.last} {h.spot} $', f'lies{i}'))
-        if self.two:
-            line = c.join('lies0', 'lies1', 'lies0', step='fjoin')
-            there = 'λ s. fsep ' + ' '.join(f'({h.handle.at} {h.block} s.{h.order})' for h in self.lent)
-        else:
-            line = c.front('lies0')
-            there = f'{self.lent[0].handle.at} {self.lent[0].block}'
-        self.say(f'{line}packs ! ({there}) (P u ws) {self.last} told $')
+        line, there = '', f'{self.lent[0].handle.at} {self.lent[0].block}' + (' s.0' if self.many else '')
+        for h in self.lent[1:]:
+            line += c.join('lies0', f'lies{h.order}', 'lies0', step='fjoin')
+            there = f'fsep ({there}) ({h.handle.at} {h.block} s.{h.order})'
+        there = f'λ s. {there}' if self.many else there
+        self.say(f'{line}{c.front("lies0")}packs ! ({there}) (P u ws) {self.last} told $')
 
     def ends(self):
         c = self.context
@@ -473,6 +483,7 @@ def imports(source, export, body):
     wanted = dict.fromkeys(n for n in steps if n in used)
     here = f'Rattle.{CRATE.name}'
     below = f'Rattle.{LIBRARY}'
+    path = '.'.join(export.path)
     lines = [f'use {here}.proofs.Steps.{{{", ".join(wanted)}}}']
     cited = {}
     for module, names in re.findall(r'ghost use (Rattle\.(?!std\.)[\w.]+)\.\{(.*)\};', source):
@@ -486,9 +497,9 @@ def imports(source, export, body):
         lines.append(f'use {below}.specs.contracts.{MODULES[row]}.{row}.{{the_row as {row}}}')
     method = f'{export.handles[0].path}.{export.method}'
     return lines + [
-        f'use {here}.specs.contracts.{export.name} as f',
-        f'use {here}.proofs.{export.name}.Statement.{{statement}}',
-        f'use {here}.proofs.{export.name}.Code as code',
+        f'use {here}.specs.contracts.{path} as f',
+        f'use {here}.proofs.{path}.Statement.{{statement}}',
+        f'use {here}.proofs.{path}.Code as code',
         f'use {below}.specs.contracts.{method} as g',
         f'use {below}.proofs.{method}.Met.{{met}}',
     ]
@@ -516,17 +527,18 @@ def write(source, export):
     body += ')' * (body.count('(') - body.count(')'))
     what = 'A new value is written into the room.' if export.is_blank else 'What lies at the handle is lent for the time of the call, and lies there again after it.'
     text = [f'-- {what}', *imports(source, export, body), '', f'pub {export.name}_spec : {{M : Type 1}} → statement M', f'{export.name}_spec 𝓤 𝓛 𝓜 𝓡 wired =', body]
-    path = CRATE / 'proofs' / export.name / 'Proof.antt'
+    path = CRATE.joinpath('proofs', *export.path, 'Proof.antt')
     path.parent.mkdir(parents=True, exist_ok=True)
     lines = '\n'.join(text).split('\n')
     path.write_text('\n'.join(short for line in lines for short in narrow(line)) + '\n')
 
 
 def main(names):
-    source = (CRATE / 'src/lib.rt').read_text()
-    for export in read_exports(source):
-        if not names or export.name in names:
-            write(source, export)
+    for file in sorted(CRATE.glob('src/*.rt')):
+        source = file.read_text()
+        for export in read_exports('' if file.stem == 'lib' else file.stem, source):
+            if not names or export.name in names:
+                write(source, export)
 
 
 if __name__ == '__main__':

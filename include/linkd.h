@@ -3,16 +3,17 @@
  * A linker is a block of linkd_size() bytes at a multiple of linkd_align() that the caller has, as from aligned_alloc, the stack or
  * an arena. linkd_blank makes a linker of it, linkd_open opens it, and after linkd_close the block is only memory again: it holds
  * nothing. A seat is one thread's place to read links without a lock, a memo what one thread remembers of calls at megamorphic links,
- * and a view what there was to link when it was taken, in which a compiler prepares links without a lock; their blocks are made and left
- * the same way.
+ * a view what there was to link when it was taken, in which a compiler prepares links without a lock, and a renewal what makes a fresh
+ * linker while the old one goes on; their blocks are made and left the same way.
  *
  * What a caller owes, since nothing checks it:
- *  - a linker, a seat, a memo or a view is passed only between its blank and the end of its block, which isn't moved or written in between;
- *  - one call at a time is made on a linker, on a seat, on a memo, and on a view. Another thread may make the next call if a lock, a
- *    join or a seq_cst atomic orders the two;
+ *  - a linker, a seat, a memo, a view or a renewal is passed only between its blank and the end of its block, which isn't moved or written
+ *    in between;
+ *  - one call at a time is made on a linker, on a seat, on a memo, on a view, and on a renewal. Another thread may make the next call if a
+ *    lock, a join or a seq_cst atomic orders the two;
  *  - texts, arrays and out places are valid for the call, also where their length is 0 (then, too, the pointer isn't null), and an
- *    out place is no part of the linker, of the seat, of the memo, of the view, of what is read, or of another out place;
- *  - a linker and a memo are closed, and a seat and a view left, before its block goes; each may be done more than once;
+ *    out place is no part of the linker, of the seat, of the memo, of the view, of the renewal, of what is read, or of another out place;
+ *  - a linker and a memo are closed, and a seat, a view and a renewal left, before its block goes; each may be done more than once;
  *  - no call is made from a signal handler, or in the forked child of a process with threads;
  *  - malloc, realloc and free come from one allocator.
  */
@@ -27,12 +28,13 @@ extern "C" {
 #endif
 
 /* Grows with each change of this header; linkd_version() tells it of the library. */
-#define LINKD_VERSION 3
+#define LINKD_VERSION 4
 
 typedef struct linkd linkd;
 typedef struct linkd_seat linkd_seat;
 typedef struct linkd_memo linkd_memo;
 typedef struct linkd_view linkd_view;
+typedef struct linkd_renewal linkd_renewal;
 
 /* What a call answers: LINKD_DONE, why the linker refuses an event, or why it wasn't asked. But where it was done the linker and the
  * seat are as before, unless linkd_answer lacks memory (see there). The sections named are those of the Java Virtual Machine
@@ -59,9 +61,10 @@ enum linkd_status {
     LINKD_RETIRE = 19,         /* fault is a linkd_retire_fault */
     LINKD_NO_CLASS_FILE = 32,  /* the bytes are no class file: fault is a linkd_class_fault */
     LINKD_MALFORMED = 33,      /* a kind, type, target or link that is none, or a number that is too large */
-    LINKD_CLOSED = 34,         /* the linker or the memo isn't open, the seat was never refreshed, or the view never taken */
-    LINKD_OPEN_ALREADY = 35,
-    LINKD_TOO_SHORT = 36       /* the array is too short; the length that is wanted was written, where there is a place for it */
+    LINKD_CLOSED = 34,         /* the linker or the memo isn't open, the seat was never refreshed, the view never taken, or no renewal begun */
+    LINKD_OPEN_ALREADY = 35,   /* of a renewal, that it has begun */
+    LINKD_TOO_SHORT = 36,      /* the array is too short; the length that is wanted was written, where there is a place for it */
+    LINKD_RELEASED = 37        /* since a renewal's begin an event has named what was released: see at linkd_renewal_fill */
 };
 
 /* What an event made, or why it was refused; each number that says nothing is 0. It is written whatever the status is. */
@@ -415,6 +418,87 @@ static inline uint32_t linkd_renew(linkd *at, linkd *fresh, uint32_t max_sites, 
                             numbers->switch_capacity);
 }
 
+/* ---- a renewal in steps
+ *
+ * It does what linkd_renew does, while events go on: the host's lock is held for moments alone. A renewal reads one linker, and writes none
+ * before its end:
+ *
+ *     linkd_renewal_begin(renewal, linker, max_sites, &released);      under the lock
+ *     do {
+ *         linkd_renewal_take(renewal, linker, most, &left);            under the lock: `most` events at a time
+ *         linkd_renewal_fill(renewal, &told);                          without it
+ *         linkd_renewal_take(renewal, linker, 0, &left);               under the lock: how many have come meanwhile
+ *     } while (left > few);
+ *     linkd_renewal_finish(renewal, linker, fresh, &told, &numbers);   under the lock: it does what is left
+ *
+ * What is owed beside what stands at the head:
+ *  - all these calls are given one linker, which isn't closed in between;
+ *  - from the begin on the host asks the linker for nothing that it has released: no new target names it, and no site is bound to it;
+ *  - after the finish events go to `fresh` alone: what the linker accepts then the fresh one never has.
+ * No other event is refused for what is released, retirements and invalidations among them.
+ * Several renewals of one linker may be under way at a time, each in its own block. None sees the others, and each finish gives a linker of
+ * its own, with its own numbers. */
+
+size_t linkd_renewal_size(void);
+size_t linkd_renewal_align(void);
+void linkd_renewal_blank(linkd_renewal *at);
+
+/* Begins a renewal of the linker as it is now: what stays is said at linkd_renew_into. At most max_sites sites may be requested in the fresh
+ * linker; give as many as the linker was opened with, or a request that is still to come may be LINKD_SITES_FULL there. What the linker has
+ * is shared and not copied, but for the pages of links that events have touched since a seat was last refreshed. So the second event after
+ * this call copies the list of requested sites, as after a view. Counts as a call on the renewal and on the linker.
+ * In this order: LINKD_CLOSED, where the linker isn't open; LINKD_OPEN_ALREADY, where the renewal has begun and wasn't left;
+ * LINKD_MALFORMED, where max_sites is 0 or above 1,048,576; LINKD_MEMORY. Where it isn't done the renewal is as before. */
+uint32_t linkd_renewal_begin_with(linkd_renewal *at, linkd *from, uint32_t max_sites, const uint32_t *released_call_sites,
+                                  size_t released_call_site_count, const uint32_t *released_switches, size_t released_switch_count);
+
+/* The same, by a struct. */
+static inline uint32_t linkd_renewal_begin(linkd_renewal *at, linkd *from, uint32_t max_sites, const linkd_released *released) {
+    return linkd_renewal_begin_with(at, from, max_sites, released->call_sites, released->call_site_count, released->switches,
+                                    released->switch_count);
+}
+
+/* Takes the next events that the linker has accepted, at most so many of them: first those that it had at the begin, and then those since.
+ * An event is shared and not copied. *left is how many are left then. Counts as a call on the renewal and on the linker.
+ * LINKD_CLOSED, where the renewal has not begun or the linker isn't open: *left is not written. LINKD_MEMORY: none of these events was taken,
+ * and *left tells how many are left; the call may be made again. */
+uint32_t linkd_renewal_take(linkd_renewal *at, linkd *from, size_t most, size_t *left);
+
+/* Makes of the fresh linker what the taken events tell. Before all events of the begin are taken this does nothing, and is LINKD_DONE. The
+ * first call after that defines the classes that stay, requests their sites, makes the call sites and switch points, and installs the links
+ * of the begin: for as many classes as a JDK has that takes seconds. From then on each event that was taken since is carried over under the
+ * new numbers, installs among them. So the fresh linker has the links of the old one after that event.
+ * Takes no lock. Counts as a call on the renewal alone: the linker may be asked anything meanwhile.
+ * LINKD_CLOSED, where the renewal has not begun. LINKD_SITES_FULL, where more sites stay than max_sites, or more are requested later.
+ * LINKD_RELEASED, where an event since the begin names a call site or a switch point that was released and is gone: place is its number, and
+ * number is how many of the linker's events the fresh one has; then the renewal is good for nothing but linkd_renewal_leave. LINKD_MEMORY,
+ * maybe in the place of another refusal: what was carried over stays so, and the call may be made again. */
+uint32_t linkd_renewal_fill(linkd_renewal *at, linkd_told *told);
+
+/* Takes what is left and carries it over, as the two calls above do. Then it opens the linker `fresh`, which isn't open, over what was made,
+ * and writes the new numbers to the arrays as linkd_renew_into does. A loader that was retired since the begin has a new number, too, and is
+ * retired there. The renewal has ended then, and may begin anew. The call takes as long as the events that were left and the arrays do. It
+ * looks up no link but those of the installs among these events. The first seat that is refreshed from `fresh` copies only what events have
+ * touched since. Counts as a call on the renewal and on the two linkers, which are not one.
+ * In this order: LINKD_CLOSED, where the renewal has not begun or the linker isn't open; LINKD_OPEN_ALREADY, where `fresh` is;
+ * LINKD_TOO_SHORT, where an array is shorter than linkd_counts says that there are numbers for it: nothing was taken then; LINKD_MEMORY;
+ * then as linkd_renewal_fill. LINKD_MALFORMED, where the linker isn't the one of the begin and has accepted fewer events than that had. Where
+ * it isn't done `fresh` and the arrays are as before, and the renewal goes on: it may be finished later. */
+uint32_t linkd_renewal_finish_into(linkd_renewal *at, linkd *from, linkd *fresh, linkd_told *told, uint32_t *loaders, size_t loader_capacity,
+                                   uint32_t *classes, size_t class_capacity, uint32_t *sites, size_t site_capacity, uint32_t *call_sites,
+                                   size_t call_site_capacity, uint32_t *switches, size_t switch_capacity);
+
+/* The same, by a struct. */
+static inline uint32_t linkd_renewal_finish(linkd_renewal *at, linkd *from, linkd *fresh, linkd_told *told, linkd_numbers *numbers) {
+    return linkd_renewal_finish_into(at, from, fresh, told, numbers->loaders, numbers->loader_capacity, numbers->classes,
+                                     numbers->class_capacity, numbers->sites, numbers->site_capacity, numbers->call_sites,
+                                     numbers->call_site_capacity, numbers->switches, numbers->switch_capacity);
+}
+
+/* Lets go what was made: the renewal has not begun then. It frees as much as a linker's close, so it is best done without the lock. Counts
+ * as a call on the renewal alone. */
+void linkd_renewal_leave(linkd_renewal *at);
+
 /* ---- a seat */
 
 size_t linkd_seat_size(void);
@@ -510,6 +594,7 @@ static inline const char *linkd_status_name(uint32_t status) {
         LINKD_NAMED(LINKD_CLOSED);
         LINKD_NAMED(LINKD_OPEN_ALREADY);
         LINKD_NAMED(LINKD_TOO_SHORT);
+        LINKD_NAMED(LINKD_RELEASED);
         default: return NULL;
     }
 }

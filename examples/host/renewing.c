@@ -12,12 +12,12 @@
  * ROUNDS (200). Where a check fails the program says which on standard error, and ends with a status of its own.
  */
 #define _POSIX_C_SOURCE 200809L
-#include "common.h"
+#include "renewed.h"
 #include <pthread.h>
 #include <sched.h>
 #include <stdatomic.h>
 
-enum { THREADS = 4, LOADERS = 10, MOST_SITES = 4096, BATCH = 256, CALLS = 64, MEMO_SETS = 1024 };
+enum { THREADS = 4, LOADERS = 10, MOST_SITES = 4096, CALLS = 64, MEMO_SETS = 1024 };
 
 /* Of loader 0, each behind its parents; the first ones are delegated to each other loader. */
 static const char *const NAMES[] = {"Object", "Measured", "Shape", "Circle", "Square", "Main"};
@@ -36,9 +36,6 @@ static unsigned long calls, missed, remembered;
 
 static atomic_uint changes, passed; /* passed: how often a thread has called since the last change */
 static atomic_bool is_over;
-
-/* The receivers are null and each class, so the number of a class is less by one. */
-static uint32_t receiver(uint32_t number) { return number == 0 ? LINKD_NULL : number - 1; }
 
 /* ---- events: each under the lock */
 
@@ -70,89 +67,19 @@ static void let_oldest_go(void) {
     memmove(loaders, loaders + 1, --loader_count * sizeof *loaders);
 }
 
-static bool is_linked(linkd *of, uint32_t site) {
-    linkd_link link;
-    done(linkd_link_of(of, site, &link), "no link is told");
-    return link.kind != LINKD_NONE;
-}
-
-/* Installs a batch without the sites that aren't ready. */
-static void install(uint32_t *batch, size_t count) {
-    linkd_told told;
-    uint32_t status = LINKD_DONE;
-    while (count > 0 && (status = linkd_install(linker, batch, count, &told)) == LINKD_NOT_READY) {
-        size_t at = 0;
-        while (at < count && batch[at] != told.place) at++;
-        must(at < count, REFUSED, "a site that isn't of the batch isn't ready", told.place);
-        batch[at] = batch[--count];
-    }
-    if (count > 0) done(status, "a batch isn't installed");
-}
-
-static void install_pending(void) {
-    uint32_t batch[BATCH];
-    size_t count = 0;
-    for (uint32_t site = 0; site < sites; site++) {
-        if (!is_linked(linker, site)) batch[count++] = site;
-        if (count == BATCH || site + 1 == sites) {
-            install(batch, count);
-            count = 0;
-        }
-    }
-}
+static void install_pending(void) { install_pending_of(linker, sites); }
 
 /* ---- a renewal, under the lock */
-
-static uint32_t *room(size_t count) { return memory(malloc((count + 1) * sizeof(uint32_t))); }
-
-static linkd_numbers numbers_for(const linkd_count *count) {
-    return (linkd_numbers){room(count->loaders),    count->loaders,    room(count->classes),  count->classes, room(count->sites), count->sites,
-                           room(count->call_sites), count->call_sites, room(count->switches), count->switches};
-}
-
-static void let_numbers_go(linkd_numbers *numbers) {
-    free(numbers->loaders);
-    free(numbers->classes);
-    free(numbers->sites);
-    free(numbers->call_sites);
-    free(numbers->switches);
-}
-
-/* Whether the site that stays is linked in both, and answers the same in both for each receiver that stays, under the new numbers. */
-static void compare_site(linkd *fresh, const linkd_numbers *numbers, uint32_t site) {
-    must(is_linked(linker, site) == is_linked(fresh, numbers->sites[site]), LOST_ANSWER, "a link didn't come over, of site", site);
-    for (uint32_t number = 0; number <= classes; number++) {
-        uint32_t old = receiver(number), renewed = old == LINKD_NULL ? old : numbers->classes[old];
-        linkd_call_answer before, after;
-        if (old != LINKD_NULL && renewed == LINKD_NO_NUMBER) continue;
-        done(linkd_call(linker, site, old, &before), "no call is answered");
-        done(linkd_call(fresh, numbers->sites[site], renewed, &after), "no call is answered");
-        if (before.kind == LINKD_RUN) before.class_number = numbers->classes[before.class_number];
-        must(same_answer(&before, &after), WRONG_ANSWER, "a fresh linker answers otherwise, of site", site);
-    }
-}
-
-/* The sites that stay are numbered in order. */
-static uint32_t compare_all(linkd *fresh, const linkd_numbers *numbers) {
-    uint32_t staying = 0;
-    for (uint32_t site = 0; site < sites; site++) {
-        if (numbers->sites[site] == LINKD_NO_NUMBER) continue;
-        must(numbers->sites[site] == staying++, BAD_NUMBER, "a site has another number than the next one", site);
-        compare_site(fresh, numbers, site);
-    }
-    return staying;
-}
 
 static void go_over(void) {
     const linkd_released nothing = {NULL, 0, NULL, 0};
     linkd_count count;
     linkd *fresh = block(linkd_size(), linkd_align());
     linkd_blank(fresh);
-    done(linkd_counts(linker, &count), "no counts are told");
+    linkd_numbers numbers = numbers_for(linker, &count);
     must(count.sites == sites && count.classes == classes, BAD_NUMBER, "there are other counts, as of sites", count.sites);
-    linkd_numbers numbers = numbers_for(&count);
     done(linkd_renew(linker, fresh, MOST_SITES, &nothing, &numbers), "no fresh linker is made");
-    sites = compare_all(fresh, &numbers);
+    sites = compare_all(linker, fresh, &numbers);
     for (size_t i = 0; i < loader_count; i++) {
         loaders[i] = numbers.loaders[loaders[i]];
         must(loaders[i] != LINKD_NO_NUMBER, BAD_NUMBER, "a loader that isn't retired is gone", (uint32_t)i);

@@ -1,4 +1,4 @@
-//! Memory for a linker, a seat, a memo or a view, that isn't moved.
+//! Memory for a linker, a seat, a memo, a view or a renewal, that isn't moved.
 use crate::raw::Opaque;
 use std::alloc::{alloc, dealloc, handle_alloc_error, Layout};
 use std::ptr::NonNull;

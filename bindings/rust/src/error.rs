@@ -225,6 +225,15 @@ pub enum Error {
     Retire(RetireFault),
     /// A type, a target or a link that is none, or a number that is too large.
     Malformed,
+    /// Since a renewal began an event has named what was released and is gone. The renewal can't be finished.
+    Released {
+        /// Of the call site or the switch point that is gone.
+        number: u32,
+        /// How many of the old linker's events the fresh one has.
+        events: u32,
+    },
+    /// The renewal has begun with another linker.
+    OtherLinker,
     /// A status or a fault that this crate has no name for.
     Other {
         /// Of `linkd_status`.
@@ -259,6 +268,8 @@ impl fmt::Display for Error {
             Error::LoadersFull => to.write_str("there is no room for more loaders"),
             Error::Retire(fault) => write!(to, "the loader isn't retired: {fault}"),
             Error::Malformed => to.write_str("a type, a target or a link that is none, or a number that is too large"),
+            Error::Released { number, events } => write!(to, "event {events} names {number}, which was released and is gone"),
+            Error::OtherLinker => to.write_str("the renewal has begun with another linker"),
             Error::Other { status, fault } => write!(to, "status {status}, fault {fault}"),
         }
     }
@@ -301,6 +312,7 @@ fn named(status: u32, told: &Told) -> Option<Error> {
         19 => Error::Retire(retire_fault(told)?),
         32 => Error::NoClassFile { fault: ClassFault::of(told.fault)?, place: told.place, cause: told.cause, pc: told.at },
         33 => Error::Malformed,
+        37 => Error::Released { number: told.place, events: told.number },
         _ => return None,
     })
 }

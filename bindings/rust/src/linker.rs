@@ -3,7 +3,9 @@ use crate::block::Block;
 use crate::error::done;
 use crate::invocation::{invocation, Invocation};
 use crate::raw::{self, Told};
-use crate::{Answer, CallSiteId, ClassId, Error, Link, LoaderId, Memo, Released, Renumbering, Seat, SiteId, SwitchId, Target, View};
+use crate::{
+    Answer, CallSiteId, ClassId, Error, Link, LoaderId, Memo, Released, Renewal, Renumbering, Seat, SiteId, SwitchId, Target, View,
+};
 use std::fmt;
 use std::sync::atomic::{AtomicU64, Ordering};
 
@@ -77,7 +79,7 @@ impl Linker {
     }
 
     /// One that isn't open yet.
-    fn blank(max_sites: u32) -> Linker {
+    pub(crate) fn blank(max_sites: u32) -> Linker {
         // SAFETY: the block is as large and stands as the library asks, and is a linker from `linkd_blank` on.
         let block = unsafe {
             let block = Block::new(raw::linkd_size(), raw::linkd_align());
@@ -329,11 +331,8 @@ impl Linker {
     ///
     /// [`Error::SitesFull`], where more sites stay; [`Error::Memory`].
     pub fn renew(&mut self, max_sites: u32, released: &Released) -> Result<(Linker, Renumbering), Error> {
-        let mut counts = raw::Counts::default();
-        assert_eq!(unsafe { raw::linkd_counts(self.at(), &mut counts) }, raw::DONE, "{OPEN}");
-        let (fresh, mut numbers) = (Linker::blank(max_sites), Renumbering::with_room(&counts));
-        let call_sites: Vec<u32> = released.call_sites.iter().map(|call_site| call_site.0).collect();
-        let switches: Vec<u32> = released.switches.iter().map(|switch| switch.0).collect();
+        let (fresh, mut numbers) = (Linker::blank(max_sites), self.renumbering());
+        let (call_sites, switches) = released.numbers();
         // SAFETY: both linkers are borrowed alone, and are two; what is read and written is borrowed for the call.
         let status = unsafe {
             raw::linkd_renew_into(
@@ -358,6 +357,20 @@ impl Linker {
         };
         done(status, &Told::default())?;
         Ok((fresh, numbers))
+    }
+
+    /// Room for the new numbers of all that there ever was.
+    pub(crate) fn renumbering(&mut self) -> Renumbering {
+        let mut counts = raw::Counts::default();
+        assert_eq!(unsafe { raw::linkd_counts(self.at(), &mut counts) }, raw::DONE, "{OPEN}");
+        Renumbering::with_room(&counts)
+    }
+
+    /// Begins to do in steps what [`renew`](Linker::renew) does in one call: between these steps the linker goes on.
+    ///
+    /// [`Error::Malformed`], where `max_sites` isn't 1 to 1,048,576; [`Error::Memory`].
+    pub fn begin_renewal(&mut self, max_sites: u32, released: &Released) -> Result<Renewal, Error> {
+        Renewal::of(self, max_sites, released)
     }
 
     /// A place for one thread to read links.

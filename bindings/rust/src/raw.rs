@@ -1,8 +1,8 @@
 //! The calls of `include/linkd.h`, of this version. Nothing compares these declarations with the header but the crate's tests.
 
-pub const VERSION: u32 = 3;
+pub const VERSION: u32 = 4;
 
-/// A linker, a seat, a memo or a view, in a block of a size that the library tells.
+/// A linker, a seat, a memo, a view or a renewal, in a block of a size that the library tells.
 #[repr(C)]
 pub struct Opaque {
     _hidden: [u8; 0],
@@ -172,4 +172,35 @@ extern "C" {
     pub fn linkd_view_call(at: *mut Opaque, site: u32, receiver: u32, answer: *mut Answer) -> u32;
     pub fn linkd_view_prepare(at: *mut Opaque, sites: *const u32, count: usize, links: *mut Link, capacity: usize, told: *mut Told) -> u32;
     pub fn linkd_view_leave(at: *mut Opaque);
+    pub fn linkd_renewal_size() -> usize;
+    pub fn linkd_renewal_align() -> usize;
+    pub fn linkd_renewal_blank(at: *mut Opaque);
+    pub fn linkd_renewal_begin_with(
+        at: *mut Opaque,
+        from: *mut Opaque,
+        max_sites: u32,
+        released_call_sites: *const u32,
+        released_call_site_count: usize,
+        released_switches: *const u32,
+        released_switch_count: usize,
+    ) -> u32;
+    pub fn linkd_renewal_take(at: *mut Opaque, from: *mut Opaque, most: usize, left: *mut usize) -> u32;
+    pub fn linkd_renewal_fill(at: *mut Opaque, told: *mut Told) -> u32;
+    pub fn linkd_renewal_finish_into(
+        at: *mut Opaque,
+        from: *mut Opaque,
+        fresh: *mut Opaque,
+        told: *mut Told,
+        loaders: *mut u32,
+        loader_capacity: usize,
+        classes: *mut u32,
+        class_capacity: usize,
+        sites: *mut u32,
+        site_capacity: usize,
+        call_sites: *mut u32,
+        call_site_capacity: usize,
+        switches: *mut u32,
+        switch_capacity: usize,
+    ) -> u32;
+    pub fn linkd_renewal_leave(at: *mut Opaque);
 }

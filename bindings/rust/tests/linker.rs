@@ -4,7 +4,7 @@ mod file;
 
 use linkd::{
     Answer, CallSiteFault, CallSiteId, CallSiteKind, ClassFault, ClassId, DefineFault, DelegateFault, Error, Instruction, Invocation, Link,
-    Linker, LoaderId, NotLinkable, Outcome, Released, RetireFault, SiteId, SwitchId, Target, Throwable, Unlinked, NEWEST_KNOWN,
+    Linker, LoaderId, NotLinkable, Outcome, Released, Renewal, RetireFault, SiteId, SwitchId, Target, Throwable, Unlinked, NEWEST_KNOWN,
 };
 use std::sync::{Arc, Mutex};
 
@@ -267,6 +267,121 @@ fn a_fresh_linker_has_what_stays() -> Result<(), Error> {
     assert_eq!(fresh.renew(1, &Released::default()).err(), Some(Error::SitesFull));
     let (_, again) = fresh.renew(2, &Released::default())?;
     assert_eq!((again.site(other), again.switch(second)), (Some(other), Some(second)));
+    Ok(())
+}
+
+/// Loader 1 is retired with its class C 4 before the begin, so that D, which is defined since, is class 4 in the fresh linker; of two call
+/// sites the first one is let go.
+#[test]
+fn a_renewal_goes_on_beside_its_linker() -> Result<(), Error> {
+    let World { mut linker, a, b, m, site } = world()?;
+    let (loader, late, point) = (linker.new_loader()?, linker.new_loader()?, linker.new_switch()?);
+    linker.delegate(loader, OBJECT.as_bytes(), LoaderId::FIRST)?;
+    let c = linker.define_in(loader, &with_f("C", OBJECT))?;
+    linker.retire(loader)?;
+    let plain = linker.new_call_site(CallSiteKind::Mutable, b"()V", &Target::Method(m, 1))?;
+
+    let mut renewal = linker.begin_renewal(50, &Released { call_sites: &[plain], switches: &[] })?;
+    assert_eq!(renewal.take(&mut linker, 2)?, 11);
+    renewal.fill()?;
+    let d = linker.define(&with_f("D", "A"))?;
+    assert_eq!(renewal.take(&mut linker, usize::MAX)?, 0);
+    renewal.fill()?;
+    linker.install(&[site])?;
+    let target = Box::new(Target::Method(m, 1));
+    let guarded = linker.new_call_site(CallSiteKind::Mutable, b"()V", &Target::Guard(point, target.clone(), target))?;
+    linker.invalidate(&[point])?;
+    linker.retire(late)?;
+    assert_eq!(renewal.take(&mut linker, 0)?, 4);
+
+    let (mut fresh, numbers) = renewal.finish(&mut linker)?;
+    assert_eq!((numbers.loader(loader), numbers.class(c), numbers.class(d)), (None, None, Some(c)));
+    assert_eq!((numbers.call_site(plain), numbers.call_site(guarded), numbers.switch(point)), (None, Some(plain), Some(point)));
+    assert_eq!((numbers.class(a), numbers.class(b), numbers.site(site)), (Some(a), Some(b), Some(site)));
+    let rows = |of| Link::VirtualTable(vec![(a, runs(a)), (b, runs(a)), (of, runs(of))]);
+    assert_eq!((linker.link_of(site), fresh.link_of(site)), (Some(rows(d)), Some(rows(c))));
+    assert_eq!((linker.call(site, Some(d)), fresh.call(site, Some(c))), (answers(d), answers(c)));
+    // What was retired since the begin is there, retired.
+    assert_eq!(numbers.loader(late), Some(loader));
+    assert_eq!(fresh.retire(loader), Err(Error::Retire(RetireFault::UnknownLoader)));
+    // The old linker is as it was, and the fresh one goes on by itself.
+    drop(linker);
+    let e = fresh.define(&with_f("E", "A"))?;
+    assert_eq!((e, fresh.dropped()), (d, vec![site]));
+    Ok(())
+}
+
+/// A renewal of the linker, with all that it has.
+fn filled(linker: &mut Linker, max_sites: u32, released: &Released) -> Result<Renewal, Error> {
+    let mut renewal = linker.begin_renewal(max_sites, released)?;
+    renewal.take(linker, usize::MAX)?;
+    renewal.fill()?;
+    Ok(renewal)
+}
+
+#[test]
+fn a_renewal_is_refused_by_name() -> Result<(), Error> {
+    let World { mut linker, m, site, .. } = world()?;
+    let World { linker: mut other, .. } = world()?;
+    let nothing = Released::default();
+    assert_eq!(linker.begin_renewal(0, &nothing).err(), Some(Error::Malformed));
+    assert_eq!(linker.begin_renewal(1_048_577, &nothing).err(), Some(Error::Malformed));
+
+    let mut renewal = filled(&mut linker, 1, &nothing)?;
+    assert_eq!(renewal.take(&mut other, 1), Err(Error::OtherLinker));
+    let unfinished = renewal.finish(&mut other).unwrap_err();
+    assert_eq!(
+        (unfinished.to_string(), unfinished.why),
+        ("the renewal isn't finished: the renewal has begun with another linker".into(), Error::OtherLinker)
+    );
+    let (mut fresh, numbers) = unfinished.renewal.finish(&mut linker)?;
+    assert_eq!((fresh.call(site, None), numbers.site(site)), (linker.call(site, None), Some(site)));
+
+    let mut full = filled(&mut linker, 1, &nothing)?;
+    linker.request(m, 0, 3)?;
+    assert_eq!(full.take(&mut linker, 1)?, 0);
+    assert_eq!(full.fill(), Err(Error::SitesFull));
+    assert_eq!(full.finish(&mut linker).unwrap_err().why, Error::SitesFull);
+    assert_eq!(filled(&mut linker, 1, &nothing).err(), Some(Error::SitesFull));
+
+    let plain = linker.new_call_site(CallSiteKind::Mutable, b"()V", &Target::Method(m, 1))?;
+    let renewal = filled(&mut linker, 2, &Released { call_sites: &[plain], switches: &[] })?;
+    linker.set_target(plain, &Target::Method(m, 1))?;
+    let unfinished = renewal.finish(&mut linker).unwrap_err();
+    let why = Error::Released { number: plain.number(), events: 8 };
+    assert_eq!((unfinished.why.to_string(), unfinished.why), ("event 8 names 0, which was released and is gone".into(), why));
+    Ok(())
+}
+
+#[test]
+fn a_thread_fills_while_others_define() -> Result<(), Error> {
+    const NAMES: [&str; 6] = ["C1", "C2", "C3", "C4", "C5", "C6"];
+    let World { linker, site, .. } = world()?;
+    let shared = Mutex::new(linker);
+    let define = |name: &str| -> Result<(), Error> {
+        let mut linker = shared.lock().unwrap();
+        linker.define(&with_f(name, "A"))?;
+        linker.install(&[site])
+    };
+    let mut renewal = shared.lock().unwrap().begin_renewal(100, &Released::default())?;
+    std::thread::scope(|threads| -> Result<(), Error> {
+        let definers: Vec<_> = NAMES.into_iter().map(|name| threads.spawn(move || define(name))).collect();
+        while renewal.take(&mut shared.lock().unwrap(), 3)? > 0 {
+            renewal.fill()?;
+        }
+        renewal.fill()?;
+        definers.into_iter().try_for_each(|definer| definer.join().unwrap())
+    })?;
+    let mut linker = shared.lock().unwrap();
+    let (mut fresh, numbers) = renewal.finish(&mut linker)?;
+    for number in 0..10 {
+        let class = ClassId::from_number(number);
+        assert_eq!(class.and_then(|class| numbers.class(class)), class);
+        assert_eq!(linker.call(site, class), fresh.call(site, class));
+    }
+    let link = fresh.link_of(site);
+    assert!(link.is_some());
+    assert_eq!(link, linker.link_of(site));
     Ok(())
 }
 

@@ -7,6 +7,7 @@ pub mod ReadAgain
 pub mod GivenLaws
 pub mod AwaitedLaws
 pub mod RenewLaws
+pub mod RenewingLaws
 -- a seat, brought up to date
 pub mod BehindLaws
 pub mod CaughtUp

@@ -1,3 +1,2 @@
 -- Means of proof. What is promised doesn't rest on how these say it.
 pub mod Behind
-pub mod Kinds

@@ -1,5 +1,5 @@
--- `Numbers`, `Telling`, `Showing`, `Copies`, `Linkers`, `Seats`, `Memos`, `Reading`, `Targets`, `Views`, `Awaiting`, `Asking` and `Renewals` are
--- what contracts cite; `Behind` is a means of proof.
+-- `Numbers`, `Telling`, `Showing`, `Copies`, `Linkers`, `Seats`, `Memos`, `Reading`, `Targets`, `Views`, `Awaiting`, `Asking`, `Renewals` and
+-- `Renewing` are what contracts cite; `Behind` is a means of proof.
 pub mod Numbers
 pub mod Telling
 pub mod Showing
@@ -13,4 +13,5 @@ pub mod Views
 pub mod Awaiting
 pub mod Asking
 pub mod Renewals
+pub mod Renewing
 pub mod ForProofs

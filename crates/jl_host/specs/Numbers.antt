@@ -49,6 +49,9 @@ open_already = 35
 abbrev pub too_short : ℕ
 too_short = 36
 
+abbrev pub released : ℕ
+released = 37
+
 -- ---- refusals
 
 abbrev pub status_of_refusal : Refusal → ℕ

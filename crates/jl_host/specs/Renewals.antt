@@ -22,6 +22,16 @@ counts_of w = record {
   switches = length w.sites.switches;
 }
 
+-- how many numbers there are of each
+abbrev pub counts_in : Numbers → Counts
+counts_in n = record {
+  loaders = length n.loaders;
+  classes = length n.classes;
+  sites = length n.sites;
+  call_sites = length n.call_sites;
+  switches = length n.switches;
+}
+
 abbrev pub no_counts : Counts
 no_counts = record { loaders = 0; classes = 0; sites = 0; call_sites = 0; switches = 0 }
 

@@ -1,5 +1,5 @@
 -- What is told of an event, or of bytes that are no class file.
-use Rattle.std.specs.Prelude.{ℕ, List, Option, Some, None, Result, Ok, Err}
+use Rattle.std.specs.Prelude.{ℕ, min, List, Option, Some, None, Result, Ok, Err}
 use Rattle.jl_pool.specs.declared.pool_fault.PoolFault.{PoolFault}
 use Rattle.jl_pool.specs.declared.pool_fault.PoolFault.TheVariants as pool
 use Rattle.jl_code.specs.declared.code_fault.CodeFault.{CodeFault}
@@ -29,6 +29,12 @@ with_place place = record { number = 0; fault = 0; place = place; cause = 0; at 
 
 abbrev pub at_place : ℕ → ℕ → Told
 at_place fault place = record { number = 0; fault = fault; place = place; cause = 0; at = 0 }
+
+-- ---- renewals
+
+-- an event names what was released: this, after so many events
+abbrev pub told_of_released : ℕ → ℕ → Told
+told_of_released place before = record { number = min before 4294967295; fault = 0; place = place; cause = 0; at = 0 }
 
 -- ---- events
 

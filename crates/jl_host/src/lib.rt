@@ -24,7 +24,10 @@ mod awaited;
 mod behind;
 mod linker;
 mod opened;
+mod begun;
+mod fresh;
 mod renew;
+mod renewal;
 
 // Places to read, and what is remembered beside them.
 mod memo;
@@ -44,11 +47,12 @@ pub use linker::Linker;
 pub use memo::Memo;
 pub use reading::LinkRow;
 pub use renew::{Counts, GONE};
+pub use renewal::Renewal;
 pub use seat::Seat;
 pub use shown::{CallAnswer, LinkShown, MOST_ROWS, NULL, Row};
 pub use targets::TargetPart;
 pub use told::{
-    CLOSED, DONE, MALFORMED, MEMORY, NO_CLASS_FILE, NO_SUCH_PLACE, OPEN_ALREADY, SITES_FULL,
-    TOO_SHORT, Told, UNKNOWN_CLASS,
+    CLOSED, DONE, MALFORMED, MEMORY, NO_CLASS_FILE, NO_SUCH_PLACE, OPEN_ALREADY, RELEASED,
+    SITES_FULL, TOO_SHORT, Told, UNKNOWN_CLASS,
 };
 pub use view::View;

@@ -1,6 +1,6 @@
 //! The linker.
 
-ghost use Rattle.std.specs.Prelude.{◌≡◌, Some, None, option_map, IfOk, OnErr};
+ghost use Rattle.std.specs.Prelude.{◌≡◌, ◌≤◌, Some, None, option_map, option_copied, is_some, IfOk, OnErr};
 ghost use Rattle.jl_types.specs.Linkage.Calls.{dispatch};
 ghost use Rattle.jl_types.specs.Events.History.{installed};
 ghost use Rattle.jl_core.specs.State.{events, world_of};
@@ -13,6 +13,7 @@ ghost use Rattle.jl_host.specs.Targets.{IsNewCallSiteOf, IsSetTargetOf};
 ghost use Rattle.jl_host.specs.Views.{IsInstallLinks};
 ghost use Rattle.jl_host.specs.Asking.{IsLookup, IsClassName, IsMethodName, IsMethodType, IsInvocations, IsNamed, IsAwaited, IsLastWork};
 ghost use Rattle.jl_host.specs.Renewals.{IsCounts, IsRenew, arrays_of, released_of};
+ghost use Rattle.jl_host.specs.Renewing.{begun_in};
 ghost use Rattle.jl_host.specs.Linkers.{Opened as OpenedValue};
 
 use crate::arrays::{copy_sites, copy_text, sites_of, switches_of};
@@ -20,6 +21,7 @@ use crate::asked::{
     copy_awaited, copy_class_name, copy_invocations_of, copy_method_name, copy_method_type,
     copy_name, find_class,
 };
+use crate::begun::Begun;
 use crate::invocations::Invocation;
 use crate::opened::Opened;
 use crate::reading::{LinkRow, rows_of};
@@ -39,7 +41,7 @@ use std::alloc::{AllocError, Global};
 use std::marker::Model;
 
 /// The most places that may be requested.
-const MOST_SITES: u32 = 1 << 20;
+pub(crate) const MOST_SITES: u32 = 1 << 20;
 
 /// A linker that is open, or isn't. A clause sees what stands behind it.
 pub struct Linker {
@@ -540,14 +542,54 @@ impl Linker {
         }
         match opened.renewed(alloc, released_call_sites, released_switches, max_sites) {
             Ok((made, numbers)) => {
-                write_numbers(
-                    &numbers, &counts, loaders, classes, sites, call_sites, switches,
-                );
+                write_numbers(&numbers, loaders, classes, sites, call_sites, switches);
                 fresh.opened = Some(made);
                 DONE
             }
             Err(refusal) => status_of_refusal(&refusal),
         }
+    }
+
+    /// Whether it is open.
+    pub(crate) fn is_open(&self) -> bool
+        ensures { result ≡ is_some self.now }
+    {
+        self.opened.is_some()
+    }
+
+    /// What stands behind it, where it is open.
+    pub(crate) fn opened(&self) -> Option<&Opened>
+        ensures { option_copied result ≡ self.now }
+    {
+        self.opened.as_ref()
+    }
+
+    /// Opens it over what was made.
+    pub(crate) fn open_over(&mut self, opened: Opened)
+        ensures { self.new ≡ Some opened }
+    {
+        self.opened = Some(opened);
+    }
+
+    /// A renewal that begins, where it is open, of which the host has released these; so many places may be requested in the fresh linker.
+    /// Want of memory is an error.
+    pub(crate) fn begun(
+        &mut self,
+        alloc: Global,
+        call_sites: &[u32],
+        switches: &[u32],
+        max_sites: u32,
+    ) -> Result<Option<Begun>, AllocError>
+        requires { 1 ≤ max_sites }
+        ensures same { self.new ≡ self.old }
+        ensures begun { IfOk result (λ begun. begun
+            ≡ option_map (λ opened. begun_in opened (released_of call_sites.now switches.now) max_sites) self.old) }
+    {
+        let Some(opened) = &mut self.opened else {
+            return Ok(None);
+        };
+        let begun = opened.begun(alloc, call_sites, switches, max_sites)?;
+        Ok(Some(begun))
     }
 
     /// Its links as they are now, and how many classes there are, where it is open. Want of memory is an error.

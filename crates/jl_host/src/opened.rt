@@ -11,8 +11,12 @@ ghost use Rattle.jl_host.specs.Linkers.{last_dropped};
 ghost use Rattle.jl_host.specs.Seats.{seen_of};
 ghost use Rattle.jl_host.specs.Views.{IsGiven, present_of};
 ghost use Rattle.jl_host.specs.Renewals.{counts_of, released_of};
+ghost use Rattle.jl_host.specs.Renewing.{begun_in};
+ghost use Rattle.jl_host.specs.ForProofs.Behind.{IsBehind};
 
+use crate::begun::Begun;
 use crate::behind::{Links, catch_up, no_links};
+use crate::fresh::Start;
 use crate::renew::{Counts, released_of};
 use crate::seat_view::SeatView;
 use crate::shown::{LinkShown, link_shown};
@@ -91,6 +95,46 @@ impl Opened {
             links,
             reached: 0,
         })
+    }
+
+    /// One over this core, which has these links but for the sites that were touched by the events from the `reached`-th on. Takes no
+    /// memory.
+    pub(crate) fn with_links(
+        alloc: Global,
+        core: Core,
+        links: Arc<Links>,
+        reached: usize,
+    ) -> Opened
+        requires { IsBehind links.value reached core }
+        ensures { result ≡ opened_over core }
+    {
+        Opened {
+            session: Session::of(alloc, core),
+            said: Vec::new(alloc),
+            named: None,
+            links,
+            reached,
+        }
+    }
+
+    /// A renewal of this core that begins, of which the host has released these; so many places may be requested in the fresh one. Want
+    /// of memory is an error.
+    pub(crate) fn begun(
+        &mut self,
+        alloc: Global,
+        call_sites: &[u32],
+        switches: &[u32],
+        max_sites: u32,
+    ) -> Result<Begun, AllocError>
+        requires { 1 ≤ max_sites }
+        ensures same { self.new ≡ self.old }
+        ensures begun { IfOk result (λ begun. begun ≡ begun_in self.old (released_of call_sites.now switches.now) max_sites) }
+    {
+        let released = released_of(alloc, call_sites, switches)?;
+        let links = self.links_now()?;
+        let seen = self.core().snapshot(alloc)?;
+        let start = Start::new(seen, self.counts().sites, links, released);
+        Begun::new(alloc, start, max_sites)
     }
 
     /// One over a fresh core that has what stays of this one's, where so many places may be requested, and the numbers of what stays.
@@ -263,10 +307,19 @@ impl Opened {
         ensures same { self.new ≡ self.old }
         ensures seen { IfOk result (λ seen. seen ≡ seen_of self.old.session.core) }
     {
+        let links = self.links_now()?;
+        Ok(SeatView::new(links, self.session.core().class_count()))
+    }
+
+    /// The links as they are now, in pages that are shared. Want of memory is an error.
+    fn links_now(&mut self) -> Result<Arc<Links>, AllocError>
+        ensures same { self.new ≡ self.old }
+        ensures links { IfOk result (λ links. links.value ≡ (seen_of self.old.session.core).links) }
+    {
         let reached = catch_up(&mut self.links, self.session.core(), self.reached)?;
         self.reached = reached;
         let links = Arc::try_clone(&self.links)?;
-        Ok(SeatView::new(links, self.session.core().class_count()))
+        Ok(links)
     }
 }
 

@@ -2,16 +2,13 @@
 
 ghost use Rattle.std.specs.Prelude.{◌≡◌, ◌<◌, ◌≤◌, ◌^◌, nat_le, true, length, IfOk};
 ghost use Rattle.jl_core.specs.State.{world_of};
-ghost use Rattle.jl_renewal.specs.Numbers as renewed;
 ghost use Rattle.jl_host.specs.Renewals as renewals;
 ghost use Rattle.jl_host.specs.Renewals.{counts_of, no_counts, arrays_of, at_front, with_numbers};
-ghost use Rattle.jl_host.specs.ForProofs.Kinds.{of_kind, HasCounts};
 
 use crate::arrays::{call_sites_of, switches_of};
 use jl_core::Core;
 use jl_names::Seq;
 use jl_renewal::{Released, Renumbering};
-use jl_types::{CallSiteId, ClassId, LoaderId, SiteNo, SwitchId};
 use std::alloc::{AllocError, Global};
 
 /// The new number of what a renewal doesn't take over.
@@ -99,29 +96,6 @@ pub(crate) fn released_of(
     })
 }
 
-/// What has a number.
-#[derive(Clone, Copy, Debug)]
-pub(crate) enum Kind {
-    Loader,
-    Class,
-    Site,
-    CallSite,
-    Switch,
-}
-
-/// The new number of what had this one, if it stays.
-fn new_number(numbers: &Renumbering, kind: Kind, old: u32) -> Option<u32>
-    ensures { result ≡ renewed.new_number (of_kind kind numbers.now) old }
-{
-    match kind {
-        Kind::Loader => Some(numbers.loader(LoaderId::new(old))?.number()),
-        Kind::Class => Some(numbers.class(ClassId::new(old))?.number()),
-        Kind::Site => Some(numbers.site(SiteNo::new(old))?.number()),
-        Kind::CallSite => Some(numbers.call_site(CallSiteId::new(old))?.number()),
-        Kind::Switch => Some(numbers.switch(SwitchId::new(old))?.number()),
-    }
-}
-
 /// The new number, or `GONE`.
 fn number_shown(number: Option<u32>) -> u32
     ensures { result ≡ renewals.number_shown number }
@@ -132,35 +106,57 @@ fn number_shown(number: Option<u32>) -> u32
     }
 }
 
-/// Writes the new numbers of this kind to the front of the array, where they fit: there are so many of them.
-fn write_kind(numbers: &Renumbering, kind: Kind, count: u32, out: &mut [u32])
-    requires count { count ≡ length (of_kind kind numbers.now) }
-    requires fits { count ≤ length out.old }
-    ensures { out.new ≡ at_front (of_kind kind numbers.now) out.old }
+/// Whether the array has a place for each number.
+fn has_place(numbers: &[Option<u32>], array: &[u32]) -> bool
+    ensures { result ≡ nat_le (length numbers.now) (length array.now) }
 {
-    for old in 0..count {
-        out[old as usize] = number_shown(new_number(numbers, kind, old));
+    numbers.len() <= array.len()
+}
+
+/// Whether arrays of these lengths have a place for each number.
+pub(crate) fn have_places(
+    numbers: &Renumbering,
+    loaders: &[u32],
+    classes: &[u32],
+    sites: &[u32],
+    call_sites: &[u32],
+    switches: &[u32],
+) -> bool
+    ensures { result ≡ renewals.have_room (renewals.counts_in numbers.now) (arrays_of loaders.now classes.now sites.now call_sites.now switches.now) }
+{
+    has_place(numbers.loaders(), loaders)
+        && has_place(numbers.classes(), classes)
+        && has_place(numbers.sites(), sites)
+        && has_place(numbers.call_sites(), call_sites)
+        && has_place(numbers.switches(), switches)
+}
+
+/// Writes the new numbers to the front of the array, where they fit.
+fn write_kind(numbers: &[Option<u32>], out: &mut [u32])
+    requires { length numbers.now ≤ length out.old }
+    ensures { out.new ≡ at_front numbers.now out.old }
+{
+    for (place, number) in numbers.iter().enumerate() {
+        out[place] = number_shown(*number);
     }
 }
 
 /// Writes the new numbers to the fronts of the arrays, where they fit.
 pub(crate) fn write_numbers(
     numbers: &Renumbering,
-    counts: &Counts,
     loaders: &mut [u32],
     classes: &mut [u32],
     sites: &mut [u32],
     call_sites: &mut [u32],
     switches: &mut [u32],
 )
-    requires counts { HasCounts numbers.now counts.now }
-    requires fit { renewals.have_room counts.now (arrays_of loaders.old classes.old sites.old call_sites.old switches.old) ≡ true }
+    requires { renewals.have_room (renewals.counts_in numbers.now) (arrays_of loaders.old classes.old sites.old call_sites.old switches.old) ≡ true }
     ensures { arrays_of loaders.new classes.new sites.new call_sites.new switches.new
         ≡ with_numbers numbers.now (arrays_of loaders.old classes.old sites.old call_sites.old switches.old) }
 {
-    write_kind(numbers, Kind::Loader, counts.loaders, loaders);
-    write_kind(numbers, Kind::Class, counts.classes, classes);
-    write_kind(numbers, Kind::Site, counts.sites, sites);
-    write_kind(numbers, Kind::CallSite, counts.call_sites, call_sites);
-    write_kind(numbers, Kind::Switch, counts.switches, switches);
+    write_kind(numbers.loaders(), loaders);
+    write_kind(numbers.classes(), classes);
+    write_kind(numbers.sites(), sites);
+    write_kind(numbers.call_sites(), call_sites);
+    write_kind(numbers.switches(), switches);
 }

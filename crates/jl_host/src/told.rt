@@ -43,6 +43,9 @@ pub const OPEN_ALREADY: u32 = 35;
 /// The status of a call whose array is too short.
 pub const TOO_SHORT: u32 = 36;
 
+/// The status of a renewal of which an event names what its host has released.
+pub const RELEASED: u32 = 37;
+
 /// What an event made, or why it was refused: each number that says nothing is 0.
 #[repr(C)]
 #[derive(Clone, Copy, Debug, PartialEq, Eq)]
@@ -389,4 +392,17 @@ pub(crate) fn unasked(reason: u32, told: &mut Told) -> u32
 {
     *told = Told::nothing();
     reason
+}
+
+/// An event names what a renewal has released: this, after so many events.
+pub(crate) fn tell_released(place: u32, before: usize, told: &mut Told) -> u32
+    ensures status { result ≡ numbers.released }
+    ensures told { told.new ≡ telling.told_of_released place before }
+{
+    *told = Told {
+        number: before.min(u32::MAX as usize) as u32,
+        place,
+        ..Told::nothing()
+    };
+    RELEASED
 }

@@ -10,6 +10,8 @@ use Rattle.jl_host.specs.contracts.linker.Linker.{the_row}
 use Rattle.jl_host.specs.contracts.seat.Seat.{the_row as seat_row}
 use Rattle.jl_host.specs.contracts.memo.Memo.{the_row as memo_row}
 use Rattle.jl_host.specs.contracts.view.View.{the_row as view_row}
+use Rattle.jl_host.specs.contracts.renewal.Renewal.{the_row as renewal_row}
+use Rattle.jl_host.specs.Renewing.{Renewing}
 use Rattle.jl_relink.specs.Preparations.{Snapshot}
 use Rattle.jl_memo.specs.declared.set.Set.{Set}
 
@@ -116,3 +118,33 @@ view_bytes = size (lone view_row.mir)
 
 abbrev pub view_multiple : ℕ
 view_multiple = align (lone view_row.mir)
+
+-- ---- renewals
+
+-- a renewal at p that has this, or hasn't begun
+abbrev pub renewal_at : Ptr → Option Renewing → Fml
+renewal_at p renewal = points_to renewal_row p renewal
+
+-- a renewal at p of which P holds
+abbrev pub renewal_left : Ptr → (Option Renewing → Type 0) → Fml
+renewal_left p P = fex (Option Renewing) (λ renewal. fsep (renewal_at p renewal) (fex (P renewal) (λ _. ftrue)))
+
+-- a renewal and a linker of which P holds
+abbrev pub begun_left : Ptr → Ptr → (Option Renewing × Option Opened → Type 0) → Fml
+begun_left p q P = fex (Option Renewing × Option Opened) (λ s. fsep (fsep (renewal_at p s.0) (linker_at q s.1)) (fex (P s) (λ _. ftrue)))
+
+-- a renewal and two linkers of which P holds
+abbrev pub finished_left : Ptr → Ptr → Ptr → (Option Renewing × Option Opened × Option Opened → Type 0) → Fml
+finished_left p q r P = fex (Option Renewing × Option Opened × Option Opened)
+    (λ s. fsep (fsep (fsep (renewal_at p s.0) (linker_at q s.1)) (linker_at r s.2)) (fex (P s) (λ _. ftrue)))
+
+-- room for a renewal at p
+abbrev pub renewal_room : Ptr → Fml
+renewal_room p = uninit_at renewal_row p
+
+-- the bytes of a renewal, and the number that its address is a multiple of
+abbrev pub renewal_bytes : ℕ
+renewal_bytes = size (lone renewal_row.mir)
+
+abbrev pub renewal_multiple : ℕ
+renewal_multiple = align (lone renewal_row.mir)

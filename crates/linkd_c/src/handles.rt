@@ -1,16 +1,17 @@
-//! What C sees of linkers, seats, memos and views, each of which may go from one thread to another.
+//! What C sees of linkers, seats, memos, views and renewals, each of which may go from one thread to another.
 
-use jl_host::{Linker, Memo, Seat, View};
+use jl_host::{Linker, Memo, Renewal, Seat, View};
 
 /// Shows that a value of the type may go from one thread to another.
 fn crosses<T: Send>() {}
 
-/// Linkers, seats, memos and views may: this is refused where one of them may not.
+/// Linkers, seats, memos, views and renewals may: this is refused where one of them may not.
 fn all_cross() {
     crosses::<Linker>();
     crosses::<Seat>();
     crosses::<Memo>();
     crosses::<View>();
+    crosses::<Renewal>();
 }
 
 /// What C sees of a linker: nothing.
@@ -38,5 +39,12 @@ pub struct LinkdMemo {
 #[repr(C)]
 #[derive(Drop)]
 pub struct LinkdView {
+    hidden: u8,
+}
+
+/// What C sees of a renewal: nothing.
+#[repr(C)]
+#[derive(Drop)]
+pub struct LinkdRenewal {
     hidden: u8,
 }

@@ -1,6 +1,6 @@
 //! The C interface: `include/linkd.h` declares these functions, and says what a caller owes.
 //!
-//! What linkers, seats, memos and views are, and how a caller makes one of a block of memory, the header says. Each function is one call of
+//! What linkers, seats, memos, views and renewals are, and how a caller makes one of a block of memory, the header says. Each function is one call of
 //! jl_host, and says of what lies behind the handle what that call says of its value; `specs/Handle` says what lies there.
 #![tactic(auto)]
 
@@ -22,8 +22,9 @@ ghost use Rattle.linkd_c.specs.Handle.{memo_at, memo_left, asked_left, called_le
 ghost use Rattle.linkd_c.specs.Handle.{view_at, view_left, taken_left, view_room, view_bytes, view_multiple};
 
 mod handles;
+mod renewals;
 
-pub use handles::{Linkd, LinkdMemo, LinkdSeat, LinkdView};
+pub use handles::{Linkd, LinkdMemo, LinkdRenewal, LinkdSeat, LinkdView};
 use jl_host::{
     CallAnswer, Counts, Invocation, LinkRow, LinkShown, Linker, Memo, Seat, TargetPart, Told, View,
 };
@@ -32,9 +33,9 @@ use std::alloc::Global;
 /// Which header the library is of: LINKD_VERSION there.
 #[unsafe(no_mangle)]
 pub extern "C" fn linkd_version() -> u32
-    ensures { result ≡ 3 }
+    ensures { result ≡ 4 }
 {
-    3
+    4
 }
 
 /// The bytes of a linker.

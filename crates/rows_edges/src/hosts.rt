@@ -6,10 +6,10 @@ use jl_host::{GONE, Linker, Memo, NULL, Seat, TargetPart};
 use std::process::Abort;
 
 /// A step, and the numbers that it is to come to.
-type StepRow = (Step, &'static [u32]);
+pub(crate) type StepRow = (Step, &'static [u32]);
 
 /// java/lang/Object, without methods.
-const OBJECT: &[u8] =
+pub(crate) const OBJECT: &[u8] =
     b"\xca\xfe\xba\xbe\x00\x00\x00\x3d\x00\x03\x01\x00\x10java/lang/Object\x07\x00\x01\x00\x21\x00\x02\x00\x00\x00\x00\x00\x00\x00\x00\x00\x00";
 
 /// java/lang/Object, without methods, in a file of version 65.0, Java 21's.
@@ -17,7 +17,7 @@ const OBJECT_OF_21: &[u8] =
     b"\xca\xfe\xba\xbe\x00\x00\x00\x41\x00\x03\x01\x00\x10java/lang/Object\x07\x00\x01\x00\x21\x00\x02\x00\x00\x00\x00\x00\x00\x00\x00\x00\x00";
 
 /// A, below java/lang/Object, with a public f of the type ()V.
-const A: &[u8] =
+pub(crate) const A: &[u8] =
     b"\xca\xfe\xba\xbe\x00\x00\x00\x3d\x00\x08\x01\x00\x01A\x07\x00\x01\x01\x00\x10java/lang/Object\x07\x00\x03\x01\x00\x01f\x01\x00\x03()V\x01\x00\x04Code\x00\x21\x00\x02\x00\x04\x00\x00\x00\x00\x00\x01\x00\x01\x00\x05\x00\x06\x00\x01\x00\x07\x00\x00\x00\x0d\x00\x00\x00\x00\x00\x00\x00\x01\xb1\x00\x00\x00\x00\x00\x00";
 
 /// The method m of T.
@@ -56,7 +56,7 @@ const NO_PART: TargetPart = TargetPart {
 };
 
 /// Asserts each row of the script, on a linker, a seat, a memo and a view that were made just now.
-fn assert_rows(rt: &(impl Abort + AllocGlobal), script: &str, rows: &[StepRow]) {
+pub(crate) fn assert_rows(rt: &(impl Abort + AllocGlobal), script: &str, rows: &[StepRow]) {
     let mut linker = Linker::blank();
     let mut seat = Seat::blank();
     let mut memo = Memo::blank();

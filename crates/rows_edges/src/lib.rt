@@ -18,6 +18,8 @@ mod hosts;
 #[cfg(test)]
 mod refusals;
 #[cfg(test)]
+mod renewals;
+#[cfg(test)]
 mod steps;
 #[cfg(test)]
 mod streams;

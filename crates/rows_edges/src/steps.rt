@@ -1,8 +1,8 @@
 //! Steps on a linker, a seat, a memo and a view, each with numbers for an answer.
 
 use jl_host::{
-    CallAnswer, Counts, Invocation, LinkRow, LinkShown, Linker, Memo, Row, Seat, TargetPart, Told,
-    View,
+    CallAnswer, Counts, Invocation, LinkRow, LinkShown, Linker, Memo, Renewal, Row, Seat, TargetPart,
+    Told, View,
 };
 use std::alloc::Global;
 use std::mem;
@@ -79,13 +79,22 @@ pub enum Step {
     /// A renewal for so many places, where these call sites were let go, with arrays of so many numbers. The fresh linker takes the old
     /// one's place.
     Renew(u32, &'static [u32], usize),
+    /// A renewal in steps begins, for so many places, where these call sites and these switch points were let go.
+    Begin(u32, &'static [u32], &'static [u32]),
+    /// The next events are taken, at most so many.
+    TakeNext(usize),
+    Fill,
+    /// With arrays of so many numbers. The fresh linker takes the old one's place.
+    Finish(usize),
+    LeaveRenewal,
 }
 
-/// A view, and the links that were prepared in it.
+/// A view, the links that were prepared in it, and a renewal.
 #[derive(Drop)]
 pub struct Compiler {
     pub view: View,
     pub links: [LinkShown; 4],
+    pub renewal: Renewal,
 }
 
 impl Compiler {
@@ -94,6 +103,7 @@ impl Compiler {
         Compiler {
             view: View::blank(),
             links: [unshown(); 4],
+            renewal: Renewal::blank(),
         }
     }
 }
@@ -341,6 +351,68 @@ fn renewal_numbers(
     ])
 }
 
+/// The status of a finish, what is told, and the new numbers of class 2, sites 0 and 1, call site 0 and switch point 0.
+fn finish_numbers(
+    alloc: Global,
+    linker: &mut Linker,
+    renewal: &mut Renewal,
+    room: usize,
+) -> Numbers {
+    let mut told = untold();
+    let mut fresh = Linker::blank();
+    let (mut loaders, mut classes, mut sites) = ([9; 6], [9; 6], [9; 6]);
+    let (mut call_sites, mut switches) = ([9; 6], [9; 6]);
+    let room = room.min(6);
+    let status = renewal.finish(
+        alloc,
+        linker,
+        &mut fresh,
+        &mut told,
+        &mut loaders[..room],
+        &mut classes[..room],
+        &mut sites[..room],
+        &mut call_sites[..room],
+        &mut switches[..room],
+    );
+    if status == 0 {
+        mem::swap(linker, &mut fresh);
+    }
+    numbers(&[
+        status,
+        told.number,
+        told.place,
+        classes[2],
+        sites[0],
+        sites[1],
+        call_sites[0],
+        switches[0],
+    ])
+}
+
+/// What a step of a renewal comes to.
+fn step_numbers(alloc: Global, linker: &mut Linker, renewal: &mut Renewal, step: &Step) -> Numbers {
+    match step {
+        Step::Begin(max_sites, call_sites, switches) => {
+            numbers(&[renewal.begin(alloc, linker, *max_sites, call_sites, switches)])
+        }
+        Step::TakeNext(most) => {
+            let mut left = 99;
+            let status = renewal.take(alloc, linker, *most, &mut left);
+            numbers(&[status, u32::try_from(left).unwrap_or(98)])
+        }
+        Step::Fill => {
+            let mut told = untold();
+            let status = renewal.fill(alloc, &mut told);
+            told_numbers(status, &told)
+        }
+        Step::Finish(room) => finish_numbers(alloc, linker, renewal, *room),
+        _ => {
+            renewal.leave();
+            numbers(&[])
+        }
+    }
+}
+
 /// What an event comes to.
 fn event_numbers(alloc: Global, linker: &mut Linker, step: &Step) -> Numbers {
     let mut told = untold();
@@ -536,6 +608,9 @@ pub fn answer(
         | Step::Spoil(..)
         | Step::InstallLinks(..)
         | Step::LeaveView => view_numbers(alloc, linker, by, step),
+        Step::Begin(..) | Step::TakeNext(_) | Step::Fill | Step::Finish(_) | Step::LeaveRenewal => {
+            step_numbers(alloc, linker, &mut by.renewal, step)
+        }
         _ => memo_numbers(alloc, linker, seat, memo, step),
     }
 }

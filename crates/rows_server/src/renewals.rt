@@ -115,8 +115,8 @@ const THEN: &[Deed] = &[
     Retire(3),
 ];
 
-/// What it adds once it is to stop. Call site 4, which is bound at site 12, guards by switch point 4, which becomes invalid. All sites that
-/// are there are installed; site 12 is requested twice.
+/// What it adds once it is to stop. Call site 4, which is bound at site 12, guards by switch point 4, which becomes invalid. Site 12 is requested
+/// twice. Sites 9 and 11 aren't installed again: the link of 9 comes with the first links, and that of 11 with an entry before the stop.
 const LAST: &[Deed] = &[
     Switch,
     CallSite(5),
@@ -125,10 +125,10 @@ const LAST: &[Deed] = &[
     Bind(12, 4),
     Guard(4, 4, 5),
     Invalidate(4),
-    Install(0x1eff),
+    Install(0x14ff),
 ];
 
-/// How many sites that stay are linked then.
+/// How many sites are linked then: 0 to 7, and 9 to 12.
 const LINKS: usize = 12;
 
 /// What it adds in the fresh server, where T is class 3: the call site that was bound to nothing is 1 and is bound at site 12.

@@ -379,21 +379,40 @@ public final class Linker implements AutoCloseable {
      */
     public synchronized Renewal renew(int maxSites, Released released) {
         MemorySegment open = at();
+        return renewed((call, fresh, numbers) ->
+                Numbers.done(Native.renew(open, fresh, maxSites, released.callSiteNumbers(call), released.pointNumbers(call), numbers)));
+    }
+
+    /** A call that opens a fresh linker, and writes the new numbers of each kind into an array. */
+    interface Opening {
+        void into(Arena call, MemorySegment fresh, MemorySegment[] numbers);
+    }
+
+    /** The fresh linker of a call that holds this one's monitor, and the ids there. */
+    Renewal renewed(Opening opening) {
         Linker fresh = new Linker(Arena.ofAuto());
         try (Arena call = Arena.ofConfined()) {
             MemorySegment counts = call.allocate(JAVA_INT, Native.COUNTS);
-            Numbers.done(Native.counts(open, counts));
+            Numbers.done(Native.counts(at(), counts));
             MemorySegment[] numbers = Arrays.stream(counts.toArray(JAVA_INT)).mapToObj(count -> call.allocate(JAVA_INT, count))
                     .toArray(MemorySegment[]::new);
-            int[] callSites = released.callSites().stream().mapToInt(CallSiteId::number).toArray();
-            int[] points = released.points().stream().mapToInt(SwitchId::number).toArray();
-            Numbers.done(Native.renew(open, fresh.at, maxSites, call.allocateFrom(JAVA_INT, callSites), call.allocateFrom(JAVA_INT, points),
-                    numbers));
+            opening.into(call, fresh.at, numbers);
             return new Renewal(fresh, Arrays.stream(numbers).map(array -> array.toArray(JAVA_INT)).toArray(int[][]::new));
         } catch (RefusedException refused) {
             fresh.close();
             throw refused;
         }
+    }
+
+    /**
+     * Begins to do in steps what {@link #renew} does in one call: between these steps this linker goes on, and its monitor is held for
+     * moments alone.
+     *
+     * @param maxSites as of {@link #renew}; give as many as this linker was opened with, or requests that are still to come may be refused
+     *     there
+     */
+    public Renewing beginRenewal(int maxSites, Released released) {
+        return new Renewing(this, maxSites, released);
     }
 
     /** A place for this thread to read links. */

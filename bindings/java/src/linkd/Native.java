@@ -47,6 +47,8 @@ final class Native {
     private static final MethodHandle MEMO_ALIGN = handle("linkd_memo_align", FunctionDescriptor.of(JAVA_LONG));
     private static final MethodHandle VIEW_SIZE = handle("linkd_view_size", FunctionDescriptor.of(JAVA_LONG));
     private static final MethodHandle VIEW_ALIGN = handle("linkd_view_align", FunctionDescriptor.of(JAVA_LONG));
+    private static final MethodHandle RENEWAL_SIZE = handle("linkd_renewal_size", FunctionDescriptor.of(JAVA_LONG));
+    private static final MethodHandle RENEWAL_ALIGN = handle("linkd_renewal_align", FunctionDescriptor.of(JAVA_LONG));
     private static final MethodHandle BLANK = handle("linkd_blank", FunctionDescriptor.ofVoid(ADDRESS));
     private static final MethodHandle CLOSE = handle("linkd_close", FunctionDescriptor.ofVoid(ADDRESS));
     private static final MethodHandle SEAT_BLANK = handle("linkd_seat_blank", FunctionDescriptor.ofVoid(ADDRESS));
@@ -55,6 +57,8 @@ final class Native {
     private static final MethodHandle MEMO_CLOSE = handle("linkd_memo_close", FunctionDescriptor.ofVoid(ADDRESS));
     private static final MethodHandle VIEW_BLANK = handle("linkd_view_blank", FunctionDescriptor.ofVoid(ADDRESS));
     private static final MethodHandle VIEW_LEAVE = handle("linkd_view_leave", FunctionDescriptor.ofVoid(ADDRESS));
+    private static final MethodHandle RENEWAL_BLANK = handle("linkd_renewal_blank", FunctionDescriptor.ofVoid(ADDRESS));
+    private static final MethodHandle RENEWAL_LEAVE = handle("linkd_renewal_leave", FunctionDescriptor.ofVoid(ADDRESS));
     private static final MethodHandle OPEN = status("linkd_open", JAVA_INT);
     private static final MethodHandle NEW_LOADER = status("linkd_new_loader", ADDRESS);
     private static final MethodHandle DEFINE = status("linkd_define", JAVA_INT, ADDRESS, JAVA_LONG, ADDRESS);
@@ -96,6 +100,12 @@ final class Native {
     private static final MethodHandle VIEW_SERIAL = status("linkd_view_serial", ADDRESS);
     private static final MethodHandle VIEW_CALL = status("linkd_view_call", JAVA_INT, JAVA_INT, ADDRESS);
     private static final MethodHandle VIEW_PREPARE = status("linkd_view_prepare", ADDRESS, JAVA_LONG, ADDRESS, JAVA_LONG, ADDRESS);
+    private static final MethodHandle RENEWAL_BEGIN =
+            status("linkd_renewal_begin_with", ADDRESS, JAVA_INT, ADDRESS, JAVA_LONG, ADDRESS, JAVA_LONG);
+    private static final MethodHandle RENEWAL_TAKE = status("linkd_renewal_take", ADDRESS, JAVA_LONG, ADDRESS);
+    private static final MethodHandle RENEWAL_FILL = status("linkd_renewal_fill", ADDRESS);
+    private static final MethodHandle RENEWAL_FINISH = status("linkd_renewal_finish_into", ADDRESS, ADDRESS, ADDRESS, ADDRESS, JAVA_LONG,
+            ADDRESS, JAVA_LONG, ADDRESS, JAVA_LONG, ADDRESS, JAVA_LONG, ADDRESS, JAVA_LONG);
 
     private Native() {
     }
@@ -106,7 +116,7 @@ final class Native {
         return java.lang.foreign.Linker.nativeLinker().downcallHandle(function, type);
     }
 
-    /** A call on a linker, a seat, a memo or a view that answers a status. */
+    /** A call on a linker, a seat, a memo, a view or a renewal that answers a status. */
     private static MethodHandle status(String name, MemoryLayout... rest) {
         return handle(name, FunctionDescriptor.of(JAVA_INT, ADDRESS).appendArgumentLayouts(rest));
     }
@@ -160,6 +170,13 @@ final class Native {
         return at;
     }
 
+    /** A renewal that hasn't begun. */
+    static MemorySegment renewal(Arena arena) {
+        MemorySegment at = block(arena, RENEWAL_SIZE, RENEWAL_ALIGN);
+        call(RENEWAL_BLANK, at);
+        return at;
+    }
+
     static void close(MemorySegment at) {
         call(CLOSE, at);
     }
@@ -174,6 +191,10 @@ final class Native {
 
     static void viewLeave(MemorySegment at) {
         call(VIEW_LEAVE, at);
+    }
+
+    static void renewalLeave(MemorySegment at) {
+        call(RENEWAL_LEAVE, at);
     }
 
     static int open(MemorySegment at, int maxSites) {
@@ -489,6 +510,40 @@ final class Native {
     static int viewPrepare(MemorySegment at, MemorySegment sites, long count, MemorySegment links, MemorySegment told) {
         try {
             return (int) VIEW_PREPARE.invokeExact(at, sites, count, links, count, told);
+        } catch (Throwable fault) {
+            throw failed(fault);
+        }
+    }
+
+    static int renewalBegin(MemorySegment at, MemorySegment from, int maxSites, MemorySegment callSites, MemorySegment points) {
+        try {
+            return (int) RENEWAL_BEGIN.invokeExact(at, from, maxSites, callSites, count(callSites), points, count(points));
+        } catch (Throwable fault) {
+            throw failed(fault);
+        }
+    }
+
+    static int renewalTake(MemorySegment at, MemorySegment from, long most, MemorySegment left) {
+        try {
+            return (int) RENEWAL_TAKE.invokeExact(at, from, most, left);
+        } catch (Throwable fault) {
+            throw failed(fault);
+        }
+    }
+
+    static int renewalFill(MemorySegment at, MemorySegment told) {
+        try {
+            return (int) RENEWAL_FILL.invokeExact(at, told);
+        } catch (Throwable fault) {
+            throw failed(fault);
+        }
+    }
+
+    /** The arrays are those of the new numbers, in the order of a linkd_count. */
+    static int renewalFinish(MemorySegment at, MemorySegment from, MemorySegment fresh, MemorySegment told, MemorySegment[] to) {
+        try {
+            return (int) RENEWAL_FINISH.invokeExact(at, from, fresh, told, to[0], count(to[0]), to[1], count(to[1]), to[2], count(to[2]),
+                    to[3], count(to[3]), to[4], count(to[4]));
         } catch (Throwable fault) {
             throw failed(fault);
         }

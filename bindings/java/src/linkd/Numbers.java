@@ -99,6 +99,7 @@ final class Numbers {
             case 32 -> noClassFile(told, place);
             case 33 -> Refusal.Plain.MALFORMED;
             case 34 -> Refusal.Plain.CLOSED;
+            case 37 -> new Refusal.NamesReleased(place, number(told));
             default -> new Refusal.Other(status, at(told, 1));
         };
     }

@@ -1,6 +1,6 @@
 package linkd;
 
-/** Whose a seat or a memo is: the thread's that has made it, until that closes it. */
+/** Whose a seat, a memo or a renewing is: the thread's that has made it, until that closes it. */
 final class Owner {
     private final Thread thread = Thread.currentThread();
     private boolean open = true;

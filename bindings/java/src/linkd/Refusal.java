@@ -73,6 +73,15 @@ public sealed interface Refusal {
     record Stale(SiteId site, Link present) implements Refusal {
     }
 
+    /**
+     * Since a {@link Renewing} has begun an event has named what was released and is gone. It can't be finished.
+     *
+     * @param number of the call site or the switch point that is gone
+     * @param events how many of the old linker's events the fresh one has
+     */
+    record NamesReleased(int number, int events) implements Refusal {
+    }
+
     /** A refusal of which its name says all. */
     enum Plain implements Refusal {
         /** There is no such class, or it is retired. */
@@ -93,7 +102,7 @@ public sealed interface Refusal {
         LOADERS_FULL,
         /** A type, a target or a link that is none, or a number that is too large. */
         MALFORMED,
-        /** The linker, the seat, the memo or the view is closed. */
+        /** The linker, the seat, the memo, the view or the renewing is closed. */
         CLOSED
     }
 

@@ -1,5 +1,9 @@
 package linkd;
 
+import static java.lang.foreign.ValueLayout.JAVA_INT;
+
+import java.lang.foreign.Arena;
+import java.lang.foreign.MemorySegment;
 import java.util.Collection;
 import java.util.List;
 
@@ -16,5 +20,13 @@ public record Released(Collection<CallSiteId> callSites, Collection<SwitchId> po
     public Released {
         callSites = List.copyOf(callSites);
         points = List.copyOf(points);
+    }
+
+    MemorySegment callSiteNumbers(Arena call) {
+        return call.allocateFrom(JAVA_INT, callSites.stream().mapToInt(CallSiteId::number).toArray());
+    }
+
+    MemorySegment pointNumbers(Arena call) {
+        return call.allocateFrom(JAVA_INT, points.stream().mapToInt(SwitchId::number).toArray());
     }
 }

@@ -4,8 +4,8 @@ import java.util.Optional;
 import java.util.function.IntFunction;
 
 /**
- * A fresh linker, and the ids there of what stays of the old one. None stands for what is gone, and for an id that the old linker hadn't
- * given.
+ * A fresh linker, by {@link Linker#renew} or {@link Renewing#finish}, and the ids there of what stays of the old one. None stands for what
+ * is gone, and for an id that the old linker hadn't given.
  */
 public final class Renewal {
     private final Linker linker;

@@ -288,6 +288,118 @@ final class Tests {
         }
     }
 
+    /**
+     * Loader 1 is retired with its class C 4 before the begin, so that D, which is defined since, is class 4 in the fresh linker; of two call
+     * sites the first one is let go.
+     */
+    private static void aRenewingGoesOnBesideItsLinker() throws Exception {
+        try (World world = World.open()) {
+            Linker linker = world.linker;
+            LoaderId loader = linker.newLoader();
+            SwitchId point = linker.newSwitch();
+            linker.delegate(loader, OBJECT, LoaderId.FIRST);
+            ClassId c = linker.define(loader, withF("C", OBJECT));
+            linker.retire(loader);
+            Target method = new Target.Method(world.m, 1);
+            CallSiteId plain = linker.newCallSite(CallSiteKind.MUTABLE, "()V", method);
+            Renewal renewal;
+            ClassId d;
+            CallSiteId guarded;
+            try (Renewing renewing = linker.beginRenewal(50, new Released(List.of(plain), List.of()))) {
+                same(10L, renewing.take(2));
+                renewing.fill();
+                d = linker.define(withF("D", "A"));
+                same(0L, renewing.take(Long.MAX_VALUE));
+                renewing.fill();
+                linker.install(List.of(world.site));
+                guarded = linker.newCallSite(CallSiteKind.MUTABLE, "()V", new Target.Guard(point, method, method));
+                linker.invalidate(List.of(point));
+                same(3L, renewing.take(0));
+                renewal = renewing.finish();
+                refused(Refusal.Plain.CLOSED, renewing::fill);
+                refused(Refusal.Plain.CLOSED, renewing::finish);
+            }
+            same(List.of(Optional.empty(), Optional.empty(), Optional.of(c)), List.of(renewal.loader(loader), renewal.type(c), renewal.type(d)));
+            same(List.of(Optional.empty(), Optional.of(plain)), List.of(renewal.callSite(plain), renewal.callSite(guarded)));
+            same(List.of(Optional.of(point), Optional.of(world.site)), List.of(renewal.point(point), renewal.site(world.site)));
+            same(Optional.of(table(world, d)), linker.linkOf(world.site));
+            try (Linker fresh = renewal.linker()) {
+                same(Optional.of(table(world, c)), fresh.linkOf(world.site));
+                same(List.of(runs(d), runs(c)), List.of(linker.call(world.site, d), fresh.call(world.site, c)));
+                // It goes on by itself.
+                same(d, fresh.define(withF("E", "A")));
+                same(List.of(world.site), fresh.dropped());
+            }
+        }
+    }
+
+    /** A renewing of the linker, with all that it has. */
+    private static Renewing filled(Linker linker, int maxSites, Released released) {
+        Renewing renewing = linker.beginRenewal(maxSites, released);
+        renewing.take(Long.MAX_VALUE);
+        renewing.fill();
+        return renewing;
+    }
+
+    private static void renewingsAreRefusedByName() throws Exception {
+        try (World world = World.open()) {
+            Linker linker = world.linker;
+            refused(Refusal.Plain.MALFORMED, () -> linker.beginRenewal(0, Released.NOTHING));
+            refused(Refusal.Plain.MALFORMED, () -> linker.beginRenewal(1_048_577, Released.NOTHING));
+            try (Renewing renewing = filled(linker, 1, Released.NOTHING)) {
+                refused(Refusal.Plain.MALFORMED, () -> renewing.take(-1));
+                linker.request(world.m, 0, 3);
+                same(0L, renewing.take(1));
+                refused(Refusal.Plain.SITES_FULL, renewing::fill);
+                refused(Refusal.Plain.SITES_FULL, renewing::finish);
+            }
+            Target method = new Target.Method(world.m, 1);
+            CallSiteId plain = linker.newCallSite(CallSiteKind.MUTABLE, "()V", method);
+            Renewing renewing = filled(linker, 2, new Released(List.of(plain), List.of()));
+            linker.setTarget(plain, method);
+            refused(new Refusal.NamesReleased(plain.number(), 8), renewing::finish);
+            renewing.close();
+            refused(Refusal.Plain.CLOSED, renewing::fill);
+        }
+    }
+
+    private static void aRenewingBelongsToItsThread() throws Exception {
+        try (World world = World.open(); Renewing renewing = world.linker.beginRenewal(1, Released.NOTHING)) {
+            same(WrongThreadException.class, thrownBy(renewing::fill));
+            same(WrongThreadException.class, thrownBy(renewing::close));
+        }
+    }
+
+    /** Each call is answered alike by both linkers, under the new ids. */
+    private static void sameCalls(World world, Renewal renewal, int classes) {
+        try (Linker fresh = renewal.linker()) {
+            for (int number = 0; number < classes; number++) {
+                ClassId type = new ClassId(number);
+                same(Optional.of(type), renewal.type(type));
+                same(world.linker.call(world.site, type), fresh.call(world.site, type));
+            }
+            same(true, fresh.linkOf(world.site).isPresent());
+            same(world.linker.linkOf(world.site), fresh.linkOf(world.site));
+        }
+    }
+
+    private static void aThreadFillsWhileOthersDefine() throws Exception {
+        try (World world = World.open(); Renewing renewing = world.linker.beginRenewal(100, Released.NOTHING)) {
+            List<CompletableFuture<Void>> definers = IntStream.range(0, 6).mapToObj(i -> CompletableFuture.runAsync(() -> {
+                synchronized (world.linker) {
+                    world.linker.define(withF("C" + i, "A"));
+                    world.linker.install(List.of(world.site));
+                }
+            })).toList();
+            while (renewing.take(3) > 0) {
+                renewing.fill();
+            }
+            renewing.fill();
+            definers.forEach(CompletableFuture::join);
+            sameCalls(world, renewing.finish(), 10);
+        }
+    }
+
     private static void aCommandIsAnsweredAsText() {
         try (World world = World.open()) {
             same("{\"links\":[[0,{\"direct\":{\"run\":[1,0]}}]]}", world.linker.answer("{\"do\":\"links\"}"));
@@ -637,6 +749,7 @@ final class Tests {
         refused(Refusal.Plain.CLOSED, () -> linker.awaitedClass(world.site));
         refused(Refusal.Plain.CLOSED, linker::lastWork);
         refused(Refusal.Plain.CLOSED, () -> linker.renew(1, Released.NOTHING));
+        refused(Refusal.Plain.CLOSED, () -> linker.beginRenewal(1, Released.NOTHING));
     }
 
     private static boolean passes(String name, Test test) {
@@ -662,6 +775,10 @@ final class Tests {
                 & passes("sites are refused by name", Tests::sitesAreRefusedByName)
                 & passes("a call site has targets", Tests::aCallSiteHasTargets)
                 & passes("a fresh linker has what stays", Tests::aFreshLinkerHasWhatStays)
+                & passes("a renewing goes on beside its linker", Tests::aRenewingGoesOnBesideItsLinker)
+                & passes("renewings are refused by name", Tests::renewingsAreRefusedByName)
+                & passes("a renewing belongs to its thread", Tests::aRenewingBelongsToItsThread)
+                & passes("a thread fills while others define", Tests::aThreadFillsWhileOthersDefine)
                 & passes("a command is answered as text", Tests::aCommandIsAnsweredAsText)
                 & passes("a memo remembers megamorphic calls", Tests::aMemoRemembersMegamorphicCalls)
                 & passes("a memo of another linker says nothing", Tests::aMemoOfAnotherLinkerSaysNothing)

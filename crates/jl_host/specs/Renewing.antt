@@ -1,0 +1,308 @@
+-- A renewal in steps, beside a linker that goes on: what it has, and what each of its calls leaves.
+use Rattle.std.specs.Prelude.{◌≡◌, ◌⊎◌, ◌+◌, ◌-◌, ◌^◌, ◌==◌, ℕ, true, nat_le, slice_get, List, [], ◌∷◌, ◌++◌, filter_map, take, drop, length, Option, Some, None}
+use Rattle.std.specs.Prelude.{option_map, option_and_then, MatchBool, MatchOption}
+use Rattle.std.specs.Option.{unwrap_or, option_map_or, option_or}
+use Rattle.std.specs.List.{range_with_len}
+use Rattle.jl_types.specs.declared.event.EventOf.TheVariants as event
+use Rattle.jl_types.specs.declared.event.Reply.{Reply}
+use Rattle.jl_types.specs.declared.link.Link.{Link}
+use Rattle.jl_types.specs.declared.refusal.Refusal.{Refusal}
+use Rattle.jl_types.specs.declared.refusal.Refusal.TheVariants.{Memory}
+use Rattle.jl_types.specs.Values.Target.{Target, Method, Guard, Invoker}
+use Rattle.jl_types.specs.Values.World.{World, Classes, nothing_yet}
+use Rattle.jl_types.specs.Events.Verdict.{verdict}
+use Rattle.jl_events.specs.Accepted.{Accepted}
+use Rattle.jl_relink.specs.Preparations.{Snapshot}
+use Rattle.jl_core.specs.State.{State, empty_core, world_of, IsAccepted, IsRefused}
+use Rattle.jl_core.specs.Logs.{Entry, shown, are_told}
+use Rattle.jl_session.specs.Sessions.{snapshot_of}
+use Rattle.jl_renewal.specs.declared.released.Released.{Released}
+use Rattle.jl_renewal.specs.declared.entries.CarryFault.{CarryFault}
+use Rattle.jl_renewal.specs.declared.entries.CarryFault.TheVariants.{Gone, Refused}
+use Rattle.jl_renewal.specs.Numbers.{Numbers, new_number}
+use Rattle.jl_renewal.specs.Renewal.{fresh_rows}
+use Rattle.jl_renewal.specs.Told.{IsFilledFrom, IsPartlyFilled}
+use Rattle.jl_renewal.specs.Adds.{Installs, StopsAt}
+use Rattle.jl_renewal.specs.Carries.{IsAdded, IsUncarried, AreLeft}
+use Rattle.jl_host.specs.declared.told.Told.{Told}
+use Rattle.jl_host.specs.Numbers.{done, memory, malformed, closed, open_already, too_short, released, status_of_refusal}
+use Rattle.jl_host.specs.Telling.{nothing, told_of_refusal, told_of_released}
+use Rattle.jl_host.specs.Linkers.{Opened, opened_over}
+use Rattle.jl_host.specs.Seats.{seen_of}
+use Rattle.jl_host.specs.Renewals.{Arrays, have_room, counts_of, counts_in, with_numbers, may_be}
+
+-- ---- what a renewal has
+
+-- what there was at the begin
+pub record Start : Type 0 where
+  pub seen : Snapshot  -- what there was to link, and how many events there were
+  pub sites : ℕ  -- how many sites were requested
+  pub links : List (Option Link)  -- the installed link of each site
+  pub released : Released
+
+-- the fresh core, and the numbers
+pub record Fresh : Type 0 where
+  pub core : State
+  pub numbers : Numbers
+
+pub record Renewing : Type 0 where
+  pub start : Option Start  -- until the fresh core is made
+  pub fresh : Option Fresh  -- from then on
+  pub max_sites : ℕ  -- how many places may be requested there
+  pub taken : ℕ  -- how many entries were taken
+  pub waiting : List Entry  -- those of them that the fresh core doesn't have yet
+  pub defined : World  -- the classes as they were when entries were taken
+
+-- ---- the begin
+
+abbrev pub begun_from : Start → ℕ → Renewing
+begun_from start max_sites =
+    record { start = Some start; fresh = None; max_sites = max_sites; taken = 0; waiting = []; defined = nothing_yet }
+
+-- of this linker, of which its host has released these
+abbrev pub begun_in : Opened → Released → ℕ → Renewing
+begun_in opened released max_sites =
+    begun_from (record {
+      seen = snapshot_of opened.session;
+      sites = length (world_of opened.session.core).places;
+      links = (seen_of opened.session.core).links;
+      released = released;
+    }) max_sites
+
+-- The linker isn't open; or the renewal has begun; or no such number may be; or it begins, or memory lacked. The linker stays.
+abbrev pub IsBegin : Released → ℕ → Option Renewing → Option Opened → ℕ → Option Renewing → Option Opened → Type 0
+IsBegin gone max_sites before None status after new = (status ≡ closed) × (after ≡ before) × (new ≡ None)
+IsBegin gone max_sites (Some begun) (Some old) status after new = (status ≡ open_already) × (after ≡ Some begun) × (new ≡ Some old)
+IsBegin gone max_sites None (Some old) status after new =
+    MatchBool (may_be max_sites)
+    (((status ≡ done) × (after ≡ Some (begun_in old gone max_sites))) ⊎ ((status ≡ memory) × (after ≡ None)))
+    ((status ≡ malformed) × (after ≡ None))
+    × (new ≡ Some old)
+
+-- ---- taking entries
+
+-- the classes are these, or there are no more than before
+abbrev pub AreBrought : Classes → World → World → Type 0
+AreBrought cs old new = (new.classes ≡ cs) ⊎ ((new ≡ old) × (length cs.rows ≡ length old.classes.rows))
+
+-- these entries of the core's log were taken, with its classes
+pub record AreTaken (core : State) (portion : List Entry) (old new : Renewing) : Type 0 where
+  pub start : new.start ≡ old.start
+  pub fresh : new.fresh ≡ old.fresh
+  pub max_sites : new.max_sites ≡ old.max_sites
+  pub taken : new.taken ≡ old.taken + length portion
+  pub waiting : new.waiting ≡ old.waiting ++ portion
+  pub defined : AreBrought (world_of core).classes old.defined new.defined
+
+-- the entries of the core's log
+abbrev pub AreEntries : State → List Entry → Type 0
+AreEntries core entries = (are_told (world_of core).classes.rows entries ≡ true) × (shown (world_of core).classes.rows entries ≡ core.log)
+
+-- the next entries were taken, at most so many
+abbrev pub IsTakenFrom : ℕ → State → Renewing → Renewing → Type 0
+IsTakenFrom most core old new =
+    (entries : List Entry) × AreEntries core entries × AreTaken core (take most (drop old.taken entries)) old new
+
+-- The renewal hasn't begun, or the linker isn't open; or entries were taken, and the count of those that are left is told.
+abbrev pub IsTake : ℕ → Option Renewing → Option Opened → ℕ → ℕ → ℕ → Option Renewing → Option Opened → Type 0
+IsTake most None from before status left after new = (status ≡ closed) × (left ≡ before) × (after ≡ None) × (new ≡ from)
+IsTake most (Some old) None before status left after new = (status ≡ closed) × (left ≡ before) × (after ≡ Some old) × (new ≡ None)
+IsTake most (Some old) (Some opened) before status left after new = (next : Renewing) × (after ≡ Some next) × (new ≡ Some opened)
+    × (((status ≡ done) × IsTakenFrom most opened.session.core old next) ⊎ ((status ≡ memory) × (next ≡ old)))
+    × (left ≡ length opened.session.core.log - next.taken)
+
+-- ---- the fresh core is made
+
+-- the site with its link, if it has one
+abbrev pub row_at : List (Option Link) → ℕ → Option (ℕ × Link)
+row_at links s = option_map (λ l. (s, l)) (option_and_then (λ slot. slot) (slice_get links s))
+
+-- of the first so many sites each that has a link, with it
+abbrev pub listed : List (Option Link) → ℕ → List (ℕ × Link)
+listed links sites = filter_map (row_at links) (range_with_len 0 sites)
+
+-- The fresh core has accepted the events of a renewal of what there was at the begin, and installed the links of the sites that had one.
+pub record IsMade (start : Start) (past : List Entry) (max_sites : ℕ) (made : Fresh) : Type 0 where
+  pub between : State
+  pub refilled : IsFilledFrom start.seen.world past start.released made.numbers (empty_core max_sites) between
+  pub linked : Installs (fresh_rows (world_of between) made.numbers (listed start.links start.sites)) between made.core
+
+-- none is made: more sites stay than may be requested there; or memory lacked; or an event was refused
+abbrev pub IsUnmade : Start → List Entry → ℕ → Refusal → Type 0
+IsUnmade start past max_sites r =
+    ((after : State) × IsPartlyFilled start.seen.world past start.released max_sites (empty_core max_sites) after r)
+    ⊎ (r ≡ Memory)
+    ⊎ ((n : Numbers) × (between after : State) × IsFilledFrom start.seen.world past start.released n (empty_core max_sites) between
+    × StopsAt (fresh_rows (world_of between) n (listed start.links start.sites)) between after r)
+
+-- ---- an entry is carried over
+
+abbrev pub installs_of : Accepted → Option (List (ℕ × Link))
+installs_of (event.Install rows) = Some rows
+installs_of _ = None
+
+-- links are installed: of these sites under their new numbers, each from scratch, where they have one
+abbrev pub IsLinked : List (ℕ × Link) → Fresh → Fresh → Type 0
+IsLinked [] old new = new ≡ old
+IsLinked (row ∷ rows) old new =
+    ((reply : Reply) × IsAccepted old.core new.core (event.Install (row ∷ rows)) reply) × (new.numbers ≡ old.numbers)
+
+abbrev pub IsCarriedOn : World → Entry → Fresh → Fresh → Type 0
+IsCarriedOn w entry old new =
+    MatchOption (installs_of entry.event) (IsAdded w entry old.numbers new.numbers old.core new.core)
+    (λ rows. IsLinked (fresh_rows (world_of old.core) old.numbers rows) old new)
+
+-- one after another
+abbrev pub AreCarried : World → List Entry → Fresh → Fresh → Type 0
+AreCarried w [] old new = new ≡ old
+AreCarried w (entry ∷ entries) old new = (between : Fresh) × IsCarriedOn w entry old between × AreCarried w entries between new
+
+-- those before the ones that are left
+abbrev pub HasCarried : World → List Entry → List Entry → Fresh → Fresh → Type 0
+HasCarried w entries left old new = (front : List Entry) × (entries ≡ front ++ left) × AreCarried w front old new
+
+-- ---- why it isn't
+
+-- the call site or switch point of the target that is gone
+abbrev pub gone_in : Numbers → Target → Option ℕ
+gone_in n (Method m) = None
+gone_in n (Guard p first fallback) =
+    option_map_or (λ q. option_or (gone_in n first) (gone_in n fallback)) (new_number n.switches p) (Some p)
+gone_in n (Invoker c) = option_map_or (λ d. None) (new_number n.call_sites c) (Some c)
+
+-- that which the event names
+abbrev pub gone_of : Numbers → Accepted → Option ℕ
+gone_of n (event.NewCallSite kind ty target) = gone_in n target
+gone_of n (event.SetTarget c target) = option_map_or (λ d. gone_in n target) (new_number n.call_sites c) (Some c)
+gone_of n (event.Bind s c) = Some c
+gone_of n _ = None
+
+-- the links of an install aren't installed: the core refuses them, or memory lacked
+abbrev pub AreUnlinked : List (ℕ × Link) → State → Refusal → Type 0
+AreUnlinked rows core r = (r ≡ Memory) ⊎ IsRefused (verdict core.max_sites (world_of core) (event.Install rows)) r
+
+abbrev pub IsUnlinked : List (ℕ × Link) → State → CarryFault → Type 0
+IsUnlinked rows core Gone = ⊥
+IsUnlinked rows core (Refused r) = AreUnlinked rows core r
+
+-- The entry isn't carried over, for this.
+pub record IsUncarriedOn (w : World) (entry : Entry) (old : Fresh) (fault : CarryFault) (new : Fresh) : Type 0 where
+  pub why : MatchOption (installs_of entry.event) (IsUncarried w entry old.numbers old.core fault)
+      (λ rows. IsUnlinked (fresh_rows (world_of old.core) old.numbers rows) old.core fault)
+  pub core : new.core ≡ old.core
+  pub numbers : AreLeft entry.reply.made old.numbers new.numbers fault
+
+-- those before an entry that isn't carried over were
+pub record StopsBefore (w : World) (entries left : List Entry) (old : Fresh) (fault : CarryFault) (new : Fresh) : Type 0 where
+  pub before : Fresh
+  pub carried : HasCarried w entries left old before
+  pub entry : Entry
+  pub others : List Entry
+  pub next : left ≡ entry ∷ others
+  pub uncarried : IsUncarriedOn w entry before fault new
+
+-- ---- a fill
+
+-- the fresh core is made once all entries of the begin were taken
+abbrev pub IsReadyFrom : Start → Renewing → Renewing → Type 0
+IsReadyFrom start old new = MatchBool (nat_le start.seen.serial (length old.waiting))
+    ((made : Fresh) × IsMade start (take start.seen.serial old.waiting) old.max_sites made
+    × (new ≡ record old { start = None; fresh = Some made; waiting = drop start.seen.serial old.waiting }))
+    (new ≡ old)
+
+abbrev pub IsReady : Renewing → Renewing → Type 0
+IsReady old new = MatchOption old.start (new ≡ old) (λ start. IsReadyFrom start old new)
+
+-- none is made, for this
+abbrev pub IsUnready : Renewing → Refusal → Type 0
+IsUnready old r = (start : Start) × (old.start ≡ Some start) × IsUnmade start (take start.seen.serial old.waiting) old.max_sites r
+
+-- all entries that wait are carried over, if the fresh core is there
+abbrev pub AreAllCarried : Renewing → Renewing → Type 0
+AreAllCarried old new = MatchOption old.fresh (new ≡ old)
+    (λ fresh. (after : Fresh) × AreCarried old.defined old.waiting fresh after × (new ≡ record old { fresh = Some after; waiting = [] }))
+
+-- Those before one that isn't carried over were; or all were, and memory lacked for the pages of links.
+abbrev pub HasStopped : Renewing → CarryFault → Renewing → Type 0
+HasStopped old fault new = (fresh after : Fresh) × (left : List Entry) × (old.fresh ≡ Some fresh)
+    × (StopsBefore old.defined old.waiting left fresh fault after
+    ⊎ ((fault ≡ Refused Memory) × (left ≡ []) × AreCarried old.defined old.waiting fresh after))
+    × (new ≡ record old { fresh = Some after; waiting = left })
+
+-- what is gone that the next entry names, or 0
+abbrev pub gone_number : Renewing → ℕ
+gone_number renewing = unwrap_or
+    (option_and_then (λ fresh. option_and_then (λ entry. gone_of fresh.numbers entry.event) (slice_get renewing.waiting 0)) renewing.fresh) 0
+
+-- by why it stopped
+abbrev pub IsToldOf : Renewing → CarryFault → ℕ → Told → Type 0
+IsToldOf new Gone status told = (status ≡ released) × (told ≡ told_of_released (gone_number new) (new.taken - length new.waiting))
+IsToldOf new (Refused r) status told = (status ≡ status_of_refusal r) × (told ≡ told_of_refusal r)
+
+abbrev pub IsFilledOn : Renewing → ℕ → Told → Renewing → Type 0
+IsFilledOn old status told new =
+    ((status ≡ done) × (told ≡ nothing) × AreAllCarried old new)
+    ⊎ ((fault : CarryFault) × HasStopped old fault new × IsToldOf new fault status told)
+
+-- the fresh core is made, if it wasn't and can be, and what waits is carried over; or the core isn't made, and nothing has changed
+abbrev pub IsFilled : Renewing → ℕ → Told → Renewing → Type 0
+IsFilled old status told new =
+    ((ready : Renewing) × IsReady old ready × IsFilledOn ready status told new)
+    ⊎ ((r : Refusal) × IsUnready old r × (status ≡ status_of_refusal r) × (told ≡ told_of_refusal r) × (new ≡ old))
+
+abbrev pub IsFill : Option Renewing → ℕ → Told → Option Renewing → Type 0
+IsFill None status told after = (status ≡ closed) × (told ≡ nothing) × (after ≡ None)
+IsFill (Some old) status told after = (next : Renewing) × (after ≡ Some next) × IsFilled old status told next
+
+-- ---- the end
+
+-- more than there can be
+abbrev pub all_that_are_left : ℕ
+all_that_are_left = 2 ^ 64 - 1
+
+-- all that is left is taken and carried over, or memory lacked to take it
+abbrev pub IsFilledAll : State → Renewing → ℕ → Told → Renewing → Type 0
+IsFilledAll core old status told new =
+    ((status ≡ memory) × (told ≡ nothing) × (new ≡ old))
+    ⊎ ((taken : Renewing) × IsTakenFrom all_that_are_left core old taken × IsFilled taken status told new)
+
+-- nothing was handed over, for this reason
+abbrev pub IsKept : ℕ → Option Renewing → Option Opened → Arrays → ℕ → Option Renewing → Option Opened → Arrays → Type 0
+IsKept reason old fresh before status new new_fresh after = (status ≡ reason) × (new ≡ old) × (new_fresh ≡ fresh) × (after ≡ before)
+
+-- The linker is open over the fresh core, the numbers were written, and the renewal has ended; or there is no fresh core; or an array is too
+-- short.
+abbrev pub IsHandedOver : Option Renewing → Option Opened → Arrays → ℕ → Option Renewing → Option Opened → Arrays → Type 0
+IsHandedOver old fresh before status new new_fresh after = MatchOption (option_and_then (λ renewing. renewing.fresh) old)
+    (IsKept malformed old fresh before status new new_fresh after)
+    (λ made. MatchBool (have_room (counts_in made.numbers) before)
+    ((status ≡ done) × (new ≡ None) × (new_fresh ≡ Some (opened_over made.core)) × (after ≡ with_numbers made.numbers before))
+    (IsKept too_short old fresh before status new new_fresh after))
+
+-- all that is left is carried over, and what was made is handed over; or it isn't, for this reason
+abbrev pub IsFinished : State → Renewing → Arrays → ℕ → Told → Option Renewing → Option Opened → Arrays → Type 0
+IsFinished core old before status told new new_fresh after =
+    (filled : Renewing) × (filling : ℕ) × IsFilledAll core old filling told filled
+    × MatchBool (filling == done) (IsHandedOver (Some filled) None before status new new_fresh after)
+    (IsKept filling (Some filled) None before status new new_fresh after)
+
+-- nothing was asked for, for this reason
+abbrev pub IsUnfinished : ℕ → Option Renewing → Option Opened → Arrays → ℕ → Told → Option Renewing → Option Opened → Arrays → Type 0
+IsUnfinished reason old fresh before status told new new_fresh after = IsKept reason old fresh before status new new_fresh after × (told ≡ nothing)
+
+-- The renewal hasn't begun, or the linker isn't open; or the other one is; or an array is too short; or what is left is carried over.
+abbrev pub IsEnd : Option Renewing → Option Opened → Option Opened → Arrays → ℕ → Told → Option Renewing → Option Opened → Arrays → Type 0
+IsEnd None from fresh before status told new new_fresh after = IsUnfinished closed None fresh before status told new new_fresh after
+IsEnd (Some old) None fresh before status told new new_fresh after = IsUnfinished closed (Some old) fresh before status told new new_fresh after
+IsEnd (Some old) (Some opened) (Some taken) before status told new new_fresh after =
+    IsUnfinished open_already (Some old) (Some taken) before status told new new_fresh after
+IsEnd (Some old) (Some opened) None before status told new new_fresh after =
+    MatchBool (have_room (counts_of (world_of opened.session.core)) before)
+    (IsFinished opened.session.core old before status told new new_fresh after)
+    (IsUnfinished too_short (Some old) None before status told new new_fresh after)
+
+-- The linker stays.
+abbrev pub IsFinish : Option Renewing → Option Opened → Option Opened → Arrays → ℕ → Told → Option Renewing → Option Opened → Option Opened → Arrays
+    → Type 0
+IsFinish old from fresh before status told new new_from new_fresh after =
+    IsEnd old from fresh before status told new new_fresh after × (new_from ≡ from)
