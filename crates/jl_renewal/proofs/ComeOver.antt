@@ -1,11 +1,11 @@
 -- What the laws of a renewal say, of every core whose events were accepted.
-use Rattle.std.specs.Prelude.{◌≡◌, ◌↔◌, ◌≤◌, ◌&&◌, ℕ, zero, suc, Bool, true, false, List, [], ◌∷◌, ◌++◌, fold, filter_map, drop, take, length, not}
+use Rattle.std.specs.Prelude.{◌≡◌, ◌↔◌, ◌≤◌, ◌&&◌, ℕ, zero, suc, Bool, true, false, List, [], ◌∷◌, ◌++◌, fold, map, filter_map, drop, take, length, not}
 use Rattle.std.specs.Prelude.{◌==◌, slice_get, Option, Some, None, Result, Ok, Err, IsOk, Contains}
 use Rattle.std.specs.Prelude.{option_map, option_and_then, option_to_list}
 use Rattle.std.specs.Bool.{then_some}
 use Rattle.std.specs.Option.{option_map_or}
 use Rattle.std.specs.List.{list_all, cons_option, range_with_len}
-use Rattle.std.proofs.Common.{refl, sym, ap, subst, ◌∙◌, arith}
+use Rattle.std.proofs.Common.{refl, sym, ap, subst, subst₂, ◌∙◌, arith}
 use Rattle.std.proofs.lemmas.Bool.{and_parts}
 use Rattle.std.proofs.lemmas.Option.{same_Some}
 use Rattle.std.proofs.lemmas.List.Folds.{list_all-append}
@@ -16,7 +16,7 @@ use Rattle.jl_types.specs.Values.World.{World, CallSite, nothing_yet}
 use Rattle.jl_types.specs.Linkage.Links.{scratch}
 use Rattle.jl_types.specs.Events.Event.{Event}
 use Rattle.jl_types.specs.Events.Verdict.{verdict, step}
-use Rattle.jl_types.specs.Events.History.{world_after}
+use Rattle.jl_types.specs.Events.History.{world_after, installed_links}
 use Rattle.jl_types.specs.Values.Ancestry.{AreOrdered}
 use Rattle.jl_types.proofs.Orders.{world_good}
 use Rattle.jl_types.proofs.Installed.{installed_to, settled_now}
@@ -24,13 +24,15 @@ use Rattle.jl_types.proofs.InstalledLinks.{links_are}
 use Rattle.jl_relink.specs.Laws.{AreAccepted, has_read_file, IsInOrder}
 use Rattle.jl_relink.proofs.InOrder.{accepted_in_order}
 use Rattle.jl_core.specs.State.{State, events, world_of, links_of}
+use Rattle.jl_core.specs.Logs.{Entry}
 use Rattle.jl_renewal.specs.declared.released.Released.{Released}
 use Rattle.jl_renewal.specs.Numbers.{Numbers, how_many, new_number, renumbered_target}
 use Rattle.jl_renewal.specs.Staying.{numbers_of, staying_sites, staying_call_sites}
 use Rattle.jl_renewal.specs.Renewal.{definer, class_event, new_loaders, new_switches, new_call_site, new_call_sites, request, binding, invalid_points}
-use Rattle.jl_renewal.specs.Renewal.{invalidation, site_events, renewal, IsRenewal, CameFrom}
+use Rattle.jl_renewal.specs.Renewal.{invalidation, site_events, renewal, AreBatches, fresh_rows, logged, IsRefilled, IsRenewal, CameFrom}
 use Rattle.jl_renewal.specs.Renewed.{renewed, renumbered_link, renumbered_result}
-use Rattle.jl_renewal.specs.Adds.{Follow}
+use Rattle.jl_renewal.specs.Adds.{Follow, Installs}
+use Rattle.jl_renewal.specs.Moved.{HaveSameLinks}
 use Rattle.jl_renewal.proofs.Fit.{IsFit}
 use Rattle.jl_renewal.proofs.Alike.{AreAlike}
 use Rattle.jl_renewal.proofs.AlikeLaws.{are_alike}
@@ -39,6 +41,7 @@ use Rattle.jl_renewal.proofs.NumberLaws.{renumbered_is, some_stays, some_is}
 use Rattle.jl_renewal.proofs.ClassPhase.{loaders_after}
 use Rattle.jl_renewal.proofs.FitLaws.{fit_after}
 use Rattle.jl_renewal.proofs.LinkLaws.{links_come}
+use Rattle.jl_renewal.proofs.QuietLaws.{IsQuiet, is_quiet}
 use Rattle.jl_renewal.proofs.ScratchLaws.{scratch_same}
 use Rattle.jl_renewal.proofs.RenewedSites.{is_set, in_class, sites_alike}
 use Rattle.jl_renewal.proofs.RenewalPhases.{renewal_leads}
@@ -181,30 +184,48 @@ module _ (old : State) (released : Released) (accepted : AreAccepted old.max_sit
         ∙ (scratch_same n w (renewed w released) (is_set (staying_call_sites w released)) (sites_alike w released fit alike) s (in_class w s stays)
         ∙ ap (renumbered_result n) now)
 
-  module _ (fresh : State) (max_sites : ℕ) (numbers : Numbers) (is : IsRenewal old released max_sites (fresh, numbers)) (k : ℕ) (l : Link) where
-    come : Contains (links_of fresh) (k, l) → CameFrom (links_of old) numbers k l
+  -- a fresh core that has accepted events which install nothing and lead to what stays, and then the links
+  module _ (h : List Event) (quiet : (k : ℕ) → IsQuiet k h) (leads : world_after h ≡ renewed w released) (batches : List (List (ℕ × Link)))
+      (are : AreBatches batches (fresh_rows (world_after h) n (links_of old))) (k : ℕ) (l : Link) where
+    abbrev now_linked : List (ℕ × Link)
+    now_linked = installed_links (h ++ map event.Install batches)
+
+    come : Contains now_linked (k, l) → CameFrom (links_of old) n k l
     come c =
-        let both = (links_come old fresh released max_sites numbers is k l).0 c in
-        let has = subst (λ (ns : Numbers). new_number ns.sites both.0.site ≡ Some k) is.numbers both.0.has in
+        let both = (links_come h n (links_of old) batches are k (quiet k) l).0 c in
         record {
           site = both.0.site;
           link = both.0.link;
           had = both.0.had;
           has = both.0.has;
-          same = same_ok l (renumbered_link numbers both.0.link)
-              (sym both.1 ∙ (ap (λ (v : World). scratch v k) is.world
-              ∙ (comes both.0.site k both.0.link both.0.had has ∙ ap (λ (ns : Numbers). Ok (renumbered_link ns both.0.link)) (sym is.numbers))));
+          same = same_ok l (renumbered_link n both.0.link)
+              (sym both.1 ∙ (ap (λ (v : World). scratch v k) leads ∙ comes both.0.site k both.0.link both.0.had both.0.has));
         }
 
-    go : CameFrom (links_of old) numbers k l → Contains (links_of fresh) (k, l)
+    go : CameFrom (links_of old) n k l → Contains now_linked (k, l)
     go came =
-        let has = subst (λ (ns : Numbers). new_number ns.sites came.site ≡ Some k) is.numbers came.has in
-        (links_come old fresh released max_sites numbers is k l).1 (
+        (links_come h n (links_of old) batches are k (quiet k) l).1 (
           record { site = came.site; link = came.link; had = came.had; has = came.has },
-          ap (λ (v : World). scratch v k) is.world
-              ∙ (comes came.site k came.link came.had has
-              ∙ (ap (λ (ns : Numbers). Ok (renumbered_link ns came.link)) (sym is.numbers) ∙ ap Ok (sym came.same))),
+          ap (λ (v : World). scratch v k) leads ∙ (comes came.site k came.link came.had came.has ∙ ap Ok (sym came.same)),
         )
 
-    pub links_are_these : Contains (links_of fresh) (k, l) ↔ CameFrom (links_of old) numbers k l
-    links_are_these = (come, go)
+    links_are_those : Contains now_linked (k, l) ↔ CameFrom (links_of old) n k l
+    links_are_those = (come, go)
+
+  -- so it is after a renewal
+  pub links_are_these : (fresh : State) (max_sites : ℕ) (numbers : Numbers) → IsRenewal old released max_sites (fresh, numbers)
+      → HaveSameLinks old fresh numbers
+  links_are_these fresh max_sites numbers is k l =
+      subst₂ (λ (es : List Event) (m : Numbers). Contains (installed_links es) (k, l) ↔ CameFrom (links_of old) m k l) (sym is.events) (sym is.numbers)
+      (links_are_those (renewal old released) (λ j. is_quiet j w n (events old)) renewal_world is.batches is.are_batches k l)
+
+  -- and after a refill whose links were installed
+  pub links_are_refilled : (before between fresh : State) (entries : List Entry) (numbers : Numbers) → IsRefilled w entries released numbers before between
+      → Installs (fresh_rows (world_of between) numbers (links_of old)) between fresh → HaveSameLinks old fresh numbers
+  links_are_refilled before between fresh entries numbers refilled installs k l =
+      subst₂ (λ (es : List Event) (m : Numbers). Contains (installed_links es) (k, l) ↔ CameFrom (links_of old) m k l)
+      (sym installs.adds.events) (sym refilled.numbers)
+      (links_are_those (events between)
+      (λ j. subst (IsQuiet j) (sym refilled.events) (is_quiet j w n (events (logged before.max_sites w entries))))
+      refilled.world installs.batches
+      (subst (λ (m : Numbers). AreBatches installs.batches (fresh_rows (world_of between) m (links_of old))) refilled.numbers installs.are_batches) k l)

@@ -53,6 +53,8 @@ pub mod CallSiteLaws
 pub mod StageLaws
 pub mod CallLaws
 pub mod ScratchLaws
+pub mod LinkClasses
+pub mod LinkNumbers
 pub mod RenewedSites
 pub mod ComeOver
 -- what the old core accepts after a renewal comes over
@@ -75,6 +77,7 @@ pub mod MovedGone
 pub mod MovedNames
 pub mod MovedScratch
 pub mod MovedBeside
+pub mod MovedLinks
 pub mod MovedFaults
 -- worked renewals
 pub mod Rows

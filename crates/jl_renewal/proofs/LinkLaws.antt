@@ -3,7 +3,7 @@ use Rattle.std.specs.Prelude.{◌≡◌, ◌↔◌, ℕ, zero, suc, ◌<◌, ◌
 use Rattle.std.specs.Prelude.{Option, Some, None, Result, Ok, Err}
 use Rattle.std.specs.Prelude.{option_and_then, fold, Contains, if◌then◌else◌}
 use Rattle.std.specs.List.{cons_option, list_any}
-use Rattle.std.proofs.Common.{refl, sym, ap, subst, ◌∙◌, arith, append_assoc}
+use Rattle.std.proofs.Common.{refl, sym, ap, ◌∙◌, arith, append_assoc}
 use Rattle.std.proofs.lemmas.Bool.Decides.{Decides-eqb}
 use Rattle.std.proofs.lemmas.Option.{same_Some}
 use Rattle.std.proofs.lemmas.List.{append-nil, take-append-drop}
@@ -17,17 +17,14 @@ use Rattle.jl_types.specs.Linkage.Links.{scratch}
 use Rattle.jl_types.specs.ForProofs.SameLink.{link_decides}
 use Rattle.jl_types.specs.Events.Event.{Event}
 use Rattle.jl_types.specs.Events.Verdict.{step}
-use Rattle.jl_types.specs.Events.History.{world_after, installed, has_link, kept}
+use Rattle.jl_types.specs.Events.History.{world_after, installed, installed_links, has_link, kept}
 use Rattle.jl_types.proofs.Installed.{installed_to, settled_now, kept_none, kept_link}
 use Rattle.jl_types.proofs.InstalledLinks.{links_are}
 use Rattle.jl_types.proofs.OneMore.{installed_step}
-use Rattle.jl_core.specs.State.{State, events, world_of, links_of}
-use Rattle.jl_renewal.specs.declared.released.Released.{Released}
 use Rattle.jl_renewal.specs.Numbers.{Numbers, new_number}
-use Rattle.jl_renewal.specs.Staying.{numbers_of}
 use Rattle.jl_renewal.specs.Adds.{HasCome}
-use Rattle.jl_renewal.specs.Renewal.{AreBatches, row_of, fresh_row, fresh_rows, renewal, IsRenewal}
-use Rattle.jl_renewal.proofs.QuietLaws.{is_quiet, none_there}
+use Rattle.jl_renewal.specs.Renewal.{AreBatches, row_of, fresh_row, fresh_rows}
+use Rattle.jl_renewal.proofs.QuietLaws.{IsQuiet, none_there}
 
 abbrev Row : Type 0
 Row = ℕ × Link
@@ -158,39 +155,26 @@ kept_gives b (Err reason) l e = cc
 kept_gives true (Ok m) l e = (refl, ap Ok (same_Some m l e))
 kept_gives false (Ok m) l e = cc
 
-module _ (old fresh : State) (released : Released) (max_sites : ℕ) (n : Numbers) (is : IsRenewal old released max_sites (fresh, n)) where
-  abbrev begun : World
-  begun = world_after (renewal old released)
+-- the installs of the rows behind events that install nothing
+module _ (h : List Event) (n : Numbers) (linked : List Row) (batches : List (List Row)) (are : AreBatches batches (fresh_rows (world_after h) n linked))
+    (k : ℕ) (quiet : IsQuiet k h) (l : Link) where
+  now_is : installed (h ++ map event.Install batches) k ≡ kept (list_any (at k) (fresh_rows (world_after h) n linked)) None (scratch (world_after h) k)
+  now_is =
+      behind k batches h
+      ∙ (λ i. kept (in_rows k batches (fresh_rows (world_after h) n linked) are i) (none_there k h quiet i) (scratch (world_after h) k))
 
-  pub world_is : world_of fresh ≡ begun
-  world_is = ap world_after is.events ∙ same_world (renewal old released) is.batches
+  came : Contains (installed_links (h ++ map event.Install batches)) (k, l) → HasCome linked n k × (scratch (world_after h) k ≡ Ok l)
+  came c =
+      let both = kept_gives (list_any (at k) (fresh_rows (world_after h) n linked)) (scratch (world_after h) k) l
+      (sym now_is ∙ (links_are (h ++ map event.Install batches) k l).1 c) in
+      (came_from (world_after h) n k linked both.0, both.1)
 
-  module _ (k : ℕ) (l : Link) where
-    now_is : installed (events fresh) k ≡ kept (among k is.batches) None (scratch begun k)
-    now_is =
-        ap (λ (es : List Event). installed es k) is.events
-        ∙ (behind k is.batches (renewal old released)
-        ∙ ap (λ (o : Option Link). kept (among k is.batches) o (scratch begun k)) (none_there k (renewal old released) (is_quiet k old released)))
+  goes_there : HasCome linked n k × (scratch (world_after h) k ≡ Ok l) → Contains (installed_links (h ++ map event.Install batches)) (k, l)
+  goes_there p =
+      (links_are (h ++ map event.Install batches) k l).0
+      (now_is
+      ∙ (ap (λ (b : Bool). kept b None (scratch (world_after h) k)) (goes_to (world_after h) n k l p.1 linked p.0)
+      ∙ ap (kept true None) p.1))
 
-    rows_are : among k is.batches ≡ list_any (at k) (fresh_rows begun (numbers_of (world_of old) released) (links_of old))
-    rows_are = in_rows k is.batches _ is.are_batches
-
-    came : Contains (links_of fresh) (k, l) → HasCome (links_of old) n k × (scratch (world_of fresh) k ≡ Ok l)
-    came c =
-        let both = kept_gives (among k is.batches) (scratch begun k) l (sym now_is ∙ (links_are (events fresh) k l).1 c) in (
-          subst (λ (m : Numbers). HasCome (links_of old) m k) (sym is.numbers)
-              (came_from begun (numbers_of (world_of old) released) k (links_of old) (sym rows_are ∙ both.0)),
-          ap (λ (w : World). scratch w k) world_is ∙ both.1,
-        )
-
-    goes_there : HasCome (links_of old) n k × (scratch (world_of fresh) k ≡ Ok l) → Contains (links_of fresh) (k, l)
-    goes_there p =
-        let now : scratch begun k ≡ Ok l = ap (λ (w : World). scratch w k) (sym world_is) ∙ p.1 in
-        let there : among k is.batches ≡ true =
-        rows_are
-        ∙ goes_to begun (numbers_of (world_of old) released) k l now (links_of old) (subst (λ (m : Numbers). HasCome (links_of old) m k) is.numbers p.0) in
-        (links_are (events fresh) k l).0
-        (now_is ∙ (ap (λ (b : Bool). kept b None (scratch begun k)) there ∙ ap (kept true None) now))
-
-    pub links_come : Contains (links_of fresh) (k, l) ↔ (HasCome (links_of old) n k × (scratch (world_of fresh) k ≡ Ok l))
-    links_come = (came, goes_there)
+  pub links_come : Contains (installed_links (h ++ map event.Install batches)) (k, l) ↔ (HasCome linked n k × (scratch (world_after h) k ≡ Ok l))
+  links_come = (came, goes_there)

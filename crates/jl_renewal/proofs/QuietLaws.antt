@@ -1,4 +1,4 @@
--- The events of a renewal without its links install nothing.
+-- The events of a renewal without its links install nothing, nor does one that is carried over.
 use Rattle.std.specs.Prelude.{◌≡◌, ℕ, zero, suc, Bool, true, false, List, [], ◌∷◌, ◌++◌, filter_map, drop, length, not, ◌==◌, slice_get, Option, Some}
 use Rattle.std.specs.Prelude.{None, option_map, option_and_then, option_to_list}
 use Rattle.std.specs.List.{cons_option, range_with_len}
@@ -12,12 +12,10 @@ use Rattle.jl_types.specs.Events.Event.{Event}
 use Rattle.jl_types.specs.Events.History.{installs, installed, installed_at}
 use Rattle.jl_types.specs.Values.World.{World, Sites, CallSite}
 use Rattle.jl_types.proofs.Installed.{installed_to}
-use Rattle.jl_core.specs.State.{State, events, world_of}
-use Rattle.jl_renewal.specs.declared.released.Released.{Released}
 use Rattle.jl_renewal.specs.Numbers.{Numbers, new_number, renumbered_target}
-use Rattle.jl_renewal.specs.Staying.{numbers_of}
 use Rattle.jl_renewal.specs.Renewal.{definer, class_event, new_loaders, new_switches, new_call_site, new_call_sites, request, binding, invalid_points}
-use Rattle.jl_renewal.specs.Renewal.{invalidation, renewal, site_events}
+use Rattle.jl_renewal.specs.Renewal.{invalidation, site_events, renewal_by}
+use Rattle.jl_renewal.specs.Carries.{carried, carried_target}
 
 module _ (k : ℕ) where
   -- none of these events installs a link at site k
@@ -115,16 +113,31 @@ module _ (k : ℕ) where
       (both (new_call_sites w.sites n) (last w n) (of_some (new_call_site w.sites n) (of_call_site w.sites n) (range_with_len 0 (length w.sites.call_sites)))
       (both (filter_map (request n) w.places) (filter_map (binding n) w.bindings) (of_places n w.places) (of_bindings n w.bindings))))
 
-  pub is_quiet : (old : State) (released : Released) → IsQuiet (renewal old released)
-  is_quiet old released =
-      both (new_loaders n.loaders) (filter_map (class_event w n) (events old) ++ site_events w n) (of_loaders n.loaders)
-      (both (filter_map (class_event w n) (events old)) (site_events w n) (of_some (class_event w n) (of_class w n) (events old)) (of_sites w n))
-    where
-      w : World
-      w = world_of old
+  pub is_quiet : (w : World) (n : Numbers) (es : List Event) → IsQuiet (renewal_by w n es)
+  is_quiet w n es =
+      both (new_loaders n.loaders) (filter_map (class_event w n) es ++ site_events w n) (of_loaders n.loaders)
+      (both (filter_map (class_event w n) es) (site_events w n) (of_some (class_event w n) (of_class w n) es) (of_sites w n))
 
-      n : Numbers
-      n = numbers_of (world_of old) released
+  -- nor does an event that is carried over
+  pub of_carried : (n : Numbers) (e : Event) → IsCalm (carried n e)
+  of_carried n event.NewLoader = refl
+  of_carried n (event.Define loader file) = calm_map (λ (l : ℕ). event.Define l file) (λ l. refl) (new_number n.loaders loader)
+  of_carried n (event.Delegate loader name to) =
+      calm_then (λ (l : ℕ). option_map (event.Delegate l name) (new_number n.loaders to))
+      (λ l. calm_map (event.Delegate l name) (λ d. refl) (new_number n.loaders to)) (new_number n.loaders loader)
+  of_carried n (event.Request place) =
+      calm_map (λ (c : ℕ). event.Request (record place { class = c })) (λ c. refl) (new_number n.classes place.class)
+  of_carried n (event.NewCallSite kind ty target) = calm_map (event.NewCallSite kind ty) (λ t. refl) (carried_target n target)
+  of_carried n (event.SetTarget c target) =
+      calm_then (λ (d : ℕ). option_map (event.SetTarget d) (carried_target n target))
+      (λ d. calm_map (event.SetTarget d) (λ t. refl) (carried_target n target)) (new_number n.call_sites c)
+  of_carried n event.NewSwitch = refl
+  of_carried n (event.Invalidate points) = refl
+  of_carried n (event.Bind s c) =
+      calm_then (λ (t : ℕ). option_map (event.Bind t) (new_number n.call_sites c))
+      (λ t. calm_map (event.Bind t) (λ d. refl) (new_number n.call_sites c)) (new_number n.sites s)
+  of_carried n (event.Install rows) = refl
+  of_carried n (event.Retire loader) = calm_map event.Retire (λ l. refl) (new_number n.loaders loader)
 
   -- where nothing was installed there is no link
   pub none_there : (h : List Event) → IsQuiet h → installed h k ≡ None

@@ -106,6 +106,15 @@ module _ (n : Numbers) (cs ds : Classes) (alike : AreAlike n cs ds) where
   interface_ending_same Several present = refl
   interface_ending_same Nothing present = refl
 
+  interface_runs_present : (o : Chosen) → IsOfPresent o → (m : MethodId) → interface_ending cs o ≡ Run m → IsPresent m
+  interface_runs_present (Picked k) present m is = by_test (is_public cs k || is_private cs k) is
+    where
+      by_test : (b : Bool) → (if b then ending cs (Picked k) else Throws IllegalAccessError) ≡ Run m → IsPresent m
+      by_test true e = runs_present (Picked k) present m e
+      by_test false e = cc
+  interface_runs_present Several present m e = cc
+  interface_runs_present Nothing present m e = cc
+
   -- ---- invokevirtual and invokeinterface
 
   module _ (x : ℕ) (r : MethodId) (there : is_present cs x ≡ true) (at : is_present cs r.class ≡ true) where
@@ -179,6 +188,15 @@ module _ (n : Numbers) (cs ds : Classes) (alike : AreAlike n cs ds) where
           ≡ renumbered_outcome n (if b then interface_ending cs (chosen cs x r) else Throws IncompatibleClassChangeError)
       by_test true = interface_ending_same (chosen cs x r) (chosen_present x r there at)
       by_test false = refl
+
+  -- what it runs is of a present class
+  pub interface_present : (x named : ℕ) (r : MethodId) → is_present cs x ≡ true → is_present cs r.class ≡ true → (m : MethodId)
+      → interface_outcome cs x named r ≡ Run m → is_present cs m.class ≡ true
+  interface_present x named r there at m = by_test (is_ancestor cs named x)
+    where
+      by_test : (b : Bool) → (if b then interface_ending cs (chosen cs x r) else Throws IncompatibleClassChangeError) ≡ Run m → IsPresent m
+      by_test true e = interface_runs_present (chosen cs x r) (chosen_present x r there at) m e
+      by_test false e = cc
 
   -- ---- invokespecial
 
@@ -302,3 +320,10 @@ module _ (n : Numbers) (cs ds : Classes) (alike : AreAlike n cs ds) where
       ap (λ (o : Option ℕ). ending ds (special_choice ds ref o)) (start_same ref d named caller known)
       ∙ ap (ending ds) (choice_same ref start present)
       ∙ ending_same (special_choice cs ref start) (choice_present ref start present)
+
+  -- what it runs is of a present class
+  pub special_present : (d named : ℕ) (ref : Reference (List ℕ)) → is_present cs d ≡ true → is_present cs named ≡ true → (m : MethodId)
+      → special_outcome cs d named ref ≡ Run m → is_present cs m.class ≡ true
+  special_present d named ref caller known m is =
+      let start = special_start cs d named ref in
+      runs_present (special_choice cs ref start) (choice_present ref start (start_present ref d named caller known)) m is

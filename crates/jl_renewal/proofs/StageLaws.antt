@@ -1,5 +1,5 @@
 -- What a site in a class that is present comes to is under new numbers what it came to.
-use Rattle.std.specs.Prelude.{◌≡◌, ◌==◌, ◌&&◌, ℕ, zero, suc, Bool, true, false, not, List, [], ◌∷◌, find, slice_get}
+use Rattle.std.specs.Prelude.{◌≡◌, ◌==◌, ◌&&◌, ℕ, zero, suc, Bool, true, false, not, ⊤, List, [], ◌∷◌, find, slice_get}
 use Rattle.std.specs.Prelude.{Option, Some, None, option_map, option_and_then, Result, Ok, Err, if◌then◌else◌}
 use Rattle.std.specs.Option.{option_map_or}
 use Rattle.std.proofs.Common.{refl, sym, ap, subst, ◌∙◌}
@@ -23,7 +23,7 @@ use Rattle.jl_types.specs.Linkage.Resolution.{Resolved, resolved}
 use Rattle.jl_types.specs.Linkage.Selection.{is_init}
 use Rattle.jl_types.specs.Linkage.Targets.{method_of}
 use Rattle.jl_types.specs.Linkage.Stages.{Selector, ByVirtual, ByInterface, BySpecial, ResolvedCall, Stage, Waits, Fails, Calls, Selects}
-use Rattle.jl_types.specs.Linkage.Stages.{selecting, by_kind, by_resolution, by_method, bound_method, invocation_at, by_operand, stage_of}
+use Rattle.jl_types.specs.Linkage.Stages.{selecting, by_kind, by_resolution, by_method, bound_method, invocation_at, by_operand, bound_to, stage_of}
 use Rattle.jl_types.specs.Linkage.Stages.{stage_at, stage}
 use Rattle.jl_renewal.specs.Numbers.{Numbers, renumbered}
 use Rattle.jl_renewal.specs.Staying.{is_in_staying_class}
@@ -33,7 +33,7 @@ use Rattle.jl_renewal.proofs.Fit.{IsFit}
 use Rattle.jl_renewal.proofs.Alike.{AreAlike}
 use Rattle.jl_renewal.proofs.AccessLaws.{static_same}
 use Rattle.jl_renewal.proofs.ResolutionLaws.{renumbered_resolved, resolved_same, resolved_present}
-use Rattle.jl_renewal.proofs.CallSiteLaws.{method_same}
+use Rattle.jl_renewal.proofs.CallSiteLaws.{method_same, method_present}
 
 -- the call under new numbers
 abbrev pub renumbered_call : Numbers → ResolvedCall → ResolvedCall
@@ -56,6 +56,13 @@ pub record IsCallThere (cs : Classes) (i : ResolvedCall) : Type 0 where
   pub named : is_present cs i.named ≡ true
   pub method : is_present cs i.method.class ≡ true
 
+-- so are those that a site names by what it comes to
+abbrev pub IsStageThere : Classes → Stage → Type 0
+IsStageThere cs (Waits reason) = ⊤
+IsStageThere cs (Fails throwable) = ⊤
+IsStageThere cs (Calls m) = is_present cs m.class ≡ true
+IsStageThere cs (Selects i) = IsCallThere cs i
+
 -- what is found is among the elements, and passes
 record IsFound {A : Type 0} (p : A → Bool) (xs : List A) (x : A) : Type 0 where
   place : ℕ
@@ -69,9 +76,6 @@ is_found {A = A} p (y ∷ xs) x e = by_test (p y) refl e (is_found p xs x)
     by_test : (b : Bool) → p y ≡ b → (if b then Some y else find p xs) ≡ Some x → (find p xs ≡ Some x → IsFound p xs x) → IsFound p (y ∷ xs) x
     by_test true is e rest = record { place = zero; at = e; passes = subst (λ (z : A). p z ≡ true) (same_Some y x e) is }
     by_test false is e rest = let r = rest e in record { place = suc r.place; at = r.at; passes = r.passes }
-
-same_Selects : (i j : ResolvedCall) → Selects i ≡ Selects j → i ≡ j
-same_Selects i j e = cc
 
 module _ (n : Numbers) (w v : World) (stays : ℕ → Bool) (same : SitesAlike n w v stays) where
   abbrev fit : IsFit w
@@ -179,68 +183,71 @@ module _ (n : Numbers) (w v : World) (stays : ℕ → Bool) (same : SitesAlike n
           ∙ (site_same s place.class kept there (invocation_at w.classes place)
           ∙ sym (ap (λ (b : Bool). renumbered_stage n (if b then stage_of w s place.class (invocation_at w.classes place) else Waits Gone)) there)))
 
-  -- ---- the classes that a call names
+  -- ---- the classes that are named
 
-  module _ (d : ℕ) (mine : is_present w.classes d ≡ true) (ref : Reference (List ℕ)) (i : ResolvedCall) where
-    selecting_present : (r : Resolved) → is_present w.classes r.named ≡ true → is_present w.classes r.method.class ≡ true → (selector : Selector)
-        → selecting w.classes selector d ref r ≡ Selects i → IsCallThere w.classes i
-    selecting_present r named at selector = by_test (is_static w.classes r.method)
+  module _ (d : ℕ) (mine : is_present w.classes d ≡ true) (ref : Reference (List ℕ)) where
+    selecting_there : (r : Resolved) → is_present w.classes r.named ≡ true → is_present w.classes r.method.class ≡ true → (selector : Selector)
+        → IsStageThere w.classes (selecting w.classes selector d ref r)
+    selecting_there r named at selector = by_test (is_static w.classes r.method)
       where
         call : ResolvedCall
         call = record { selector = selector; caller = d; named = r.named; ref = ref; method = r.method }
 
-        by_test : (t : Bool) → (if t then Fails IncompatibleClassChangeError else Selects call) ≡ Selects i → IsCallThere w.classes i
-        by_test true e = cc
-        by_test false e = subst (IsCallThere w.classes) (same_Selects call i e) (record { caller = mine; named = named; method = at })
+        by_test : (t : Bool) → IsStageThere w.classes (if t then Fails IncompatibleClassChangeError else Selects call)
+        by_test true = tt
+        by_test false = record { caller = mine; named = named; method = at }
 
-    kind_present : (r : Resolved) → is_present w.classes r.named ≡ true → is_present w.classes r.method.class ≡ true → (kind : Kind)
-        → by_kind w.classes kind d ref r ≡ Selects i → IsCallThere w.classes i
-    kind_present r named at Static = by_test (is_static w.classes r.method)
+    kind_there : (r : Resolved) → is_present w.classes r.named ≡ true → is_present w.classes r.method.class ≡ true → (kind : Kind)
+        → IsStageThere w.classes (by_kind w.classes kind d ref r)
+    kind_there r named at Static = by_test (is_static w.classes r.method)
       where
-        by_test : (t : Bool) → (if t then Calls r.method else Fails IncompatibleClassChangeError) ≡ Selects i → IsCallThere w.classes i
-        by_test true e = cc
-        by_test false e = cc
-    kind_present r named at Virtual = selecting_present r named at ByVirtual
-    kind_present r named at Interface = selecting_present r named at ByInterface
-    kind_present r named at Special = by_test (is_init ref.name && not (r.method.class == r.named)) (selecting_present r named at BySpecial)
+        by_test : (t : Bool) → IsStageThere w.classes (if t then Calls r.method else Fails IncompatibleClassChangeError)
+        by_test true = at
+        by_test false = tt
+    kind_there r named at Virtual = selecting_there r named at ByVirtual
+    kind_there r named at Interface = selecting_there r named at ByInterface
+    kind_there r named at Special = by_test (is_init ref.name && not (r.method.class == r.named))
       where
-        by_test : (t : Bool) → (selecting w.classes BySpecial d ref r ≡ Selects i → IsCallThere w.classes i)
-            → (if t then Fails NoSuchMethodError else selecting w.classes BySpecial d ref r) ≡ Selects i → IsCallThere w.classes i
-        by_test true selected e = cc
-        by_test false selected e = selected e
-    kind_present r named at Dynamic = λ e. cc
+        by_test : (t : Bool) → IsStageThere w.classes (if t then Fails NoSuchMethodError else selecting w.classes BySpecial d ref r)
+        by_test true = tt
+        by_test false = selecting_there r named at BySpecial
+    kind_there r named at Dynamic = tt
 
-    resolution_present : (kind : Kind) (r : Result Resolved ResolveAnswer) → resolved w.classes d ref ≡ r → by_resolution w.classes kind d ref r ≡ Selects i
-        → IsCallThere w.classes i
-    resolution_present kind (Err (resolve.NotReady missing)) is e = cc
-    resolution_present kind (Err (resolve.Fault throwable)) is e = cc
-    resolution_present kind (Ok r) is e =
+    resolution_there : (kind : Kind) (r : Result Resolved ResolveAnswer) → resolved w.classes d ref ≡ r
+        → IsStageThere w.classes (by_resolution w.classes kind d ref r)
+    resolution_there kind (Err (resolve.NotReady missing)) is = tt
+    resolution_there kind (Err (resolve.Fault throwable)) is = tt
+    resolution_there kind (Ok r) is =
         let there = resolved_present n w.classes v.classes alike d ref r mine is in
-        kind_present r there.0 there.1 kind e
+        kind_there r there.0 there.1 kind
 
-  -- what a call site runs isn't selected
-  method_called : (o : Option MethodId) (i : ResolvedCall) → ¬ (by_method o ≡ Selects i)
-  method_called None i e = cc
-  method_called (Some m) i e = cc
+  -- what a call site runs
+  bound_there : (o : Option ℕ) (m : MethodId) → option_and_then (method_of w.sites) o ≡ Some m → is_present w.classes m.class ≡ true
+  bound_there None m is = cc
+  bound_there (Some c) m is = method_present n w v stays same c m is
 
-  operand_present : (s d : ℕ) → is_present w.classes d ≡ true → (kind : Kind) (operand : Operand (List ℕ)) (i : ResolvedCall)
-      → by_operand w s d kind operand ≡ Selects i → IsCallThere w.classes i
-  operand_present s d mine kind (operand.Method ref) i is = resolution_present d mine ref i kind (resolved w.classes d ref) refl is
-  operand_present s d mine kind (operand.CallSite specifier) i is = absurd (method_called (bound_method w s) i is)
+  called_there : (o : Option MethodId) → ((m : MethodId) → o ≡ Some m → is_present w.classes m.class ≡ true) → IsStageThere w.classes (by_method o)
+  called_there None there = tt
+  called_there (Some m) there = there m refl
 
-  site_present : (s d : ℕ) → is_present w.classes d ≡ true → (o : Option Site) (i : ResolvedCall) → stage_of w s d o ≡ Selects i → IsCallThere w.classes i
-  site_present s d mine None i is = cc
-  site_present s d mine (Some site) i is = operand_present s d mine site.kind site.operand i is
+  operand_there : (s d : ℕ) → is_present w.classes d ≡ true → (kind : Kind) (operand : Operand (List ℕ))
+      → IsStageThere w.classes (by_operand w s d kind operand)
+  operand_there s d mine kind (operand.Method ref) = resolution_there d mine ref kind (resolved w.classes d ref) refl
+  operand_there s d mine kind (operand.CallSite specifier) = called_there (bound_method w s) (bound_there (bound_to w s))
 
-  -- a site that selects by the receiver is in a present class, and the classes that it names are present
-  pub stage_present : (s : ℕ) (i : ResolvedCall) → stage w s ≡ Selects i → IsCallThere w.classes i
-  stage_present s i is = by_place (slice_get w.places s) is
+  site_there : (s d : ℕ) → is_present w.classes d ≡ true → (o : Option Site) → IsStageThere w.classes (stage_of w s d o)
+  site_there s d mine None = tt
+  site_there s d mine (Some site) = operand_there s d mine site.kind site.operand
+
+  -- all classes are present that a site names
+  pub stage_there : (s : ℕ) → IsStageThere w.classes (stage w s)
+  stage_there s = by_place (slice_get w.places s)
     where
       by_test : (place : Place) (t : Bool) → is_present w.classes place.class ≡ t
-          → (if t then stage_of w s place.class (invocation_at w.classes place) else Waits Gone) ≡ Selects i → IsCallThere w.classes i
-      by_test place true there e = site_present s place.class there (invocation_at w.classes place) i e
-      by_test place false there e = cc
+          → IsStageThere w.classes (if t then stage_of w s place.class (invocation_at w.classes place) else Waits Gone)
+      by_test place true there = site_there s place.class there (invocation_at w.classes place)
+      by_test place false there = tt
 
-      by_place : (o : Option Place) → stage_at w s o ≡ Selects i → IsCallThere w.classes i
-      by_place None e = cc
-      by_place (Some place) e = by_test place (is_present w.classes place.class) refl e
+      by_place : (o : Option Place) → IsStageThere w.classes (stage_at w s o)
+      by_place None = tt
+      by_place (Some place) = by_test place (is_present w.classes place.class) refl

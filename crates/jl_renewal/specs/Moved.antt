@@ -1,22 +1,25 @@
 -- A fresh core that has all that stays of an old one at a renewal, and all that the old one makes after it.
 use Rattle.std.specs.Prelude.{◌≡◌, ◌≤◌, ℕ, zero, suc, Bool, true, false, List, [], ◌∷◌, ◌++◌, map, filter_map, length, slice_get}
-use Rattle.std.specs.Prelude.{Option, Some, None, option_map, option_and_then, is_some, is_none}
+use Rattle.std.specs.Prelude.{◌↔◌, Contains, Option, Some, None, option_map, option_and_then, is_some, is_none}
 use Rattle.std.specs.List.{list_any, range_with_len}
 use Rattle.std.specs.Option.{unwrap_or}
 use Rattle.jl_types.specs.declared.event.EventOf.TheVariants as event
 use Rattle.jl_types.specs.declared.ids.Place.{Place}
+use Rattle.jl_types.specs.declared.link.Link.{Link}
 use Rattle.jl_types.specs.Values.Target.{Target, Method, Guard, Invoker}
 use Rattle.jl_types.specs.Values.World.{World, Class, Classes, CallSite}
 use Rattle.jl_types.specs.Values.Members.{is_present, is_retired}
 use Rattle.jl_types.specs.Events.Event.{Event}
 use Rattle.jl_relink.specs.Laws.{AreAccepted}
-use Rattle.jl_core.specs.State.{State, events, world_of}
+use Rattle.jl_core.specs.State.{State, events, world_of, links_of}
 use Rattle.jl_types.specs.declared.refusal.Refusal.TheVariants.{Memory}
 use Rattle.jl_renewal.specs.declared.entries.CarryFault.{CarryFault}
 use Rattle.jl_renewal.specs.declared.entries.CarryFault.TheVariants.{Gone, Refused}
 use Rattle.jl_renewal.specs.declared.released.Released.{Released}
-use Rattle.jl_renewal.specs.Numbers.{Numbers}
+use Rattle.jl_renewal.specs.Numbers.{Numbers, renumbered}
 use Rattle.jl_renewal.specs.Staying.{staying_loaders, staying_classes, staying_sites, staying_call_sites, staying_switches}
+use Rattle.jl_renewal.specs.Renewal.{CameFrom}
+use Rattle.jl_renewal.specs.Renewed.{renumbered_link}
 use Rattle.jl_renewal.specs.Carries.{guarded}
 
 -- ---- flags: they tell what stays of the numbers that there are at a renewal; all later numbers stay
@@ -199,6 +202,14 @@ pub record IsBeside (k : Flags) (old fresh : State) (n : Numbers) : Type 0 where
   pub limit : old.max_sites ≤ fresh.max_sites
   pub world : world_of fresh ≡ moved_world k (world_of old)
   pub numbers : n ≡ all_numbers k (world_of old)
+
+-- The links of the fresh core are exactly those of the old one, under new numbers.
+abbrev pub HaveSameLinks : State → State → Numbers → Type 0
+HaveSameLinks old fresh n = (k : ℕ) (l : Link) → Contains (links_of fresh) (k, l) ↔ CameFrom (links_of old) n k l
+
+-- a site with its link, under new numbers
+abbrev pub renumbered_install : Numbers → ℕ × Link → ℕ × Link
+renumbered_install n row = (renumbered n.sites row.0, renumbered_link n row.1)
 
 -- why an event that the old core accepts isn't carried over to a fresh one beside it: it may name what is gone, and does; or memory lacks
 abbrev pub IsFaultBeside : Event → CarryFault → Type 0

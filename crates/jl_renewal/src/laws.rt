@@ -1,6 +1,6 @@
 //! The laws of a renewal: each is the contract of a function that does nothing.
 
-ghost use Rattle.std.specs.Prelude.{◌≡◌, ◌≤◌, ◌↔◌, ℕ, List, ◌++◌, fold, Some, slice_get, true, false, is_some, Contains, IsOk};
+ghost use Rattle.std.specs.Prelude.{◌≡◌, ◌≤◌, ◌↔◌, ℕ, List, ◌++◌, map, fold, Some, slice_get, true, false, is_some, Contains, IsOk};
 ghost use Rattle.jl_types.specs.declared.answer.Recv.{Recv};
 ghost use Rattle.jl_types.specs.declared.event.EventOf.TheVariants as event;
 ghost use Rattle.jl_types.specs.declared.link.Link.{Link};
@@ -16,10 +16,10 @@ ghost use Rattle.jl_core.specs.Logs.{Entry};
 ghost use Rattle.jl_renewal.specs.declared.released.Released.{Released};
 ghost use Rattle.jl_renewal.specs.Numbers.{Numbers, how_many, renumbered};
 ghost use Rattle.jl_renewal.specs.Staying.{numbers_of, staying_sites, is_in_staying_class};
-ghost use Rattle.jl_renewal.specs.Renewal.{IsRenewal, IsRefilled, CameFrom, renewal};
-ghost use Rattle.jl_renewal.specs.Adds.{Follow};
+ghost use Rattle.jl_renewal.specs.Renewal.{IsRenewal, IsRefilled, CameFrom, renewal, fresh_rows};
+ghost use Rattle.jl_renewal.specs.Adds.{Follow, Installs};
 ghost use Rattle.jl_renewal.specs.Carries.{carried, IsMade};
-ghost use Rattle.jl_renewal.specs.Moved.{Flags, flags_of, AreThere, may_be_gone, moved_world, IsBeside};
+ghost use Rattle.jl_renewal.specs.Moved.{Flags, flags_of, AreThere, may_be_gone, moved_world, IsBeside, HaveSameLinks, renumbered_install};
 ghost use Rattle.jl_renewal.specs.Renewed.{renewed, renumbered_result, renumbered_answer, renumbered_receiver, IsPresentReceiver};
 
 /// No event of a renewal is refused where as many sites may be requested in the fresh core as stay, and what there is to link there is what
@@ -93,4 +93,26 @@ pub fn linking_commutes_beside()
     ensures calls { (k : Flags) (old fresh : State) (n : Numbers) → IsBeside k old fresh n → (s : ℕ) (recv : Recv)
         → is_in_staying_class (world_of old) s ≡ true → IsPresentReceiver (world_of old).classes recv
         → dispatch (world_of fresh) (renumbered n.sites s) (renumbered_receiver n recv) ≡ renumbered_answer n (dispatch (world_of old) s recv) }
+{}
+
+/// The links of a fresh core that stands beside the old one are exactly those of the old one, under new numbers. So it is after a renewal, and
+/// after a refill whose links were installed. So it stays after each event that is carried over, and after each install, where the fresh core
+/// installs the links of the same sites. These are then the old rows under new numbers, and the fresh core accepts them.
+pub fn installed_links_stay_beside()
+    ensures first { (old before between fresh : State) (entries : List Entry) (released : Released) (n : Numbers)
+        → AreAccepted old.max_sites (events old) → IsRefilled (world_of old) entries released n before between
+        → Installs (fresh_rows (world_of between) n (links_of old)) between fresh → HaveSameLinks old fresh n }
+    ensures renewed { (old fresh : State) (released : Released) (max_sites : ℕ) (n : Numbers) → AreAccepted old.max_sites (events old)
+        → IsRenewal old released max_sites (fresh, n) → HaveSameLinks old fresh n }
+    ensures carried { (k : Flags) (old after fresh fresh_after : State) (n m : Numbers) (e f : Event) (reply : Reply) → IsBeside k old fresh n
+        → HaveSameLinks old fresh n → has_read_file e ≡ true → IsAccepted old after e reply → carried n e ≡ Some f
+        → IsMade f reply.made n m fresh fresh_after → HaveSameLinks after fresh_after m }
+    ensures rows { (k : Flags) (old fresh : State) (n : Numbers) (rows : List (ℕ × Link)) → IsBeside k old fresh n
+        → IsOk (verdict old.max_sites (world_of old) (event.Install rows)) → fresh_rows (world_of fresh) n rows ≡ map (renumbered_install n) rows }
+    ensures taken { (k : Flags) (old fresh : State) (n : Numbers) (rows : List (ℕ × Link)) → IsBeside k old fresh n
+        → IsOk (verdict old.max_sites (world_of old) (event.Install rows))
+        → IsOk (verdict fresh.max_sites (world_of fresh) (event.Install (fresh_rows (world_of fresh) n rows))) }
+    ensures installed { (k : Flags) (old after fresh fresh_after : State) (n : Numbers) (rows : List (ℕ × Link)) (reply there : Reply)
+        → IsBeside k old fresh n → HaveSameLinks old fresh n → IsAccepted old after (event.Install rows) reply
+        → IsAccepted fresh fresh_after (event.Install (fresh_rows (world_of fresh) n rows)) there → HaveSameLinks after fresh_after n }
 {}
