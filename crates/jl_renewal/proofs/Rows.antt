@@ -1,6 +1,7 @@
 -- Worked renewals: three loaders, of which one is retired that another one found classes through; call sites, switch points, links;
 -- what its owner has let go; and what comes after a renewal.
 use Rattle.std.specs.Prelude.{◌≡◌, ℕ, Bool, true, false, ◌&&◌, List, [], ◌∷◌, ◌++◌, map, filter_map, fold, Option, Some, None, is_ok, codes, refl}
+use Rattle.std.proofs.Common.{arith}
 use Rattle.jl_class.specs.Class.{Method}
 use Rattle.jl_class.specs.declared.site.Kind.{Kind}
 use Rattle.jl_class.specs.declared.site.Kind.TheVariants.{Virtual, Dynamic}
@@ -23,7 +24,7 @@ use Rattle.jl_types.specs.Linkage.Calls.{dispatch}
 use Rattle.jl_types.specs.Values.World.{World}
 use Rattle.jl_types.specs.Events.Verdict.{verdict, step}
 use Rattle.jl_types.specs.Events.History.{world_after, installed_links}
-use Rattle.jl_core.specs.State.{State, world_of}
+use Rattle.jl_core.specs.State.{State, world_of, links_of}
 use Rattle.jl_renewal.specs.declared.released.Released.{Released}
 use Rattle.jl_renewal.specs.Numbers.{Numbers, how_many}
 use Rattle.jl_renewal.specs.Staying.{numbers_of, staying_sites}
@@ -31,6 +32,7 @@ use Rattle.jl_renewal.specs.Renewal.{renewal, fresh_rows}
 use Rattle.jl_renewal.specs.Renewed.{renewed, renumbered_result, renumbered_answer}
 use Rattle.jl_renewal.specs.Carries.{carried, made_number, with_made}
 use Rattle.jl_renewal.specs.Moved.{Flags, flags_of, moved, moved_world, event_there, events_there, may_be_gone, all_numbers}
+use Rattle.jl_renewal.specs.Moved.{HaveSameLinks, renumbered_install}
 
 -- ---- small classes
 
@@ -81,8 +83,11 @@ history =
     ∷ Install ((1, Table kind.Virtual ((1, Run (of_class 1 0)) ∷ (4, Run (of_class 4 1)) ∷ [])) ∷ [])
     ∷ []
 
+abbrev core_of : List Event → State
+core_of es = record { max_sites = 8; log = map (λ e. (e, record { made = Nothing; dropped = [] })) es }
+
 abbrev old : State
-old = record { max_sites = 8; log = map (λ e. (e, record { made = Nothing; dropped = [] })) history }
+old = core_of history
 
 abbrev are_accepted : List Event → List Event → Bool
 are_accepted before [] = true
@@ -130,6 +135,28 @@ rows : fresh_rows (world_after (renewal old nothing)) numbers (installed_links h
     ≡ (0, Table kind.Virtual ((1, Run (of_class 1 0)) ∷ (3, Run (of_class 3 1)) ∷ [])) ∷ (1, Plain (of_class 2 2)) ∷ []
 rows = refl
 
+-- the fresh core with these links
+abbrev linked : State
+linked = core_of (renewal old nothing ++ Install (map (renumbered_install numbers) (links_of old)) ∷ [])
+
+links_under_new_numbers : links_of linked
+    ≡ (0, Table kind.Virtual ((1, Run (of_class 1 0)) ∷ (3, Run (of_class 3 1)) ∷ [])) ∷ (1, Plain (of_class 2 2)) ∷ []
+links_under_new_numbers = refl
+
+-- without them it lacks links of the old core
+no_link_is_lacking : HaveSameLinks old (core_of (renewal old nothing)) numbers → ⊥
+no_link_is_lacking same =
+    let c = (same 1 (Plain (of_class 2 2))).1 (record { site = 2; link = Plain (of_class 2 2); had = (1, omega arith, refl); has = refl; same = refl }) in
+    let lt = c.1 in
+    absurd (omega (arith, lt))
+
+-- and with them it has others than a core without links
+no_other_link_is_there : HaveSameLinks (core_of []) linked numbers → ⊥
+no_other_link_is_there same =
+    let came = (same 1 (Plain (of_class 2 2))).0 (1, omega arith, refl) in
+    let lt = came.had.1 in
+    absurd (omega (arith, lt))
+
 -- ---- what its owner has let go
 
 -- Call site 2 invokes 0; 1 is bound at a site that stays, and 3 at one that goes; 4, which invokes 3, nobody needs.
@@ -148,7 +175,7 @@ with_released =
     ∷ []
 
 abbrev owned : State
-owned = record { max_sites = 8; log = map (λ e. (e, record { made = Nothing; dropped = [] })) with_released }
+owned = core_of with_released
 
 is_one_too : are_accepted [] with_released ≡ true
 is_one_too = refl
