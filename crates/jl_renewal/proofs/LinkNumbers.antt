@@ -128,3 +128,16 @@ module _ (n m : Numbers) (cs ds : Classes)
   kept_same b None (Ok k) had now = either (b || false) k
   kept_same b (Some l) (Ok k) had now =
       ap (λ (c : Bool). if b || c then Some (renumbered_link m k) else None) (links_same l k (had l refl) now) ∙ either (b || same_link l k) k
+
+  -- where there is another link only if that is the one under new numbers, so it stays
+  pub kept_only : (b : Bool) (o q : Option Link) (r : Result Link Unlinked) → ((l : Link) → q ≡ Some l → option_map (renumbered_link n) o ≡ Some l)
+      → ((l : Link) → o ≡ Some l → IsLinkThere cs l) → IsResultThere ds r → (l : Link) → kept b q (renumbered_result m r) ≡ Some l
+      → option_map (renumbered_link m) (kept b o r) ≡ Some l
+  kept_only b o q (Err reason) only had now l e = cc
+  kept_only b o None (Ok k) only had now l e = by_test b e
+    where
+      by_test : (b : Bool) → kept b None (Ok (renumbered_link m k)) ≡ Some l → option_map (renumbered_link m) (kept b o (Ok k)) ≡ Some l
+      by_test true e = e
+      by_test false e = cc
+  kept_only b o (Some j) (Ok k) only had now l e =
+      sym (kept_same b o (Ok k) had now) ∙ (ap (λ (q : Option Link). kept b q (Ok (renumbered_link m k))) (only j refl) ∙ e)

@@ -288,6 +288,18 @@ module _ (k : Flags) (old fresh : State) (n : Numbers) (beside : IsBeside k old 
 
 -- ---- installs
 
+-- a fresh core with the same world stands there, too
+pub beside_as : (k : Flags) (old fresh other : State) (n : Numbers) → IsBeside k old fresh n → world_of other ≡ world_of fresh
+    → other.max_sites ≡ fresh.max_sites → IsBeside k old other n
+beside_as k old fresh other n beside same_world same_limit = record {
+  accepted = beside.accepted;
+  rests = beside.rests;
+  names = beside.names;
+  limit = let le = beside.limit in omega (arith, same_limit, le);
+  world = same_world ∙ beside.world;
+  numbers = beside.numbers;
+}
+
 -- an install leaves the world
 module _ (k : Flags) (old fresh : State) (n : Numbers) (beside : IsBeside k old fresh n) (rows : List (ℕ × Link)) where
   abbrev z : World
@@ -330,14 +342,7 @@ module _ (k : Flags) (old fresh : State) (n : Numbers) (beside : IsBeside k old 
     still_limit = ap (λ (s : State). s.max_sites) accepted.logged
 
     pub beside_linked : IsBeside k old fresh_after n
-    beside_linked = record {
-      accepted = beside.accepted;
-      rests = beside.rests;
-      names = beside.names;
-      limit = let b = still_limit in let le = beside.limit in omega (arith, b, le);
-      world = still_world ∙ beside.world;
-      numbers = beside.numbers;
-    }
+    beside_linked = beside_as k old fresh fresh_after n beside still_world still_limit
 
 -- ---- a fresh core that was refilled
 

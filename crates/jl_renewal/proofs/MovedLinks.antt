@@ -1,5 +1,5 @@
--- A fresh core that stands beside the old one has the links of that, under new numbers.
-use Rattle.std.specs.Prelude.{◌≡◌, ◌≢◌, ◌↔◌, ◌==◌, ◌||◌, ◌<◌, ℕ, not, Bool, true, false, All, AllPairs, Contains, List, [], ◌∷◌, map, length}
+-- A fresh core that stands beside the old one has the links of that, under new numbers, where it had them or they are installed.
+use Rattle.std.specs.Prelude.{◌≡◌, ◌≢◌, ◌==◌, ◌||◌, ◌<◌, ℕ, not, Bool, true, false, All, AllPairs, Contains, List, [], ◌∷◌, map, length}
 use Rattle.std.specs.Prelude.{get_or, slice_get, Option, Some, None, option_map, option_and_then, is_some, is_ok, Result, Ok, IsOk}
 use Rattle.std.specs.Option.{option_map_or, unwrap_or}
 use Rattle.std.specs.List.{AllByRecursion, list_any, cons_option}
@@ -23,27 +23,32 @@ use Rattle.jl_types.specs.Events.Event.{Event}
 use Rattle.jl_types.specs.Events.History.{installs, installed, kept, world_after}
 use Rattle.jl_types.specs.Events.Verdict.{verdict, unless, install_fault, Accepts}
 use Rattle.jl_types.proofs.Accepting.{accepted_installs}
-use Rattle.jl_types.proofs.Installed.{installed_to, settled_now}
+use Rattle.jl_types.proofs.Installed.{installed_to, settled_now, kept_none, kept_link}
 use Rattle.jl_types.proofs.InstalledLinks.{links_are, installed_requested, requested}
 use Rattle.jl_types.proofs.Lists.{passes_within}
 use Rattle.jl_types.proofs.OneMore.{installed_step}
 use Rattle.jl_events.proofs.CallSiteLaws.{no_fault as no_refusal}
 use Rattle.jl_core.specs.State.{State, events, world_of, links_of, IsAccepted}
+use Rattle.jl_core.specs.Logs.{Entry}
+use Rattle.jl_renewal.specs.declared.released.Released.{Released}
 use Rattle.jl_renewal.specs.Numbers.{Numbers, new_number, renumbered}
-use Rattle.jl_renewal.specs.Staying.{is_in_staying_class}
-use Rattle.jl_renewal.specs.Renewal.{row_of, fresh_row, fresh_rows, CameFrom}
+use Rattle.jl_renewal.specs.Staying.{numbers_of, is_in_staying_class}
+use Rattle.jl_renewal.specs.Renewal.{row_of, fresh_row, fresh_rows, logged, IsRefilled, CameFrom}
 use Rattle.jl_renewal.specs.Renewed.{renumbered_link, renumbered_result}
+use Rattle.jl_renewal.specs.Adds.{Installs}
 use Rattle.jl_renewal.specs.Carries.{carried}
 use Rattle.jl_renewal.specs.Moved.{Flags, Rests, moved, kept as those_kept, moved_place, moved_classes, moved_world, IsBeside}
-use Rattle.jl_renewal.specs.Moved.{HaveSameLinks, renumbered_install}
+use Rattle.jl_renewal.specs.Moved.{HaveSameLinks, HasNoOtherLinks, renumbered_install}
+use Rattle.jl_renewal.proofs.FollowLaws.{world_added}
 use Rattle.jl_renewal.proofs.InstallLaws.{adds_of}
 use Rattle.jl_renewal.proofs.LinkClasses.{IsLinkThere, IsResultThere, scratch_there, linked_in_class}
-use Rattle.jl_renewal.proofs.LinkNumbers.{kept_same}
-use Rattle.jl_renewal.proofs.MovedBeside.{beside_alike}
+use Rattle.jl_renewal.proofs.LinkLaws.{same_world, behind, in_rows, came_from, goes_to}
+use Rattle.jl_renewal.proofs.LinkNumbers.{kept_same, kept_only}
+use Rattle.jl_renewal.proofs.MovedBeside.{beside_as, beside_passed, beside_alike}
 use Rattle.jl_renewal.proofs.MovedCarries.{number_at, there_number}
 use Rattle.jl_renewal.proofs.MovedClasses.{present_stays, present_same}
 use Rattle.jl_renewal.proofs.MovedLists.{clash, there_is, moved_onto, same_numbers, kept_at, shifted_is}
-use Rattle.jl_renewal.proofs.QuietLaws.{of_carried}
+use Rattle.jl_renewal.proofs.QuietLaws.{IsQuiet, is_quiet, of_carried, none_there}
 use Rattle.jl_renewal.proofs.ScratchLaws.{scratch_same}
 
 -- what has one number is one
@@ -85,9 +90,12 @@ module _ (k : Flags) (old fresh : State) (n : Numbers) (beside : IsBeside k old 
   class_number : (c : ℕ) → is_present w.classes c ≡ true → (d : ℕ) × (moved k.classes c ≡ Some d) × (renumbered n.classes c ≡ d)
   class_number c present =
       let d = present_stays k w beside.rests c present in
-      let lt = passes_within (λ (row : Class). not (is_retired w.classes row.loader)) w.classes.rows c present in
-      (d.0, d.1, ap (λ (m : Numbers). renumbered m.classes c) beside.numbers
-      ∙ ap (λ (o : Option ℕ). unwrap_or o 0) (number_at k.classes (length w.classes.rows) c lt ∙ d.1))
+      let lt = passes_within (λ (row : Class). not (is_retired w.classes row.loader)) w.classes.rows c present in (
+        d.0,
+        d.1,
+        ap (λ (m : Numbers). renumbered m.classes c) beside.numbers
+            ∙ ap (λ (o : Option ℕ). unwrap_or o 0) (number_at k.classes (length w.classes.rows) c lt ∙ d.1),
+      )
 
   site_number : (s t : ℕ) → s < length w.places → moved k.sites s ≡ Some t → new_number n.sites s ≡ Some t
   site_number s t lt at = ap (λ (m : Numbers). new_number m.sites s) beside.numbers ∙ (number_at k.sites (length w.places) s lt ∙ at)
@@ -127,7 +135,26 @@ module _ (k : Flags) (old fresh : State) (n : Numbers) (beside : IsBeside k old 
   linked_now : (s : ℕ) (l : Link) → installed (events old) s ≡ Some l → scratch w s ≡ Ok l
   linked_now s l is = settled_now (events old) s l (installed_to (events old) s l is)
 
-  -- each link of the old core is there, and there is no other
+  -- what is installed there where each link is one of the old core's
+  pub only_by_site : HasNoOtherLinks old fresh n → (s t : ℕ) → moved k.sites s ≡ Some t → (l : Link) → installed (events fresh) t ≡ Some l
+      → option_map (renumbered_link n) (installed (events old) s) ≡ Some l
+  only_by_site only s t at l e =
+      let came = only t l ((links_are (events fresh) t l).0 e) in
+      let had = (links_are (events old) came.site came.link).1 came.had in
+      let one = moved_one k.sites came.site s t (number_moved came.site t came.has) at in
+      ap (option_map (renumbered_link n)) (ap (installed (events old)) (sym one) ∙ had) ∙ ap Some (sym came.same)
+
+  -- a link of the old core, as one that came from there
+  come_from : (s t : ℕ) (l : Link) → moved k.sites s ≡ Some t → installed (events old) s ≡ Some l → CameFrom (links_of old) n t (renumbered_link n l)
+  come_from s t l at is = record {
+    site = s;
+    link = l;
+    had = (links_are (events old) s l).0 is;
+    has = site_number s t (installed_requested (events old) s l is) at;
+    same = refl;
+  }
+
+  -- and where those are all of them
   pub by_site : HaveSameLinks old fresh n → (s t : ℕ) → moved k.sites s ≡ Some t
       → installed (events fresh) t ≡ option_map (renumbered_link n) (installed (events old) s)
   by_site same s t at = by_link (installed (events old) s) refl
@@ -135,67 +162,49 @@ module _ (k : Flags) (old fresh : State) (n : Numbers) (beside : IsBeside k old 
       none_there : (q : Option Link) → installed (events old) s ≡ None → installed (events fresh) t ≡ q → q ≡ None
       none_there None is e = refl
       none_there (Some l) is e =
-          let came = (same t l).0 ((links_are (events fresh) t l).0 e) in
-          let had = (links_are (events old) came.site came.link).1 came.had in
-          let one = moved_one k.sites came.site s t (number_moved came.site t came.has) at in
-          clash came.link (sym is ∙ (ap (installed (events old)) (sym one) ∙ had))
+          clash l (sym (ap (option_map (renumbered_link n)) is) ∙ only_by_site (λ j m. (same j m).0) s t at l e)
 
       by_link : (o : Option Link) → installed (events old) s ≡ o → installed (events fresh) t ≡ option_map (renumbered_link n) o
       by_link None is = none_there (installed (events fresh) t) is refl
-      by_link (Some l) is =
-          (links_are (events fresh) t (renumbered_link n l)).1
-          ((same t (renumbered_link n l)).1 (record {
-            site = s;
-            link = l;
-            had = (links_are (events old) s l).0 is;
-            has = site_number s t (installed_requested (events old) s l is) at;
-            same = refl;
-          }))
+      by_link (Some l) is = (links_are (events fresh) t (renumbered_link n l)).1 ((same t (renumbered_link n l)).1 (come_from s t l at is))
 
   -- so much of the sites in present classes is enough
-  module _ (each : (s t : ℕ) → is_in_staying_class w s ≡ true → moved k.sites s ≡ Some t
-      → installed (events fresh) t ≡ option_map (renumbered_link n) (installed (events old) s)) (j : ℕ) (l : Link) where
-    go : CameFrom (links_of old) n j l → Contains (links_of fresh) (j, l)
-    go came =
-        let is = (links_are (events old) came.site came.link).1 came.had in
-        let stays = linked_in_class w came.site came.link (linked_now came.site came.link is) in
-        (links_are (events fresh) j l).0
-        (each came.site j stays (number_moved came.site j came.has) ∙ (ap (option_map (renumbered_link n)) is ∙ ap Some (sym came.same)))
+  pub no_others : ((s t : ℕ) → is_in_staying_class w s ≡ true → moved k.sites s ≡ Some t → (l : Link) → installed (events fresh) t ≡ Some l
+      → option_map (renumbered_link n) (installed (events old) s) ≡ Some l) → HasNoOtherLinks old fresh n
+  no_others each j l c = by_link (installed (events old) s) refl (each s j stays at l is)
+    where
+      is : installed (events fresh) j ≡ Some l
+      is = (links_are (events fresh) j l).1 c
 
-    come : Contains (links_of fresh) (j, l) → CameFrom (links_of old) n j l
-    come c = by_link (installed (events old) s) refl (sym (each s j stays at) ∙ is)
-      where
-        is : installed (events fresh) j ≡ Some l
-        is = (links_are (events fresh) j l).1 c
+      s : ℕ
+      s = (moved_onto k.sites j).0
 
-        s : ℕ
-        s = (moved_onto k.sites j).0
+      at : moved k.sites s ≡ Some j
+      at = (moved_onto k.sites j).1
 
-        at : moved k.sites s ≡ Some j
-        at = (moved_onto k.sites j).1
+      stays : is_in_staying_class w s ≡ true
+      stays = class_was k w beside.rests s j at
+          (subst (λ (v : World). is_in_staying_class v j ≡ true) beside.world
+          (linked_in_class (world_of fresh) j l (settled_now (events fresh) j l (installed_to (events fresh) j l is))))
 
-        stays : is_in_staying_class w s ≡ true
-        stays = class_was k w beside.rests s j at
-            (subst (λ (v : World). is_in_staying_class v j ≡ true) beside.world
-            (linked_in_class (world_of fresh) j l (settled_now (events fresh) j l (installed_to (events fresh) j l is))))
+      by_link : (o : Option Link) → installed (events old) s ≡ o → option_map (renumbered_link n) o ≡ Some l → CameFrom (links_of old) n j l
+      by_link None had e = clash l e
+      by_link (Some m) had e = subst (CameFrom (links_of old) n j) (same_Some (renumbered_link n m) l e) (come_from s j m at had)
 
-        by_link : (o : Option Link) → installed (events old) s ≡ o → option_map (renumbered_link n) o ≡ Some l → CameFrom (links_of old) n j l
-        by_link None had e = clash l e
-        by_link (Some m) had e = record {
-          site = s;
-          link = m;
-          had = (links_are (events old) s m).0 had;
-          has = site_number s j (installed_requested (events old) s m had) at;
-          same = sym (same_Some (renumbered_link n m) l e);
-        }
-
-    pub all_links : Contains (links_of fresh) (j, l) ↔ CameFrom (links_of old) n j l
-    all_links = (come, go)
+  pub all_links : ((s t : ℕ) → is_in_staying_class w s ≡ true → moved k.sites s ≡ Some t
+      → installed (events fresh) t ≡ option_map (renumbered_link n) (installed (events old) s)) → HaveSameLinks old fresh n
+  all_links each j l = (no_others (λ s t stays at m e. sym (each s t stays at) ∙ e) j l, go)
+    where
+      go : CameFrom (links_of old) n j l → Contains (links_of fresh) (j, l)
+      go came =
+          let is = (links_are (events old) came.site came.link).1 came.had in
+          let stays = linked_in_class w came.site came.link (linked_now came.site came.link is) in
+          (links_are (events fresh) j l).0
+          (each came.site j stays (number_moved came.site j came.has) ∙ (ap (option_map (renumbered_link n)) is ∙ ap Some (sym came.same)))
 
 -- ---- one event in each core
 
-module _ (k : Flags) (old after fresh fresh_after : State) (n m : Numbers) (beside : IsBeside k old fresh n) (later : IsBeside k after fresh_after m)
-    (same : HaveSameLinks old fresh n) where
+module _ (k : Flags) (old after fresh fresh_after : State) (n m : Numbers) (beside : IsBeside k old fresh n) (later : IsBeside k after fresh_after m) where
   one : (c d : ℕ) → is_present (world_of old).classes c ≡ true → is_present (world_of after).classes d ≡ true
       → renumbered n.classes c ≡ renumbered m.classes d → c ≡ d
   one c d pc pd e =
@@ -209,23 +218,38 @@ module _ (k : Flags) (old after fresh fresh_after : State) (n m : Numbers) (besi
       let y = class_number k after fresh_after m later c pd in
       x.2 ∙ (same_Some x.0 y.0 (sym x.1 ∙ y.1) ∙ sym y.2)
 
-  -- what an event leaves of a link, where it installs the site there as here
-  left_same : (b c : Bool) (s t : ℕ) → is_in_staying_class (world_of after) s ≡ true → moved k.sites s ≡ Some t → c ≡ b
-      → kept c (installed (events fresh) t) (scratch (world_of fresh_after) t)
-      ≡ option_map (renumbered_link m) (kept b (installed (events old) s) (scratch (world_of after) s))
-  left_same b c s t stays at test =
-      (λ i. kept (test i) (by_site k old fresh n beside same s t at i) (commutes k after fresh_after m later s t stays at i))
-      ∙ kept_same n m (world_of old).classes (world_of after).classes one still b (installed (events old) s) (scratch (world_of after) s)
-      (λ l had. linked_there k old fresh n beside s l (linked_now k old fresh n beside s l had))
-      (scratch_there m (world_of after) (world_of fresh_after) (λ c. is_some (moved k.call_sites c)) (beside_alike k after fresh_after m later) s)
+  -- all classes that the links name are present
+  old_there : (s : ℕ) (l : Link) → installed (events old) s ≡ Some l → IsLinkThere (world_of old).classes l
+  old_there s l had = linked_there k old fresh n beside s l (linked_now k old fresh n beside s l had)
 
-  pub links_after : (e f : Event) (reply there : Reply) → IsAccepted old after e reply → IsAccepted fresh fresh_after f there
-      → ((s t : ℕ) → moved k.sites s ≡ Some t → installs t f ≡ installs s e) → HaveSameLinks after fresh_after m
-  links_after e f reply there accepted accepted_there tests =
-      all_links k after fresh_after m later (λ s t stays at.
-      after_event fresh fresh_after f there accepted_there t
-      ∙ (left_same (installs s e) (installs t f) s t stays at (tests s t at)
-      ∙ ap (option_map (renumbered_link m)) (sym (after_event old after e reply accepted s))))
+  after_there : (s : ℕ) → IsResultThere (world_of after).classes (scratch (world_of after) s)
+  after_there s = scratch_there m (world_of after) (world_of fresh_after) (λ c. is_some (moved k.call_sites c)) (beside_alike k after fresh_after m later) s
+
+  module _ (e f : Event) (reply there : Reply) (accepted : IsAccepted old after e reply) (accepted_there : IsAccepted fresh fresh_after f there)
+      (tests : (s t : ℕ) → moved k.sites s ≡ Some t → installs t f ≡ installs s e) where
+    -- what the event leaves of a link, there as here
+    left_there : (s t : ℕ) → is_in_staying_class (world_of after) s ≡ true → moved k.sites s ≡ Some t
+        → installed (events fresh_after) t ≡ kept (installs s e) (installed (events fresh) t) (renumbered_result m (scratch (world_of after) s))
+    left_there s t stays at =
+        after_event fresh fresh_after f there accepted_there t
+        ∙ (λ i. kept (tests s t at i) (installed (events fresh) t) (commutes k after fresh_after m later s t stays at i))
+
+    pub links_after : HaveSameLinks old fresh n → HaveSameLinks after fresh_after m
+    links_after same =
+        all_links k after fresh_after m later (λ s t stays at.
+        left_there s t stays at
+        ∙ (ap (λ (o : Option Link). kept (installs s e) o (renumbered_result m (scratch (world_of after) s))) (by_site k old fresh n beside same s t at)
+        ∙ (kept_same n m (world_of old).classes (world_of after).classes one still (installs s e) (installed (events old) s) (scratch (world_of after) s)
+        (old_there s) (after_there s)
+        ∙ ap (option_map (renumbered_link m)) (sym (after_event old after e reply accepted s)))))
+
+    pub no_others_after : HasNoOtherLinks old fresh n → HasNoOtherLinks after fresh_after m
+    no_others_after only =
+        no_others k after fresh_after m later (λ s t stays at l is.
+        ap (option_map (renumbered_link m)) (after_event old after e reply accepted s)
+        ∙ kept_only n m (world_of old).classes (world_of after).classes one still (installs s e) (installed (events old) s) (installed (events fresh) t)
+        (scratch (world_of after) s) (only_by_site k old fresh n beside only s t at) (old_there s) (after_there s) l
+        (sym (left_there s t stays at) ∙ is))
 
 -- ---- an event that is carried over
 
@@ -344,3 +368,96 @@ module _ (k : Flags) (old fresh : State) (n : Numbers) (beside : IsBeside k old 
     -- a site is installed there where it is here
     pub both_install : (s t : ℕ) → moved k.sites s ≡ Some t → installs t (event.Install (fresh_rows v n rows)) ≡ installs s (event.Install rows)
     both_install s t at = ap (list_any (λ (row : ℕ × Link). row.0 == t)) rows_there ∙ among_same s t at rows each
+
+-- ---- installs that come later
+
+-- one of the old core alone
+pub no_others_passed : (k : Flags) (old after fresh : State) (n : Numbers) (rows : List (ℕ × Link)) (reply : Reply) → IsBeside k old fresh n
+    → HasNoOtherLinks old fresh n → IsAccepted old after (event.Install rows) reply → HasNoOtherLinks after fresh n
+no_others_passed k old after fresh n rows reply beside only accepted =
+    no_others k after fresh n later (λ s t stays at l is.
+    by_link s (installed (events old) s) refl l (only_by_site k old fresh n beside only s t at l is))
+  where
+    later : IsBeside k after fresh n
+    later = beside_passed k old fresh n beside rows after reply accepted
+
+    same_world : world_of after ≡ world_of old
+    same_world = world_added (event.Install rows ∷ []) old after (adds_of (event.Install rows) reply old after accepted)
+
+    -- a link that is there stays
+    stays_linked : (b : Bool) (l : Link) → kept b (Some l) (Ok l) ≡ Some l
+    stays_linked true l = refl
+    stays_linked false l = kept_link l
+
+    by_link : (s : ℕ) (o : Option Link) → installed (events old) s ≡ o → (l : Link) → option_map (renumbered_link n) o ≡ Some l
+        → option_map (renumbered_link n) (installed (events after) s) ≡ Some l
+    by_link s None had l e = clash l e
+    by_link s (Some m) had l e =
+        ap (option_map (renumbered_link n))
+        (after_event old after (event.Install rows) reply accepted s
+        ∙ ((λ i. kept (installs s (event.Install rows)) (had i)
+        ((ap (λ (w : World). scratch w s) same_world ∙ linked_now k old fresh n beside s m had) i))
+        ∙ stays_linked (installs s (event.Install rows)) m))
+        ∙ e
+
+-- all of them in the fresh core
+module _ (k : Flags) (old between fresh : State) (n : Numbers) (beside : IsBeside k old between n) (only : HasNoOtherLinks old between n)
+    (all : Installs (fresh_rows (world_of between) n (links_of old)) between fresh) where
+  abbrev all_rows : List (ℕ × Link)
+  all_rows = fresh_rows (world_of between) n (links_of old)
+
+  still_world : world_of fresh ≡ world_of between
+  still_world = ap world_after all.adds.events ∙ same_world (events between) all.batches
+
+  module _ (s t : ℕ) (at : moved k.sites s ≡ Some t) where
+    now_linked : installed (events fresh) t ≡ kept (list_any (λ row. row.0 == t) all_rows) (installed (events between) t) (scratch (world_of between) t)
+    now_linked =
+        ap (λ (es : List Event). installed es t) all.adds.events
+        ∙ (behind t all.batches (events between)
+        ∙ ap (λ (b : Bool). kept b (installed (events between) t) (scratch (world_of between) t)) (in_rows t all.batches all_rows all.are_batches))
+
+    -- it has a row where the old core has a link
+    has_row : (l : Link) → scratch (world_of between) t ≡ Ok (renumbered_link n l) → installed (events old) s ≡ Some l
+        → list_any (λ row. row.0 == t) all_rows ≡ true
+    has_row l now is =
+        let came = come_from k old between n beside s t l at is in
+        goes_to (world_of between) n t (renumbered_link n l) now (links_of old)
+        (record { site = came.site; link = came.link; had = came.had; has = came.has })
+
+    -- and none where that has none
+    no_row : (b : Bool) → list_any (λ row. row.0 == t) all_rows ≡ b → installed (events old) s ≡ None → b ≡ false
+    no_row false is none = refl
+    no_row true is none =
+        let came = came_from (world_of between) n t (links_of old) is in
+        let one = moved_one k.sites came.site s t (number_moved k old between n beside came.site t came.has) at in
+        clash came.link (sym none ∙ (ap (installed (events old)) (sym one) ∙ (links_are (events old) came.site came.link).1 came.had))
+
+    none_between : (q : Option Link) → installed (events between) t ≡ q → installed (events old) s ≡ None → q ≡ None
+    none_between None is none = refl
+    none_between (Some l) is none =
+        clash l (sym (ap (option_map (renumbered_link n)) none) ∙ only_by_site k old between n beside only s t at l is)
+
+    by_old : (o : Option Link) → installed (events old) s ≡ o → installed (events fresh) t ≡ option_map (renumbered_link n) o
+    by_old None is =
+        now_linked
+        ∙ ((λ i. kept (no_row (list_any (λ row. row.0 == t) all_rows) refl is i) (none_between (installed (events between) t) refl is i)
+        (scratch (world_of between) t))
+        ∙ kept_none (scratch (world_of between) t))
+    by_old (Some l) is =
+        let was = linked_now k old between n beside s l is in
+        let stays = linked_in_class (world_of old) s l was in
+        let now = commutes k old between n beside s t stays at ∙ ap (renumbered_result n) was in
+        now_linked
+        ∙ ((λ i. kept (has_row l now is i) (installed (events between) t) (now i)))
+
+  pub all_installed : HaveSameLinks old fresh n
+  all_installed =
+      all_links k old fresh n (beside_as k old between fresh n beside still_world all.adds.limit)
+      (λ s t stays at. by_old s t at (installed (events old) s) refl)
+
+-- a core that was refilled has no links yet
+pub none_refilled : (w : World) (entries : List Entry) (released : Released) (n : Numbers) (old before fresh : State)
+    → IsRefilled w entries released n before fresh → HasNoOtherLinks old fresh n
+none_refilled w entries released n old before fresh refilled j l c =
+    clash l (sym (none_there j (events fresh) (subst (IsQuiet j) (sym refilled.events)
+    (is_quiet j w (numbers_of w released) (events (logged before.max_sites w entries))))) ∙ (links_are (events fresh) j l).1 c)

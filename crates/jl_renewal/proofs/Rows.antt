@@ -32,7 +32,7 @@ use Rattle.jl_renewal.specs.Renewal.{renewal, fresh_rows}
 use Rattle.jl_renewal.specs.Renewed.{renewed, renumbered_result, renumbered_answer}
 use Rattle.jl_renewal.specs.Carries.{carried, made_number, with_made}
 use Rattle.jl_renewal.specs.Moved.{Flags, flags_of, moved, moved_world, event_there, events_there, may_be_gone, all_numbers}
-use Rattle.jl_renewal.specs.Moved.{HaveSameLinks, renumbered_install}
+use Rattle.jl_renewal.specs.Moved.{HaveSameLinks, HasNoOtherLinks, renumbered_install}
 
 -- ---- small classes
 
@@ -150,12 +150,18 @@ no_link_is_lacking same =
     let lt = c.1 in
     absurd (omega (arith, lt))
 
+but_no_other_is_there : HasNoOtherLinks old (core_of (renewal old nothing)) numbers
+but_no_other_is_there k l c = let lt = c.1 in absurd (omega (arith, lt))
+
 -- and with them it has others than a core without links
-no_other_link_is_there : HaveSameLinks (core_of []) linked numbers → ⊥
-no_other_link_is_there same =
-    let came = (same 1 (Plain (of_class 2 2))).0 (1, omega arith, refl) in
+others_are_refused : HasNoOtherLinks (core_of []) linked numbers → ⊥
+others_are_refused only =
+    let came = only 1 (Plain (of_class 2 2)) (1, omega arith, refl) in
     let lt = came.had.1 in
     absurd (omega (arith, lt))
+
+no_other_link_is_there : HaveSameLinks (core_of []) linked numbers → ⊥
+no_other_link_is_there same = others_are_refused (λ k l. (same k l).0)
 
 -- ---- what its owner has let go
 

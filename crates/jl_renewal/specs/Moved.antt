@@ -207,6 +207,10 @@ pub record IsBeside (k : Flags) (old fresh : State) (n : Numbers) : Type 0 where
 abbrev pub HaveSameLinks : State → State → Numbers → Type 0
 HaveSameLinks old fresh n = (k : ℕ) (l : Link) → Contains (links_of fresh) (k, l) ↔ CameFrom (links_of old) n k l
 
+-- Each link of the fresh core is one of the old core's, under new numbers.
+abbrev pub HasNoOtherLinks : State → State → Numbers → Type 0
+HasNoOtherLinks old fresh n = (k : ℕ) (l : Link) → Contains (links_of fresh) (k, l) → CameFrom (links_of old) n k l
+
 -- a site with its link, under new numbers
 abbrev pub renumbered_install : Numbers → ℕ × Link → ℕ × Link
 renumbered_install n row = (renumbered n.sites row.0, renumbered_link n row.1)

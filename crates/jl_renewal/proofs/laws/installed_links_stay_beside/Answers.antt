@@ -24,7 +24,7 @@ returns-clause-carried c k old after fresh fresh_after n m e f reply beside same
     (still_beside k old fresh n beside e f carries
     (ap is_ok (accepted_of (dropped (events old) e) (verdict old.max_sites (world_of old) e) reply accepted.answered).0)
     after fresh_after m reply read accepted made)
-    same e f reply made.reply accepted made.accepted (λ s t at. neither_installs n e f carries s t)
+    e f reply made.reply accepted made.accepted (λ s t at. neither_installs n e f carries s t) same
 
 pub returns-clause-rows : goal.returns-clause-rows
 returns-clause-rows c k old fresh n rows beside ok = rows_there k old fresh n beside rows ok
@@ -37,6 +37,7 @@ returns-clause-installed c k old after fresh fresh_after n rows reply there besi
     links_after k old after fresh fresh_after n n beside
     (beside_linked k after fresh n (beside_passed k old fresh n beside rows after reply accepted)
     (fresh_rows (world_of fresh) n rows) fresh_after there accepted_there)
-    same (event.Install rows) (event.Install (fresh_rows (world_of fresh) n rows)) reply there accepted accepted_there
+    (event.Install rows) (event.Install (fresh_rows (world_of fresh) n rows)) reply there accepted accepted_there
     (both_install k old fresh n beside rows
     (ap is_ok (accepted_of (dropped (events old) (event.Install rows)) (verdict old.max_sites (world_of old) (event.Install rows)) reply accepted.answered).0))
+    same
