@@ -136,7 +136,7 @@ module _ (k : Flags) (old fresh : State) (n : Numbers) (beside : IsBeside k old 
   linked_now s l is = settled_now (events old) s l (installed_to (events old) s l is)
 
   -- what is installed there where each link is one of the old core's
-  pub only_by_site : HasNoOtherLinks old fresh n → (s t : ℕ) → moved k.sites s ≡ Some t → (l : Link) → installed (events fresh) t ≡ Some l
+  only_by_site : HasNoOtherLinks old fresh n → (s t : ℕ) → moved k.sites s ≡ Some t → (l : Link) → installed (events fresh) t ≡ Some l
       → option_map (renumbered_link n) (installed (events old) s) ≡ Some l
   only_by_site only s t at l e =
       let came = only t l ((links_are (events fresh) t l).0 e) in
@@ -155,7 +155,7 @@ module _ (k : Flags) (old fresh : State) (n : Numbers) (beside : IsBeside k old 
   }
 
   -- and where those are all of them
-  pub by_site : HaveSameLinks old fresh n → (s t : ℕ) → moved k.sites s ≡ Some t
+  by_site : HaveSameLinks old fresh n → (s t : ℕ) → moved k.sites s ≡ Some t
       → installed (events fresh) t ≡ option_map (renumbered_link n) (installed (events old) s)
   by_site same s t at = by_link (installed (events old) s) refl
     where
@@ -169,7 +169,7 @@ module _ (k : Flags) (old fresh : State) (n : Numbers) (beside : IsBeside k old 
       by_link (Some l) is = (links_are (events fresh) t (renumbered_link n l)).1 ((same t (renumbered_link n l)).1 (come_from s t l at is))
 
   -- so much of the sites in present classes is enough
-  pub no_others : ((s t : ℕ) → is_in_staying_class w s ≡ true → moved k.sites s ≡ Some t → (l : Link) → installed (events fresh) t ≡ Some l
+  no_others : ((s t : ℕ) → is_in_staying_class w s ≡ true → moved k.sites s ≡ Some t → (l : Link) → installed (events fresh) t ≡ Some l
       → option_map (renumbered_link n) (installed (events old) s) ≡ Some l) → HasNoOtherLinks old fresh n
   no_others each j l c = by_link (installed (events old) s) refl (each s j stays at l is)
     where
@@ -191,7 +191,7 @@ module _ (k : Flags) (old fresh : State) (n : Numbers) (beside : IsBeside k old 
       by_link None had e = clash l e
       by_link (Some m) had e = subst (CameFrom (links_of old) n j) (same_Some (renumbered_link n m) l e) (come_from s j m at had)
 
-  pub all_links : ((s t : ℕ) → is_in_staying_class w s ≡ true → moved k.sites s ≡ Some t
+  all_links : ((s t : ℕ) → is_in_staying_class w s ≡ true → moved k.sites s ≡ Some t
       → installed (events fresh) t ≡ option_map (renumbered_link n) (installed (events old) s)) → HaveSameLinks old fresh n
   all_links each j l = (no_others (λ s t stays at m e. sym (each s t stays at) ∙ e) j l, go)
     where

@@ -95,9 +95,9 @@ pub fn linking_commutes_beside()
         → dispatch (world_of fresh) (renumbered n.sites s) (renumbered_receiver n recv) ≡ renumbered_answer n (dispatch (world_of old) s recv) }
 {}
 
-/// The links of a fresh core that stands beside the old one are exactly those of the old one, under new numbers. So it is after a renewal, and
-/// after a refill whose links were installed. So it stays after each event that is carried over, and after each install, where the fresh core
-/// installs the links of the same sites. These are then the old rows under new numbers, and the fresh core accepts them.
+/// After a renewal, and after a refill whose links were installed, the links of the fresh core are exactly those of the old one, under new
+/// numbers. So it stays after each event that is carried over. So it stays after each install, if the fresh core installs the links of the same
+/// sites. These are then the rows of the old one under new numbers, and the fresh core accepts them.
 pub fn installed_links_stay_beside()
     ensures first { (old before between fresh : State) (entries : List Entry) (released : Released) (n : Numbers)
         → AreAccepted old.max_sites (events old) → IsRefilled (world_of old) entries released n before between
