@@ -1,9 +1,9 @@
 -- What the installs of a renewal leave installed.
-use Rattle.std.specs.Prelude.{◌≡◌, ◌↔◌, ℕ, zero, suc, ◌<◌, ◌==◌, ◌||◌, Bool, true, false, List, [], ◌∷◌, ◌++◌, map, take, drop, length, get_or}
+use Rattle.std.specs.Prelude.{◌≡◌, ◌↔◌, ℕ, zero, suc, ◌<◌, ◌≤◌, ◌==◌, ◌||◌, Bool, true, false, List, [], ◌∷◌, ◌++◌, map, take, drop, length, get_or}
 use Rattle.std.specs.Prelude.{Option, Some, None, Result, Ok, Err}
 use Rattle.std.specs.Prelude.{option_and_then, fold, Contains, if◌then◌else◌}
 use Rattle.std.specs.List.{cons_option, list_any}
-use Rattle.std.proofs.Common.{refl, sym, ap, ◌∙◌, arith, append_assoc}
+use Rattle.std.proofs.Common.{refl, sym, ap, ◌∙◌, arith, append_assoc, length-drop}
 use Rattle.std.proofs.lemmas.Bool.Decides.{Decides-eqb}
 use Rattle.std.proofs.lemmas.Option.{same_Some}
 use Rattle.std.proofs.lemmas.List.{append-nil, take-append-drop}
@@ -85,6 +85,23 @@ in_rows k (batch ∷ batches) rows are =
     ap (λ (first : List Row). list_any (at k) first || among k batches) are.1
     ∙ (ap (λ (b : Bool). list_any (at k) (take 256 rows) || b) (in_rows k batches (drop 256 rows) are.2)
     ∙ (sym (list_any-append (at k) (take 256 rows) (drop 256 rows)) ∙ ap (list_any (at k)) (take-append-drop 256 rows)))
+
+batched : (most : ℕ) (rows : List Row) → length rows ≤ most → (batches : List (List Row)) × AreBatches batches rows
+batched most [] le = ([], refl)
+batched zero (row ∷ rows) le = absurd (omega (arith, le))
+batched (suc most) (row ∷ rows) le =
+    let fewer = length-drop 256 (row ∷ rows) in
+    let rest = batched most (drop 256 (row ∷ rows)) (omega (arith, le, fewer)) in
+    (take 256 (row ∷ rows) ∷ rest.0, (omega arith, refl, rest.1))
+
+-- the first of them are among these
+pub in_front : (k : ℕ) (batches : List (List Row)) (rows left : List Row)
+    → ((others : List (List Row)) → AreBatches others left → AreBatches (batches ++ others) rows)
+    → list_any (list_any (at k)) batches ≡ true → list_any (at k) rows ≡ true
+in_front k batches rows left are is =
+    let others = batched (length left) left (omega arith) in
+    sym (in_rows k (batches ++ others.0) rows (are others.0 others.1))
+    ∙ (list_any-append (list_any (at k)) batches others.0 ∙ ap (λ (b : Bool). b || among k others.0) is)
 
 -- ---- the rows are those of sites that had a link
 

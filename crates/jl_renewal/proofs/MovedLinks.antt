@@ -1,6 +1,6 @@
 -- A fresh core that stands beside the old one has the links of that, under new numbers, where it had them or they are installed.
 use Rattle.std.specs.Prelude.{◌≡◌, ◌≢◌, ◌==◌, ◌||◌, ◌<◌, ℕ, not, Bool, true, false, All, AllPairs, Contains, List, [], ◌∷◌, map, length}
-use Rattle.std.specs.Prelude.{get_or, slice_get, Option, Some, None, option_map, option_and_then, is_some, is_ok, Result, Ok, IsOk}
+use Rattle.std.specs.Prelude.{get_or, slice_get, Option, Some, None, option_map, option_and_then, is_some, is_ok, Result, Ok, Err, IsOk, if◌then◌else◌}
 use Rattle.std.specs.Option.{option_map_or, unwrap_or}
 use Rattle.std.specs.List.{AllByRecursion, list_any, cons_option}
 use Rattle.std.proofs.Common.{refl, sym, ap, subst, ◌∙◌, arith}
@@ -18,7 +18,8 @@ use Rattle.jl_types.specs.declared.link.Link.TheVariants.{Mega}
 use Rattle.jl_types.specs.declared.refusal.Refusal.{Refusal}
 use Rattle.jl_types.specs.Values.World.{World, Class}
 use Rattle.jl_types.specs.Values.Members.{is_present, is_retired}
-use Rattle.jl_types.specs.Linkage.Links.{scratch}
+use Rattle.jl_types.specs.Linkage.Links.{scratch, same_link}
+use Rattle.jl_types.specs.ForProofs.SameLink.{link_decides}
 use Rattle.jl_types.specs.Events.Event.{Event}
 use Rattle.jl_types.specs.Events.History.{installs, installed, kept, world_after}
 use Rattle.jl_types.specs.Events.Verdict.{verdict, unless, install_fault, Accepts}
@@ -35,14 +36,14 @@ use Rattle.jl_renewal.specs.Numbers.{Numbers, new_number, renumbered}
 use Rattle.jl_renewal.specs.Staying.{numbers_of, is_in_staying_class}
 use Rattle.jl_renewal.specs.Renewal.{row_of, fresh_row, fresh_rows, logged, IsRefilled, CameFrom}
 use Rattle.jl_renewal.specs.Renewed.{renumbered_link, renumbered_result}
-use Rattle.jl_renewal.specs.Adds.{Installs}
+use Rattle.jl_renewal.specs.Adds.{Installs, InstallsFront}
 use Rattle.jl_renewal.specs.Carries.{carried}
 use Rattle.jl_renewal.specs.Moved.{Flags, Rests, moved, kept as those_kept, moved_place, moved_classes, moved_world, IsBeside}
 use Rattle.jl_renewal.specs.Moved.{HaveSameLinks, HasNoOtherLinks, renumbered_install}
 use Rattle.jl_renewal.proofs.FollowLaws.{world_added}
 use Rattle.jl_renewal.proofs.InstallLaws.{adds_of}
 use Rattle.jl_renewal.proofs.LinkClasses.{IsLinkThere, IsResultThere, scratch_there, linked_in_class}
-use Rattle.jl_renewal.proofs.LinkLaws.{same_world, behind, in_rows, came_from, goes_to}
+use Rattle.jl_renewal.proofs.LinkLaws.{same_world, behind, in_rows, in_front, came_from, goes_to}
 use Rattle.jl_renewal.proofs.LinkNumbers.{kept_same, kept_only}
 use Rattle.jl_renewal.proofs.MovedBeside.{beside_as, beside_passed, beside_alike}
 use Rattle.jl_renewal.proofs.MovedCarries.{number_at, there_number}
@@ -454,6 +455,44 @@ module _ (k : Flags) (old between fresh : State) (n : Numbers) (beside : IsBesid
   all_installed =
       all_links k old fresh n (beside_as k old between fresh n beside still_world all.adds.limit)
       (λ s t stays at. by_old s t at (installed (events old) s) refl)
+
+-- the first of them
+module _ (k : Flags) (old between fresh : State) (n : Numbers) (left : List (ℕ × Link)) (beside : IsBeside k old between n)
+    (only : HasNoOtherLinks old between n) (front : InstallsFront (fresh_rows (world_of between) n (links_of old)) left between fresh) where
+  abbrev is_in_front : ℕ → Bool
+  is_in_front t = list_any (list_any (λ row. row.0 == t)) front.batches
+
+  -- what it has where it installs none, it had
+  kept_was : (o : Option Link) (r : Result Link Unlinked) (l : Link) → kept false o r ≡ Some l → o ≡ Some l
+  kept_was o (Err reason) l e = cc
+  kept_was None (Ok m) l e = cc
+  kept_was (Some j) (Ok m) l e = by_test (same_link j m) refl e
+    where
+      by_test : (b : Bool) → same_link j m ≡ b → ◌≡◌ {A = Option Link} (if b then Some m else None) (Some l) → Some j ≡ Some l
+      by_test true is e = ap Some ((link_decides j m).0 is) ∙ e
+      by_test false is e = cc
+
+  module _ (s t : ℕ) (l : Link) (at : moved k.sites s ≡ Some t) where
+    by_front : (b : Bool) → is_in_front t ≡ b → kept b (installed (events between) t) (scratch (world_of between) t) ≡ Some l
+        → option_map (renumbered_link n) (installed (events old) s) ≡ Some l
+    by_front true row e =
+        let came = came_from (world_of between) n t (links_of old)
+        (in_front t front.batches (fresh_rows (world_of between) n (links_of old)) left front.are_batches row) in
+        let one = moved_one k.sites came.site s t (number_moved k old between n beside came.site t came.has) at in
+        let had = ap (installed (events old)) (sym one) ∙ (links_are (events old) came.site came.link).1 came.had in
+        let was = linked_now k old between n beside s came.link had in
+        let now = commutes k old between n beside s t (linked_in_class (world_of old) s came.link was) at ∙ ap (renumbered_result n) was in
+        ap (option_map (renumbered_link n)) had ∙ (sym (ap (kept true (installed (events between) t)) now) ∙ e)
+    by_front false row e =
+        only_by_site k old between n beside only s t at l (kept_was (installed (events between) t) (scratch (world_of between) t) l e)
+
+  pub front_installed : HasNoOtherLinks old fresh n
+  front_installed =
+      no_others k old fresh n
+      (beside_as k old between fresh n beside (ap world_after front.adds.events ∙ same_world (events between) front.batches) front.adds.limit)
+      (λ s t stays at l is.
+      by_front s t l at (is_in_front t) refl
+      (sym (ap (λ (es : List Event). installed es t) front.adds.events ∙ behind t front.batches (events between)) ∙ is))
 
 -- a core that was refilled has no links yet
 pub none_refilled : (w : World) (entries : List Entry) (released : Released) (n : Numbers) (old before fresh : State)

@@ -17,7 +17,7 @@ ghost use Rattle.jl_renewal.specs.declared.released.Released.{Released};
 ghost use Rattle.jl_renewal.specs.Numbers.{Numbers, how_many, renumbered};
 ghost use Rattle.jl_renewal.specs.Staying.{numbers_of, staying_sites, is_in_staying_class};
 ghost use Rattle.jl_renewal.specs.Renewal.{IsRenewal, IsRefilled, CameFrom, renewal, fresh_rows};
-ghost use Rattle.jl_renewal.specs.Adds.{Follow, Installs};
+ghost use Rattle.jl_renewal.specs.Adds.{Follow, Installs, InstallsFront};
 ghost use Rattle.jl_renewal.specs.Carries.{carried, IsMade};
 ghost use Rattle.jl_renewal.specs.Moved.{Flags, flags_of, AreThere, may_be_gone, moved_world, IsBeside, HaveSameLinks, HasNoOtherLinks, renumbered_install};
 ghost use Rattle.jl_renewal.specs.Renewed.{renewed, renumbered_result, renumbered_answer, renumbered_receiver, IsPresentReceiver};
@@ -118,8 +118,8 @@ pub fn installed_links_stay_beside()
 {}
 
 /// Installs of the old core may be passed over, and its links be installed in the fresh one later. A refilled core has no links yet. As long as
-/// each link of the fresh core is one of the old core's, under new numbers, it stays so after each event that is carried over, and after each
-/// install of the old core alone. Once all links of the old core are installed there, those of the fresh core are exactly these.
+/// each link of the fresh core is one of the old core's, under new numbers, it stays so after each event that is carried over, after each install
+/// of the old core alone, and after some of that core's links are installed. Once all of them are, the links of the fresh core are exactly these.
 pub fn links_may_be_installed_later()
     ensures first { (old before fresh : State) (entries : List Entry) (released : Released) (n : Numbers)
         → IsRefilled (world_of old) entries released n before fresh → HasNoOtherLinks old fresh n }
@@ -128,6 +128,9 @@ pub fn links_may_be_installed_later()
         → IsMade f reply.made n m fresh fresh_after → HasNoOtherLinks after fresh_after m }
     ensures passed { (k : Flags) (old after fresh : State) (n : Numbers) (rows : List (ℕ × Link)) (reply : Reply) → IsBeside k old fresh n
         → HasNoOtherLinks old fresh n → IsAccepted old after (event.Install rows) reply → HasNoOtherLinks after fresh n }
+    ensures front { (k : Flags) (old between fresh : State) (n : Numbers) (left : List (ℕ × Link)) → IsBeside k old between n
+        → HasNoOtherLinks old between n → InstallsFront (fresh_rows (world_of between) n (links_of old)) left between fresh
+        → HasNoOtherLinks old fresh n }
     ensures all { (k : Flags) (old between fresh : State) (n : Numbers) → IsBeside k old between n → HasNoOtherLinks old between n
         → Installs (fresh_rows (world_of between) n (links_of old)) between fresh → HaveSameLinks old fresh n }
 {}
