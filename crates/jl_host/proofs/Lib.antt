@@ -8,6 +8,7 @@ pub mod GivenLaws
 pub mod AwaitedLaws
 pub mod RenewLaws
 pub mod RenewingLaws
+pub mod EndLaws
 -- a seat, brought up to date
 pub mod BehindLaws
 pub mod CaughtUp

@@ -1,10 +1,9 @@
--- Entries that are carried over one after another.
-use Rattle.std.specs.Prelude.{◌≡◌, ◌+◌, ◌<◌, ℕ, zero, suc, List, [], ◌∷◌, ◌++◌, drop, take, length, slice_get, Option, Some, None}
-use Rattle.std.specs.Prelude.{◌⊎◌, ◌≤◌, min, true, Result, Ok, Err, OnOk, OnErr, IfErr}
+-- A fresh core that is made, and entries that are carried over one after another.
+use Rattle.std.specs.Prelude.{◌≡◌, ◌+◌, ◌-◌, ℕ, nat_le, List, [], ◌∷◌, ◌++◌, drop, take, length, Option, Some, None}
+use Rattle.std.specs.Prelude.{true, Result, Ok, Err, OnOk, OnErr, IfErr}
 use Rattle.std.proofs.Common.{refl, sym, ap, ◌∙◌, subst, arith, inl, inr}
-use Rattle.std.proofs.Math.Nat.{min-eq_left, min-eq_right}
-use Rattle.std.proofs.lemmas.Bool.{cases_lt}
-use Rattle.std.proofs.lemmas.List.{append_assoc, append-nil, drop_all, take_all}
+use Rattle.std.proofs.lemmas.Bool.{leb-true}
+use Rattle.std.proofs.lemmas.List.{append_assoc, append-nil, drop-drop, drop_all, length-drop, length-take-le, take_all}
 use Rattle.jl_types.specs.Values.World.{World}
 use Rattle.jl_types.specs.declared.link.Link.{Link}
 use Rattle.jl_types.specs.declared.event.EventOf.TheVariants as event
@@ -15,7 +14,8 @@ use Rattle.jl_renewal.specs.declared.entries.CarryFault.{CarryFault}
 use Rattle.jl_renewal.specs.Numbers.{Numbers}
 use Rattle.jl_renewal.specs.Carries.{is_install, IsCarried, IsUncarried, IsAdded, AreLeft}
 use Rattle.jl_host.specs.ForProofs.Behind.{IsBehind}
-use Rattle.jl_host.specs.Renewing.{Fresh, IsCarriedOn, IsUncarriedOn, AreCarried, HasCarried, installs_of}
+use Rattle.jl_host.specs.Renewing.{Start, Fresh, Renewing, IsMade, IsReady}
+use Rattle.jl_host.specs.Renewing.{IsCarriedOn, IsUncarriedOn, AreCarried, AreAllCarried, HasCarried, installs_of}
 use Rattle.jl_host.proofs.CaughtUp.{accepted_behind}
 
 pub none_carried : (w : World) (entries : List Entry) (m : Fresh) → HasCarried w entries entries m m
@@ -74,21 +74,43 @@ carried_behind links k old new w entry n m (Ok u) is (inr is_added) same =
     accepted_behind links k old new is_added.event is_added.made.reply is is_added.made.accepted
 carried_behind links k old new w entry n m (Err f) is carried same = subst (IsBehind links k) (sym same) is
 
--- ---- a part of a list
+-- ---- the fresh core is made
 
-module _ {X : Type 0} (n : ℕ) (xs : List X) where
-  pub drop_least : drop (min n (length xs)) xs ≡ drop n xs
-  drop_least = by_order (cases_lt n (length xs))
-    where
-      by_order : (n < length xs) ⊎ (length xs ≤ n) → drop (min n (length xs)) xs ≡ drop n xs
-      by_order (inl lt) = ap (λ k. drop k xs) (min-eq_left (omega (arith, lt)))
-      by_order (inr le) =
-          ap (λ k. drop k xs) (min-eq_right le) ∙ drop_all (length xs) xs (omega arith) ∙ sym (drop_all n xs le)
+pub drop_past : {X : Type 0} (xs past : List X) (k n : ℕ) → past ≡ take n (drop k xs) → nat_le n (length (drop k xs)) ≡ true
+    → drop (k + length past) xs ≡ drop n (drop k xs)
+drop_past xs past k n is few =
+    ap (λ m. drop (k + m) xs) (ap length is ∙ length-take-le n (drop k xs) (leb-true n (length (drop k xs)) few)) ∙ sym (drop-drop n k xs)
 
-  pub take_least : take (min n (length xs)) xs ≡ take n xs
-  take_least = by_order (cases_lt n (length xs))
-    where
-      by_order : (n < length xs) ⊎ (length xs ≤ n) → take (min n (length xs)) xs ≡ take n xs
-      by_order (inl lt) = ap (λ k. take k xs) (min-eq_left (omega (arith, lt)))
-      by_order (inr le) =
-          ap (λ k. take k xs) (min-eq_right le) ∙ take_all (length xs) xs (omega arith) ∙ sym (take_all n xs le)
+-- a list from a place on
+pub from_place : {X : Type 0} (xs ys : List X) (k : ℕ) → xs ≡ ys → take (length xs - k) (drop k xs) ≡ drop k ys
+from_place xs ys k same =
+    take_all (length xs - k) (drop k xs) (omega (arith, length-drop k xs)) ∙ ap (drop k) same
+
+pub ready_from : (old : Renewing) (start : Start) (past waiting : List Entry) (made : Fresh) → old.start ≡ Some start
+    → past ≡ take start.seen.serial old.waiting → nat_le start.seen.serial (length old.waiting) ≡ true → IsMade start past old.max_sites made
+    → waiting ≡ drop start.seen.serial old.waiting → IsReady old (record old { start = None; fresh = Some made; waiting = waiting })
+ready_from old start past waiting made is are few is_made left =
+    rw is (rw few (made, subst (λ entries. IsMade start entries old.max_sites made) are is_made,
+    λ i. record old { start = None; fresh = Some made; waiting = left i }))
+
+-- ---- how it ends
+
+pub on_ok : {A E : Type 0} (r : Result A E) (P : Type 0) → P → OnOk r P
+on_ok (Ok a) P p = p
+on_ok (Err e) P p = tt
+
+pub if_fault : {A E : Type 0} (r : Result A E) (P : E → Type 0) (e : E) → IfErr r (λ fault. fault ≡ e) → P e → IfErr r P
+if_fault (Ok a) P e is p = tt
+if_fault (Err f) P e is p = subst P (sym is) p
+
+-- all that wait were carried over
+pub all_in : (w : World) (xs ys : List Entry) (from to : ℕ) (old new : Fresh) → xs ≡ ys → to ≡ length xs
+    → HasCarried w (drop from xs) (drop to xs) old new → AreCarried w (drop from ys) old new
+all_in w xs ys from to old new same all carried =
+    subst (λ entries. AreCarried w (drop from entries) old new) same
+    (all_carried w (drop from xs) old new
+    (subst (λ left. HasCarried w (drop from xs) left old new) (ap (λ n. drop n xs) all ∙ drop_all (length xs) xs (omega arith)) carried))
+
+pub all_are : (old : Renewing) (fresh after : Fresh) (waiting : List Entry) → old.fresh ≡ Some fresh → AreCarried old.defined old.waiting fresh after
+    → waiting ≡ [] → AreAllCarried old (record old { fresh = Some after; waiting = waiting })
+all_are old fresh after waiting is carried none = rw is (after, carried, λ i. record old { fresh = Some after; waiting = none i })

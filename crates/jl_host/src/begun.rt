@@ -172,10 +172,7 @@ impl Begun {
         fresh.carry_all(alloc, &self.defined, self.waiting.as_slice(), &mut self.carried)?;
         self.waiting = Vec::new(alloc);
         self.carried = 0;
-        match fresh.catch_up() {
-            Ok(()) => Ok(()),
-            Err(_) => Err(CarryFault::Refused(Refusal::Memory)),
-        }
+        fresh.catch_up()
     }
 
     /// The number of what is gone that the next entry names, or 0.

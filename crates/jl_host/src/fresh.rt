@@ -1,8 +1,9 @@
 //! The fresh core of a renewal in steps.
 
-ghost use Rattle.std.specs.Prelude.{◌≡◌, ◌≤◌, ◌++◌, drop, length, option_to_list, option_copied, filter_map, IfOk, IfErr, OnOk, OnErr};
-ghost use Rattle.std.specs.List.{range_with_len};
+ghost use Rattle.std.specs.Prelude.{◌≡◌, ◌≤◌, ◌++◌, drop, length, option_to_list, option_copied, IfOk, IfErr, OnOk, OnErr};
+ghost use Rattle.jl_types.specs.declared.refusal.Refusal.TheVariants.{Memory};
 ghost use Rattle.jl_core.specs.State.{world_of};
+ghost use Rattle.jl_renewal.specs.declared.entries.CarryFault.TheVariants.{Refused};
 ghost use Rattle.jl_renewal.specs.Renewal.{fresh_rows};
 ghost use Rattle.jl_host.specs.Linkers.{opened_over};
 ghost use Rattle.jl_host.specs.Renewing as renewing;
@@ -92,8 +93,7 @@ impl Start {
         let mut core = Core::new(alloc, max_sites)?;
         let old = self.seen.world();
         let numbers = try_refill(alloc, &mut core, old, past, &self.released, max_sites)?;
-        let sites = site_numbers(alloc, self.sites)?;
-        let linked = listed(alloc, &self.links, sites.as_slice())?;
+        let linked = listed(alloc, &self.links, self.sites)?;
         let rows = fresh_links(alloc, core.world(), linked.as_slice(), &numbers)?;
         install_all(alloc, &mut core, rows.as_slice())?;
         let links = no_links(alloc, max_sites)?;
@@ -106,26 +106,13 @@ impl Start {
     }
 }
 
-/// The first so many sites. Want of memory is an error.
-fn site_numbers(alloc: Global, count: u32) -> Result<Vec<SiteNo>, AllocError>
-    ensures { IfOk result (λ sites. sites.items ≡ range_with_len 0 count) }
+/// Of the first so many sites each that has a link, with it. Want of memory is an error.
+fn listed(alloc: Global, links: &Links, sites: u32) -> Result<Vec<(SiteNo, Link)>, AllocError>
+    ensures { IfOk result (λ rows. rows.items ≡ renewing.listed links.now sites) }
 {
-    let mut numbers = Vec::with_capacity(alloc, count as usize)?;
-    for site in 0..count {
-        numbers.push(SiteNo::new(site))?;
-    }
-    Ok(numbers)
-}
-
-/// Of these sites each that has a link, with it. Want of memory is an error.
-fn listed(alloc: Global, links: &Links, sites: &[SiteNo]) -> Result<Vec<(SiteNo, Link)>, AllocError>
-    ensures { IfOk result (λ rows. rows.items ≡ filter_map (renewing.row_at links.now) sites.now) }
-{
-    let mut rows = Vec::new(alloc);
-    for site in sites {
-        push_if_any(&mut rows, row_at(links, *site))?;
-    }
-    Ok(rows)
+    (0..sites)
+        .filter_map(|site| row_at(links, SiteNo::new(site)))
+        .collect(alloc)
 }
 
 /// The site with its link, if it has one.
@@ -271,13 +258,18 @@ impl Fresh {
         Ok(())
     }
 
-    /// Brings the pages of links up to date. Want of memory is an error.
-    pub(crate) fn catch_up(&mut self) -> Result<(), AllocError>
-        ensures { self.new ≡ self.old }
+    /// Brings the pages of links up to date. Want of memory is the only fault.
+    pub(crate) fn catch_up(&mut self) -> Result<(), CarryFault>
+        ensures same { self.new ≡ self.old }
+        ensures lacks { IfErr result (λ fault. fault ≡ Refused Memory) }
     {
-        let reached = catch_up(&mut self.links, &self.core, self.reached)?;
-        self.reached = reached;
-        Ok(())
+        match catch_up(&mut self.links, &self.core, self.reached) {
+            Ok(reached) => {
+                self.reached = reached;
+                Ok(())
+            }
+            Err(_) => Err(CarryFault::Refused(Refusal::Memory)),
+        }
     }
 
     /// The call site or switch point that the entry names and that is gone.

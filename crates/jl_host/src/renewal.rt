@@ -117,10 +117,10 @@ impl Renewal {
     pub fn fill(&mut self, alloc: Global, told: &mut Told) -> u32
         ensures { IsFill self.old result told.new self.new }
     {
-        match &mut self.begun {
-            Some(begun) => begun.fill(alloc, told),
-            None => unasked(CLOSED, told),
-        }
+        let Some(begun) = &mut self.begun else {
+            return unasked(CLOSED, told);
+        };
+        begun.fill(alloc, told)
     }
 
     /// Takes what is left, carries it over, opens the linker `fresh`, which isn't open, over what was made, and writes the new numbers to

@@ -14,7 +14,7 @@ returns-clause-taken c =
     let portion = c.portion-entries.ensures ∙ ap (λ (r : Renewing). take c.args.most (drop r.taken entries)) c.self.view_is in
     let added =
     c.push_all.ensures ∙ (λ i. c.reserve.ensures.items i ++ c.in_ok-shared.ensures i) in
-    (entries, c.log-log.ensures.told, c.log-log.ensures.events, record {
+    (entries, (c.log-log.ensures.told, c.log-log.ensures.events), record {
       start = ap (λ (r : Renewing). r.start) c.self.view_is;
       fresh = ap (λ (r : Renewing). r.fresh) c.self.view_is;
       max_sites = ap (λ (r : Renewing). r.max_sites) c.self.view_is;
