@@ -21,10 +21,10 @@ module _ (old : Renewing) (opened : Opened) (before : Arrays) (status : ℕ) (to
   pub ends : (renewal : Option Renewing) (from fresh : Option Opened) (core : State) (counts : Counts) (room : Bool) → renewal ≡ Some old
       → Some opened ≡ from → is_some fresh ≡ false → core ≡ opened.session.core → counts ≡ counts_of (world_of opened.session.core)
       → room ≡ have_room counts before → room ≡ true → (fresh ≡ None → IsSoFinished core) → Ends renewal from fresh
-  ends renewal from None core counts room begun open closed core_is are test fits finished =
+  ends renewal from None core counts room begun opens shut core_is are test fits finished =
       subst (λ r. Ends r from None) (sym begun)
-      (subst (λ f. Ends (Some old) f None) open
+      (subst (λ f. Ends (Some old) f None) opens
       (subst (λ b. MatchBool b (IsSoFinished opened.session.core) (IsUnfinished too_short (Some old) None before status told new new_fresh after))
       (sym fits ∙ test ∙ ap (λ c. have_room c before) are)
       (subst (λ core. IsSoFinished core) core_is (finished refl))))
-  ends renewal from (Some other) core counts room begun open closed core_is are test fits finished = cc
+  ends renewal from (Some other) core counts room begun opens shut core_is are test fits finished = cc
