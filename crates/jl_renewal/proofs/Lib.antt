@@ -78,6 +78,7 @@ pub mod MovedNames
 pub mod MovedScratch
 pub mod MovedBeside
 pub mod MovedLinks
+pub mod MovedLater
 pub mod MovedFaults
 -- worked renewals
 pub mod Rows

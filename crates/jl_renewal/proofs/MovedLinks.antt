@@ -1,6 +1,6 @@
--- A fresh core that stands beside the old one has the links of that, under new numbers, where it had them or they are installed.
+-- A fresh core that stands beside the old one has the links of that, under new numbers.
 use Rattle.std.specs.Prelude.{◌≡◌, ◌≢◌, ◌==◌, ◌||◌, ◌<◌, ℕ, not, Bool, true, false, All, AllPairs, Contains, List, [], ◌∷◌, map, length}
-use Rattle.std.specs.Prelude.{get_or, slice_get, Option, Some, None, option_map, option_and_then, is_some, is_ok, Result, Ok, Err, IsOk, if◌then◌else◌}
+use Rattle.std.specs.Prelude.{get_or, slice_get, Option, Some, None, option_map, option_and_then, is_some, is_ok, Result, Ok, IsOk}
 use Rattle.std.specs.Option.{option_map_or, unwrap_or}
 use Rattle.std.specs.List.{AllByRecursion, list_any, cons_option}
 use Rattle.std.proofs.Common.{refl, sym, ap, subst, ◌∙◌, arith}
@@ -18,38 +18,32 @@ use Rattle.jl_types.specs.declared.link.Link.TheVariants.{Mega}
 use Rattle.jl_types.specs.declared.refusal.Refusal.{Refusal}
 use Rattle.jl_types.specs.Values.World.{World, Class}
 use Rattle.jl_types.specs.Values.Members.{is_present, is_retired}
-use Rattle.jl_types.specs.Linkage.Links.{scratch, same_link}
-use Rattle.jl_types.specs.ForProofs.SameLink.{link_decides}
+use Rattle.jl_types.specs.Linkage.Links.{scratch}
 use Rattle.jl_types.specs.Events.Event.{Event}
 use Rattle.jl_types.specs.Events.History.{installs, installed, kept, world_after}
 use Rattle.jl_types.specs.Events.Verdict.{verdict, unless, install_fault, Accepts}
 use Rattle.jl_types.proofs.Accepting.{accepted_installs}
-use Rattle.jl_types.proofs.Installed.{installed_to, settled_now, kept_none, kept_link}
+use Rattle.jl_types.proofs.Installed.{installed_to, settled_now}
 use Rattle.jl_types.proofs.InstalledLinks.{links_are, installed_requested, requested}
 use Rattle.jl_types.proofs.Lists.{passes_within}
 use Rattle.jl_types.proofs.OneMore.{installed_step}
 use Rattle.jl_events.proofs.CallSiteLaws.{no_fault as no_refusal}
 use Rattle.jl_core.specs.State.{State, events, world_of, links_of, IsAccepted}
-use Rattle.jl_core.specs.Logs.{Entry}
-use Rattle.jl_renewal.specs.declared.released.Released.{Released}
 use Rattle.jl_renewal.specs.Numbers.{Numbers, new_number, renumbered}
-use Rattle.jl_renewal.specs.Staying.{numbers_of, is_in_staying_class}
-use Rattle.jl_renewal.specs.Renewal.{row_of, fresh_row, fresh_rows, logged, IsRefilled, CameFrom}
+use Rattle.jl_renewal.specs.Staying.{is_in_staying_class}
+use Rattle.jl_renewal.specs.Renewal.{row_of, fresh_row, fresh_rows, CameFrom}
 use Rattle.jl_renewal.specs.Renewed.{renumbered_link, renumbered_result}
-use Rattle.jl_renewal.specs.Adds.{Installs, InstallsFront}
 use Rattle.jl_renewal.specs.Carries.{carried}
 use Rattle.jl_renewal.specs.Moved.{Flags, Rests, moved, kept as those_kept, moved_place, moved_classes, moved_world, IsBeside}
 use Rattle.jl_renewal.specs.Moved.{HaveSameLinks, HasNoOtherLinks, renumbered_install}
-use Rattle.jl_renewal.proofs.FollowLaws.{world_added}
 use Rattle.jl_renewal.proofs.InstallLaws.{adds_of}
 use Rattle.jl_renewal.proofs.LinkClasses.{IsLinkThere, IsResultThere, scratch_there, linked_in_class}
-use Rattle.jl_renewal.proofs.LinkLaws.{same_world, behind, in_rows, in_front, came_from, goes_to}
 use Rattle.jl_renewal.proofs.LinkNumbers.{kept_same, kept_only}
-use Rattle.jl_renewal.proofs.MovedBeside.{beside_as, beside_passed, beside_alike}
+use Rattle.jl_renewal.proofs.MovedBeside.{beside_alike}
 use Rattle.jl_renewal.proofs.MovedCarries.{number_at, there_number}
 use Rattle.jl_renewal.proofs.MovedClasses.{present_stays, present_same}
 use Rattle.jl_renewal.proofs.MovedLists.{clash, there_is, moved_onto, same_numbers, kept_at, shifted_is}
-use Rattle.jl_renewal.proofs.QuietLaws.{IsQuiet, is_quiet, of_carried, none_there}
+use Rattle.jl_renewal.proofs.QuietLaws.{of_carried}
 use Rattle.jl_renewal.proofs.ScratchLaws.{scratch_same}
 
 -- what has one number is one
@@ -57,7 +51,7 @@ moved_one : (stays : List Bool) (a b i : ℕ) → moved stays a ≡ Some i → m
 moved_one stays a b i ea eb = (Decides-eqb a b).0 (sym (same_numbers stays a b i i ea eb) ∙ (Decides-eqb i i).1 refl)
 
 -- what an event leaves of the link of a site
-after_event : (a b : State) (e : Event) (reply : Reply) → IsAccepted a b e reply → (s : ℕ)
+pub after_event : (a b : State) (e : Event) (reply : Reply) → IsAccepted a b e reply → (s : ℕ)
     → installed (events b) s ≡ kept (installs s e) (installed (events a) s) (scratch (world_of b) s)
 after_event a b e reply accepted s =
     subst (λ (es : List Event). installed es s ≡ kept (installs s e) (installed (events a) s) (scratch (world_after es) s))
@@ -101,7 +95,7 @@ module _ (k : Flags) (old fresh : State) (n : Numbers) (beside : IsBeside k old 
   site_number : (s t : ℕ) → s < length w.places → moved k.sites s ≡ Some t → new_number n.sites s ≡ Some t
   site_number s t lt at = ap (λ (m : Numbers). new_number m.sites s) beside.numbers ∙ (number_at k.sites (length w.places) s lt ∙ at)
 
-  number_moved : (s t : ℕ) → new_number n.sites s ≡ Some t → moved k.sites s ≡ Some t
+  pub number_moved : (s t : ℕ) → new_number n.sites s ≡ Some t → moved k.sites s ≡ Some t
   number_moved s t has =
       there_number k.sites (length w.places) s t (ap (λ (m : Numbers). new_number m.sites s) (sym beside.numbers) ∙ has)
 
@@ -118,7 +112,7 @@ module _ (k : Flags) (old fresh : State) (n : Numbers) (beside : IsBeside k old 
 
   -- ---- links from scratch
 
-  commutes : (s t : ℕ) → is_in_staying_class w s ≡ true → moved k.sites s ≡ Some t → scratch (world_of fresh) t ≡ renumbered_result n (scratch w s)
+  pub commutes : (s t : ℕ) → is_in_staying_class w s ≡ true → moved k.sites s ≡ Some t → scratch (world_of fresh) t ≡ renumbered_result n (scratch w s)
   commutes s t stays at =
       let u = site_of s stays in
       let number : renumbered n.sites s ≡ t =
@@ -133,11 +127,11 @@ module _ (k : Flags) (old fresh : State) (n : Numbers) (beside : IsBeside k old 
 
   -- ---- installed links, site by site
 
-  linked_now : (s : ℕ) (l : Link) → installed (events old) s ≡ Some l → scratch w s ≡ Ok l
+  pub linked_now : (s : ℕ) (l : Link) → installed (events old) s ≡ Some l → scratch w s ≡ Ok l
   linked_now s l is = settled_now (events old) s l (installed_to (events old) s l is)
 
   -- what is installed there where each link is one of the old core's
-  only_by_site : HasNoOtherLinks old fresh n → (s t : ℕ) → moved k.sites s ≡ Some t → (l : Link) → installed (events fresh) t ≡ Some l
+  pub only_by_site : HasNoOtherLinks old fresh n → (s t : ℕ) → moved k.sites s ≡ Some t → (l : Link) → installed (events fresh) t ≡ Some l
       → option_map (renumbered_link n) (installed (events old) s) ≡ Some l
   only_by_site only s t at l e =
       let came = only t l ((links_are (events fresh) t l).0 e) in
@@ -146,7 +140,7 @@ module _ (k : Flags) (old fresh : State) (n : Numbers) (beside : IsBeside k old 
       ap (option_map (renumbered_link n)) (ap (installed (events old)) (sym one) ∙ had) ∙ ap Some (sym came.same)
 
   -- a link of the old core, as one that came from there
-  come_from : (s t : ℕ) (l : Link) → moved k.sites s ≡ Some t → installed (events old) s ≡ Some l → CameFrom (links_of old) n t (renumbered_link n l)
+  pub come_from : (s t : ℕ) (l : Link) → moved k.sites s ≡ Some t → installed (events old) s ≡ Some l → CameFrom (links_of old) n t (renumbered_link n l)
   come_from s t l at is = record {
     site = s;
     link = l;
@@ -170,7 +164,7 @@ module _ (k : Flags) (old fresh : State) (n : Numbers) (beside : IsBeside k old 
       by_link (Some l) is = (links_are (events fresh) t (renumbered_link n l)).1 ((same t (renumbered_link n l)).1 (come_from s t l at is))
 
   -- so much of the sites in present classes is enough
-  no_others : ((s t : ℕ) → is_in_staying_class w s ≡ true → moved k.sites s ≡ Some t → (l : Link) → installed (events fresh) t ≡ Some l
+  pub no_others : ((s t : ℕ) → is_in_staying_class w s ≡ true → moved k.sites s ≡ Some t → (l : Link) → installed (events fresh) t ≡ Some l
       → option_map (renumbered_link n) (installed (events old) s) ≡ Some l) → HasNoOtherLinks old fresh n
   no_others each j l c = by_link (installed (events old) s) refl (each s j stays at l is)
     where
@@ -369,134 +363,3 @@ module _ (k : Flags) (old fresh : State) (n : Numbers) (beside : IsBeside k old 
     -- a site is installed there where it is here
     pub both_install : (s t : ℕ) → moved k.sites s ≡ Some t → installs t (event.Install (fresh_rows v n rows)) ≡ installs s (event.Install rows)
     both_install s t at = ap (list_any (λ (row : ℕ × Link). row.0 == t)) rows_there ∙ among_same s t at rows each
-
--- ---- installs that come later
-
--- one of the old core alone
-pub no_others_passed : (k : Flags) (old after fresh : State) (n : Numbers) (rows : List (ℕ × Link)) (reply : Reply) → IsBeside k old fresh n
-    → HasNoOtherLinks old fresh n → IsAccepted old after (event.Install rows) reply → HasNoOtherLinks after fresh n
-no_others_passed k old after fresh n rows reply beside only accepted =
-    no_others k after fresh n later (λ s t stays at l is.
-    by_link s (installed (events old) s) refl l (only_by_site k old fresh n beside only s t at l is))
-  where
-    later : IsBeside k after fresh n
-    later = beside_passed k old fresh n beside rows after reply accepted
-
-    same_world : world_of after ≡ world_of old
-    same_world = world_added (event.Install rows ∷ []) old after (adds_of (event.Install rows) reply old after accepted)
-
-    -- a link that is there stays
-    stays_linked : (b : Bool) (l : Link) → kept b (Some l) (Ok l) ≡ Some l
-    stays_linked true l = refl
-    stays_linked false l = kept_link l
-
-    by_link : (s : ℕ) (o : Option Link) → installed (events old) s ≡ o → (l : Link) → option_map (renumbered_link n) o ≡ Some l
-        → option_map (renumbered_link n) (installed (events after) s) ≡ Some l
-    by_link s None had l e = clash l e
-    by_link s (Some m) had l e =
-        ap (option_map (renumbered_link n))
-        (after_event old after (event.Install rows) reply accepted s
-        ∙ ((λ i. kept (installs s (event.Install rows)) (had i)
-        ((ap (λ (w : World). scratch w s) same_world ∙ linked_now k old fresh n beside s m had) i))
-        ∙ stays_linked (installs s (event.Install rows)) m))
-        ∙ e
-
--- all of them in the fresh core
-module _ (k : Flags) (old between fresh : State) (n : Numbers) (beside : IsBeside k old between n) (only : HasNoOtherLinks old between n)
-    (all : Installs (fresh_rows (world_of between) n (links_of old)) between fresh) where
-  abbrev all_rows : List (ℕ × Link)
-  all_rows = fresh_rows (world_of between) n (links_of old)
-
-  still_world : world_of fresh ≡ world_of between
-  still_world = ap world_after all.adds.events ∙ same_world (events between) all.batches
-
-  module _ (s t : ℕ) (at : moved k.sites s ≡ Some t) where
-    now_linked : installed (events fresh) t ≡ kept (list_any (λ row. row.0 == t) all_rows) (installed (events between) t) (scratch (world_of between) t)
-    now_linked =
-        ap (λ (es : List Event). installed es t) all.adds.events
-        ∙ (behind t all.batches (events between)
-        ∙ ap (λ (b : Bool). kept b (installed (events between) t) (scratch (world_of between) t)) (in_rows t all.batches all_rows all.are_batches))
-
-    -- it has a row where the old core has a link
-    has_row : (l : Link) → scratch (world_of between) t ≡ Ok (renumbered_link n l) → installed (events old) s ≡ Some l
-        → list_any (λ row. row.0 == t) all_rows ≡ true
-    has_row l now is =
-        let came = come_from k old between n beside s t l at is in
-        goes_to (world_of between) n t (renumbered_link n l) now (links_of old)
-        (record { site = came.site; link = came.link; had = came.had; has = came.has })
-
-    -- and none where that has none
-    no_row : (b : Bool) → list_any (λ row. row.0 == t) all_rows ≡ b → installed (events old) s ≡ None → b ≡ false
-    no_row false is none = refl
-    no_row true is none =
-        let came = came_from (world_of between) n t (links_of old) is in
-        let one = moved_one k.sites came.site s t (number_moved k old between n beside came.site t came.has) at in
-        clash came.link (sym none ∙ (ap (installed (events old)) (sym one) ∙ (links_are (events old) came.site came.link).1 came.had))
-
-    none_between : (q : Option Link) → installed (events between) t ≡ q → installed (events old) s ≡ None → q ≡ None
-    none_between None is none = refl
-    none_between (Some l) is none =
-        clash l (sym (ap (option_map (renumbered_link n)) none) ∙ only_by_site k old between n beside only s t at l is)
-
-    by_old : (o : Option Link) → installed (events old) s ≡ o → installed (events fresh) t ≡ option_map (renumbered_link n) o
-    by_old None is =
-        now_linked
-        ∙ ((λ i. kept (no_row (list_any (λ row. row.0 == t) all_rows) refl is i) (none_between (installed (events between) t) refl is i)
-        (scratch (world_of between) t))
-        ∙ kept_none (scratch (world_of between) t))
-    by_old (Some l) is =
-        let was = linked_now k old between n beside s l is in
-        let stays = linked_in_class (world_of old) s l was in
-        let now = commutes k old between n beside s t stays at ∙ ap (renumbered_result n) was in
-        now_linked
-        ∙ ((λ i. kept (has_row l now is i) (installed (events between) t) (now i)))
-
-  pub all_installed : HaveSameLinks old fresh n
-  all_installed =
-      all_links k old fresh n (beside_as k old between fresh n beside still_world all.adds.limit)
-      (λ s t stays at. by_old s t at (installed (events old) s) refl)
-
--- the first of them
-module _ (k : Flags) (old between fresh : State) (n : Numbers) (left : List (ℕ × Link)) (beside : IsBeside k old between n)
-    (only : HasNoOtherLinks old between n) (front : InstallsFront (fresh_rows (world_of between) n (links_of old)) left between fresh) where
-  abbrev is_in_front : ℕ → Bool
-  is_in_front t = list_any (list_any (λ row. row.0 == t)) front.batches
-
-  -- what it has where it installs none, it had
-  kept_was : (o : Option Link) (r : Result Link Unlinked) (l : Link) → kept false o r ≡ Some l → o ≡ Some l
-  kept_was o (Err reason) l e = cc
-  kept_was None (Ok m) l e = cc
-  kept_was (Some j) (Ok m) l e = by_test (same_link j m) refl e
-    where
-      by_test : (b : Bool) → same_link j m ≡ b → ◌≡◌ {A = Option Link} (if b then Some m else None) (Some l) → Some j ≡ Some l
-      by_test true is e = ap Some ((link_decides j m).0 is) ∙ e
-      by_test false is e = cc
-
-  module _ (s t : ℕ) (l : Link) (at : moved k.sites s ≡ Some t) where
-    by_front : (b : Bool) → is_in_front t ≡ b → kept b (installed (events between) t) (scratch (world_of between) t) ≡ Some l
-        → option_map (renumbered_link n) (installed (events old) s) ≡ Some l
-    by_front true row e =
-        let came = came_from (world_of between) n t (links_of old)
-        (in_front t front.batches (fresh_rows (world_of between) n (links_of old)) left front.are_batches row) in
-        let one = moved_one k.sites came.site s t (number_moved k old between n beside came.site t came.has) at in
-        let had = ap (installed (events old)) (sym one) ∙ (links_are (events old) came.site came.link).1 came.had in
-        let was = linked_now k old between n beside s came.link had in
-        let now = commutes k old between n beside s t (linked_in_class (world_of old) s came.link was) at ∙ ap (renumbered_result n) was in
-        ap (option_map (renumbered_link n)) had ∙ (sym (ap (kept true (installed (events between) t)) now) ∙ e)
-    by_front false row e =
-        only_by_site k old between n beside only s t at l (kept_was (installed (events between) t) (scratch (world_of between) t) l e)
-
-  pub front_installed : HasNoOtherLinks old fresh n
-  front_installed =
-      no_others k old fresh n
-      (beside_as k old between fresh n beside (ap world_after front.adds.events ∙ same_world (events between) front.batches) front.adds.limit)
-      (λ s t stays at l is.
-      by_front s t l at (is_in_front t) refl
-      (sym (ap (λ (es : List Event). installed es t) front.adds.events ∙ behind t front.batches (events between)) ∙ is))
-
--- a core that was refilled has no links yet
-pub none_refilled : (w : World) (entries : List Entry) (released : Released) (n : Numbers) (old before fresh : State)
-    → IsRefilled w entries released n before fresh → HasNoOtherLinks old fresh n
-none_refilled w entries released n old before fresh refilled j l c =
-    clash l (sym (none_there j (events fresh) (subst (IsQuiet j) (sym refilled.events)
-    (is_quiet j w (numbers_of w released) (events (logged before.max_sites w entries))))) ∙ (links_are (events fresh) j l).1 c)

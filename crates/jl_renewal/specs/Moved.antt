@@ -20,6 +20,7 @@ use Rattle.jl_renewal.specs.Numbers.{Numbers, renumbered}
 use Rattle.jl_renewal.specs.Staying.{staying_loaders, staying_classes, staying_sites, staying_call_sites, staying_switches}
 use Rattle.jl_renewal.specs.Renewal.{CameFrom}
 use Rattle.jl_renewal.specs.Renewed.{renumbered_link}
+use Rattle.jl_renewal.specs.Adds.{HasCome}
 use Rattle.jl_renewal.specs.Carries.{guarded}
 
 -- ---- flags: they tell what stays of the numbers that there are at a renewal; all later numbers stay
@@ -210,6 +211,10 @@ HaveSameLinks old fresh n = (k : ℕ) (l : Link) → Contains (links_of fresh) (
 -- Each link of the fresh core is one of the old core's, under new numbers.
 abbrev pub HasNoOtherLinks : State → State → Numbers → Type 0
 HasNoOtherLinks old fresh n = (k : ℕ) (l : Link) → Contains (links_of fresh) (k, l) → CameFrom (links_of old) n k l
+
+-- Each link of the fresh core is at a site that had one of these links.
+abbrev pub HasLinksOf : List (ℕ × Link) → State → Numbers → Type 0
+HasLinksOf linked fresh n = (k : ℕ) (l : Link) → Contains (links_of fresh) (k, l) → HasCome linked n k
 
 -- a site with its link, under new numbers
 abbrev pub renumbered_install : Numbers → ℕ × Link → ℕ × Link

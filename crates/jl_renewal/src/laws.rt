@@ -8,7 +8,9 @@ ghost use Rattle.jl_types.specs.Linkage.Links.{scratch};
 ghost use Rattle.jl_types.specs.Linkage.Calls.{dispatch};
 ghost use Rattle.jl_types.specs.Events.Event.{Event};
 ghost use Rattle.jl_types.specs.Events.History.{world_after};
+ghost use Rattle.jl_types.specs.declared.event.Made.{Made};
 ghost use Rattle.jl_types.specs.declared.event.Reply.{Reply};
+ghost use Rattle.jl_types.specs.Values.World.{World};
 ghost use Rattle.jl_types.specs.Events.Verdict.{verdict, step};
 ghost use Rattle.jl_relink.specs.Laws.{AreAccepted, has_read_file};
 ghost use Rattle.jl_core.specs.State.{State, events, world_of, links_of, IsAccepted};
@@ -19,7 +21,8 @@ ghost use Rattle.jl_renewal.specs.Staying.{numbers_of, staying_sites, is_in_stay
 ghost use Rattle.jl_renewal.specs.Renewal.{IsRenewal, IsRefilled, CameFrom, renewal, fresh_rows};
 ghost use Rattle.jl_renewal.specs.Adds.{Follow, Installs, InstallsFront};
 ghost use Rattle.jl_renewal.specs.Carries.{carried, IsMade};
-ghost use Rattle.jl_renewal.specs.Moved.{Flags, flags_of, AreThere, may_be_gone, moved_world, IsBeside, HaveSameLinks, HasNoOtherLinks, renumbered_install};
+ghost use Rattle.jl_renewal.specs.Moved.{Flags, flags_of, AreThere, may_be_gone, moved_world, IsBeside, HaveSameLinks, HasNoOtherLinks, HasLinksOf};
+ghost use Rattle.jl_renewal.specs.Moved.{renumbered_install};
 ghost use Rattle.jl_renewal.specs.Renewed.{renewed, renumbered_result, renumbered_answer, renumbered_receiver, IsPresentReceiver};
 
 /// No event of a renewal is refused where as many sites may be requested in the fresh core as stay, and what there is to link there is what
@@ -117,12 +120,24 @@ pub fn installed_links_stay_beside()
         → IsAccepted fresh fresh_after (event.Install (fresh_rows (world_of fresh) n rows)) there → HaveSameLinks after fresh_after n }
 {}
 
-/// Installs of the old core may be passed over, and its links be installed in the fresh one later. A refilled core has no links yet. As long as
-/// each link of the fresh core is one of the old core's, under new numbers, it stays so after each event that is carried over, after each install
-/// of the old core alone, and after some of that core's links are installed. Once all of them are, the links of the fresh core are exactly these.
+/// The links of the old core may be read after its world, as the links of a later moment. A refilled core has no links yet. Where each link of
+/// a core is at a site of these, so it stays after some of these are installed, and after each event that is carried over. Once it stands beside
+/// the old core of that moment, each of its links is one of the old core's, under new numbers.
+pub fn links_may_be_read_later()
+    ensures first { (linked : List (ℕ × Link)) (w : World) (entries : List Entry) (released : Released) (n : Numbers) (before fresh : State)
+        → IsRefilled w entries released n before fresh → HasLinksOf linked fresh n }
+    ensures installed { (linked left : List (ℕ × Link)) (fresh after : State) (n : Numbers) → HasLinksOf linked fresh n
+        → InstallsFront (fresh_rows (world_of fresh) n linked) left fresh after → HasLinksOf linked after n }
+    ensures carried { (linked : List (ℕ × Link)) (fresh after : State) (n m : Numbers) (old : Made) (e f : Event) → HasLinksOf linked fresh n
+        → carried n e ≡ Some f → IsMade f old n m fresh after → HasLinksOf linked after m }
+    ensures beside { (k : Flags) (old fresh : State) (n : Numbers) → IsBeside k old fresh n → HasLinksOf (links_of old) fresh n
+        → HasNoOtherLinks old fresh n }
+{}
+
+/// Installs of the old core may be passed over, and its links be installed in the fresh one later. As long as each link of the fresh core is one
+/// of the old core's, under new numbers, so it stays after each event that is carried over, after each install of the old core alone, and after
+/// some of that core's links are installed. Once all of them are, the links of the fresh core are exactly these.
 pub fn links_may_be_installed_later()
-    ensures first { (old before fresh : State) (entries : List Entry) (released : Released) (n : Numbers)
-        → IsRefilled (world_of old) entries released n before fresh → HasNoOtherLinks old fresh n }
     ensures carried { (k : Flags) (old after fresh fresh_after : State) (n m : Numbers) (e f : Event) (reply : Reply) → IsBeside k old fresh n
         → HasNoOtherLinks old fresh n → has_read_file e ≡ true → IsAccepted old after e reply → carried n e ≡ Some f
         → IsMade f reply.made n m fresh fresh_after → HasNoOtherLinks after fresh_after m }

@@ -5,11 +5,9 @@ use Rattle.jl_types.specs.Events.History.{dropped}
 use Rattle.jl_types.proofs.Places.{accepted_of}
 use Rattle.jl_core.specs.State.{events, world_of}
 use Rattle.jl_renewal.proofs.MovedBeside.{still_beside}
-use Rattle.jl_renewal.proofs.MovedLinks.{none_refilled, no_others_after, neither_installs, no_others_passed, front_installed, all_installed}
+use Rattle.jl_renewal.proofs.MovedLinks.{no_others_after, neither_installs}
+use Rattle.jl_renewal.proofs.MovedLater.{no_others_passed, front_installed, all_installed}
 use Rattle.jl_renewal.proofs.laws.links_may_be_installed_later.Goals as goal
-
-pub returns-clause-first : goal.returns-clause-first
-returns-clause-first c old before fresh entries released n refilled = none_refilled (world_of old) entries released n old before fresh refilled
 
 pub returns-clause-carried : goal.returns-clause-carried
 returns-clause-carried c k old after fresh fresh_after n m e f reply beside only read accepted carries made =
@@ -23,7 +21,7 @@ pub returns-clause-passed : goal.returns-clause-passed
 returns-clause-passed c k old after fresh n rows reply beside only accepted = no_others_passed k old after fresh n rows reply beside only accepted
 
 pub returns-clause-front : goal.returns-clause-front
-returns-clause-front c k old between fresh n left beside only front = front_installed k old between fresh n left beside only front
+returns-clause-front c k old between fresh n left beside only front = front_installed k old between fresh n beside only left front
 
 pub returns-clause-all : goal.returns-clause-all
 returns-clause-all c k old between fresh n beside only all = all_installed k old between fresh n beside only all
