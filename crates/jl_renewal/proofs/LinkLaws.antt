@@ -172,7 +172,7 @@ kept_gives b (Err reason) l e = cc
 kept_gives true (Ok m) l e = (refl, ap Ok (same_Some m l e))
 kept_gives false (Ok m) l e = cc
 
--- the installs of the rows behind events that install nothing
+-- the installs of the rows, after events that install nothing
 module _ (h : List Event) (n : Numbers) (linked : List Row) (batches : List (List Row)) (are : AreBatches batches (fresh_rows (world_after h) n linked))
     (k : ℕ) (quiet : IsQuiet k h) (l : Link) where
   now_is : installed (h ++ map event.Install batches) k ≡ kept (list_any (at k) (fresh_rows (world_after h) n linked)) None (scratch (world_after h) k)

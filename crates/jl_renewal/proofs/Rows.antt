@@ -32,7 +32,7 @@ use Rattle.jl_renewal.specs.Renewal.{renewal, fresh_rows}
 use Rattle.jl_renewal.specs.Renewed.{renewed, renumbered_result, renumbered_answer}
 use Rattle.jl_renewal.specs.Carries.{carried, made_number, with_made}
 use Rattle.jl_renewal.specs.Moved.{Flags, flags_of, moved, moved_world, event_there, events_there, may_be_gone, all_numbers}
-use Rattle.jl_renewal.specs.Moved.{HaveSameLinks, HasNoOtherLinks, renumbered_install}
+use Rattle.jl_renewal.specs.Moved.{HaveSameLinks, HasNoOtherLinks, HasLinksOf, renumbered_install}
 
 -- ---- small classes
 
@@ -158,6 +158,12 @@ others_are_refused : HasNoOtherLinks (core_of []) linked numbers → ⊥
 others_are_refused only =
     let came = only 1 (Plain (of_class 2 2)) (1, omega arith, refl) in
     let lt = came.had.1 in
+    absurd (omega (arith, lt))
+
+not_of_none : HasLinksOf [] linked numbers → ⊥
+not_of_none had =
+    let come = had 1 (Plain (of_class 2 2)) (1, omega arith, refl) in
+    let lt = come.had.1 in
     absurd (omega (arith, lt))
 
 no_other_link_is_there : HaveSameLinks (core_of []) linked numbers → ⊥

@@ -212,7 +212,7 @@ HaveSameLinks old fresh n = (k : ℕ) (l : Link) → Contains (links_of fresh) (
 abbrev pub HasNoOtherLinks : State → State → Numbers → Type 0
 HasNoOtherLinks old fresh n = (k : ℕ) (l : Link) → Contains (links_of fresh) (k, l) → CameFrom (links_of old) n k l
 
--- Each link of the fresh core is at a site that had one of these links.
+-- Each link of the fresh core is at the new number of a site that had one of these.
 abbrev pub HasLinksOf : List (ℕ × Link) → State → Numbers → Type 0
 HasLinksOf linked fresh n = (k : ℕ) (l : Link) → Contains (links_of fresh) (k, l) → HasCome linked n k
 
