@@ -135,6 +135,9 @@ rows : fresh_rows (world_after (renewal old nothing)) numbers (installed_links h
     ≡ (0, Table kind.Virtual ((1, Run (of_class 1 0)) ∷ (3, Run (of_class 3 1)) ∷ [])) ∷ (1, Plain (of_class 2 2)) ∷ []
 rows = refl
 
+renumbered_rows : map (renumbered_install numbers) (links_of old) ≡ fresh_rows (world_after (renewal old nothing)) numbers (links_of old)
+renumbered_rows = refl
+
 -- the fresh core with these links
 abbrev linked : State
 linked = core_of (renewal old nothing ++ Install (map (renumbered_install numbers) (links_of old)) ∷ [])
