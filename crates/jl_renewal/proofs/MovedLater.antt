@@ -151,9 +151,9 @@ none_others k old fresh n beside had t l c =
     same_ok a b e = cc
 
 -- a core that was refilled has no links yet
-pub none_refilled : (linked : List (ℕ × Link)) (w : World) (entries : List Entry) (released : Released) (n : Numbers) (before fresh : State)
-    → IsRefilled w entries released n before fresh → HasLinksOf linked fresh n
-none_refilled linked w entries released n before fresh refilled t l c =
+pub none_refilled : {P : Type 0} (w : World) (entries : List Entry) (released : Released) (n : Numbers) (before fresh : State)
+    → IsRefilled w entries released n before fresh → (t : ℕ) (l : Link) → Contains (links_of fresh) (t, l) → P
+none_refilled w entries released n before fresh refilled t l c =
     clash l (sym (none_there t (events fresh) (subst (IsQuiet t) (sym refilled.events)
     (is_quiet t w (numbers_of w released) (events (logged before.max_sites w entries))))) ∙ (links_are (events fresh) t l).1 c)
 

@@ -134,10 +134,12 @@ pub fn links_may_be_read_later()
         → HasNoOtherLinks old fresh n }
 {}
 
-/// Installs of the old core may be passed over, and its links be installed in the fresh one later. As long as each link of the fresh core is one
-/// of the old core's, under new numbers, so it stays after each event that is carried over, after each install of the old core alone, and after
-/// some of that core's links are installed. Once all of them are, the links of the fresh core are exactly these.
+/// Installs of the old core may be passed over, and its links be installed in the fresh one later. A refilled core has no links yet. As long as
+/// each link of the fresh core is one of the old core's, under new numbers, so it stays after each event that is carried over, after each install
+/// of the old core alone, and after some of that core's links are installed. Once all of them are, the links of the fresh core are exactly these.
 pub fn links_may_be_installed_later()
+    ensures first { (old before fresh : State) (entries : List Entry) (released : Released) (n : Numbers)
+        → IsRefilled (world_of old) entries released n before fresh → HasNoOtherLinks old fresh n }
     ensures carried { (k : Flags) (old after fresh fresh_after : State) (n m : Numbers) (e f : Event) (reply : Reply) → IsBeside k old fresh n
         → HasNoOtherLinks old fresh n → has_read_file e ≡ true → IsAccepted old after e reply → carried n e ≡ Some f
         → IsMade f reply.made n m fresh fresh_after → HasNoOtherLinks after fresh_after m }

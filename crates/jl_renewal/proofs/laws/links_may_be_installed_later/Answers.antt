@@ -6,8 +6,11 @@ use Rattle.jl_types.proofs.Places.{accepted_of}
 use Rattle.jl_core.specs.State.{events, world_of}
 use Rattle.jl_renewal.proofs.MovedBeside.{still_beside}
 use Rattle.jl_renewal.proofs.MovedLinks.{no_others_after, neither_installs}
-use Rattle.jl_renewal.proofs.MovedLater.{no_others_passed, front_installed, all_installed}
+use Rattle.jl_renewal.proofs.MovedLater.{none_refilled, no_others_passed, front_installed, all_installed}
 use Rattle.jl_renewal.proofs.laws.links_may_be_installed_later.Goals as goal
+
+pub returns-clause-first : goal.returns-clause-first
+returns-clause-first c old before fresh entries released n refilled k l has = none_refilled (world_of old) entries released n before fresh refilled k l has
 
 pub returns-clause-carried : goal.returns-clause-carried
 returns-clause-carried c k old after fresh fresh_after n m e f reply beside only read accepted carries made =

@@ -2,7 +2,7 @@ use Rattle.jl_renewal.proofs.MovedLater.{none_refilled, some_installed, links_ca
 use Rattle.jl_renewal.proofs.laws.links_may_be_read_later.Goals as goal
 
 pub returns-clause-first : goal.returns-clause-first
-returns-clause-first c linked w entries released n before fresh refilled = none_refilled linked w entries released n before fresh refilled
+returns-clause-first c linked w entries released n before fresh refilled k l has = none_refilled w entries released n before fresh refilled k l has
 
 pub returns-clause-installed : goal.returns-clause-installed
 returns-clause-installed c linked left fresh after n had front = some_installed linked left fresh after n had front
