@@ -13,6 +13,13 @@ pub mod EndLaws
 pub mod BehindLaws
 pub mod CaughtUp
 pub mod SeatLaws
+-- a renewal in steps, beside its linker
+pub mod UnderWayLists
+pub mod UnderWayTaken
+pub mod UnderWayCarried
+pub mod UnderWayMade
+pub mod UnderWayFilled
+pub mod UnderWayEnded
 -- threads, and worked rows
 pub mod Crossing
 pub mod Rows

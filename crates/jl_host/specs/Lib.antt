@@ -1,5 +1,5 @@
--- `Numbers`, `Telling`, `Showing`, `Copies`, `Linkers`, `Seats`, `Memos`, `Reading`, `Targets`, `Views`, `Awaiting`, `Asking`, `Renewals` and
--- `Renewing` are what contracts cite; `Behind` is a means of proof.
+-- `Numbers`, `Telling`, `Showing`, `Copies`, `Linkers`, `Seats`, `Memos`, `Reading`, `Targets`, `Views`, `Awaiting`, `Asking`, `Renewals`,
+-- `Renewing` and `UnderWay` are what contracts cite; `Behind` is a means of proof.
 pub mod Numbers
 pub mod Telling
 pub mod Showing
@@ -14,4 +14,5 @@ pub mod Awaiting
 pub mod Asking
 pub mod Renewals
 pub mod Renewing
+pub mod UnderWay
 pub mod ForProofs

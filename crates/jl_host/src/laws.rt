@@ -1,13 +1,19 @@
-//! The laws of links and targets as numbers: each is the contract of a function that does nothing.
+//! The laws of links and targets as numbers, and of a renewal in steps: each is the contract of a function that does nothing.
 
-ghost use Rattle.std.specs.Prelude.{◌≡◌, ◌≤◌, ◌⊎◌, ℕ, true, List, Option, Some, Ok, Err};
+ghost use Rattle.std.specs.Prelude.{◌≡◌, ◌≤◌, ◌<◌, ◌^◌, ◌⊎◌, ℕ, true, length, List, Option, Some, Ok, Err};
 ghost use Rattle.jl_types.specs.declared.answer.Missing.{Missing};
 ghost use Rattle.jl_types.specs.declared.answer.Unlinked.TheVariants.{NotReady};
 ghost use Rattle.jl_types.specs.declared.link.Link.{Link};
 ghost use Rattle.jl_types.specs.Events.Verdict.{Accepts};
+ghost use Rattle.jl_types.specs.Events.Event.{Event};
+ghost use Rattle.jl_types.specs.declared.event.Reply.{Reply};
 ghost use Rattle.jl_types.specs.Linkage.Links.{scratch};
 ghost use Rattle.jl_relink.specs.Preparations.{Snapshot};
-ghost use Rattle.jl_core.specs.State.{world_of};
+ghost use Rattle.jl_relink.specs.Laws.{AreAccepted, has_read_file};
+ghost use Rattle.jl_core.specs.State.{State, events, world_of, IsAccepted};
+ghost use Rattle.jl_renewal.specs.declared.released.Released.{Released};
+ghost use Rattle.jl_renewal.specs.Numbers.{Numbers};
+ghost use Rattle.jl_renewal.specs.Moved.{flags_of, IsBeside};
 ghost use Rattle.jl_host.specs.declared.reading.LinkRow.{LinkRow};
 ghost use Rattle.jl_host.specs.declared.shown.LinkShown.{LinkShown};
 ghost use Rattle.jl_host.specs.declared.told.Told.{Told};
@@ -22,6 +28,9 @@ ghost use Rattle.jl_json.specs.CommandForms.{IsTarget};
 ghost use Rattle.jl_host.specs.Targets.{nesting, parts_of, target_of};
 ghost use Rattle.jl_host.specs.Linkers.{Opened};
 ghost use Rattle.jl_host.specs.Views.{given, IsViewPrepare, IsInstallLinks};
+ghost use Rattle.jl_host.specs.Renewals.{Arrays, with_numbers};
+ghost use Rattle.jl_host.specs.Renewing.{Renewing, begun_in, IsTakenFrom, IsFilled, IsFinished};
+ghost use Rattle.jl_host.specs.UnderWay.{IsOfNewFile, IsUnderWay};
 
 /// What is shown of a link is read as that link, where it has at most eight rows and each method that it runs is among the first 2^16
 /// of its class, as those of a class file are (JVMS SE 17 §4.1).
@@ -51,4 +60,29 @@ pub fn given_links_are_from_scratch()
 pub fn awaited_classes_are_named()
     ensures { (w : World) (s : ℕ) (missing : Missing) → scratch w s ≡ Err (NotReady missing)
         → (name : List ℕ) × (awaited s w ≡ Some name) }
+{}
+
+/// A renewal in steps is under way from its begin on: whatever the linker accepts meanwhile, as entries are taken and carried over, whatever a
+/// fill answers, and where nothing is handed over. The linker that is handed over stands beside the old one as that is then, under the numbers
+/// that were written, so by [`linking_commutes_beside`](jl_renewal::linking_commutes_beside) links from scratch and calls are the same there.
+/// Until all entries of the begin were taken, no class file may be defined once more that was defined before the begin.
+pub fn renewals_in_steps_stay_beside()
+    ensures begun { (opened : Opened) (released : Released) (max_sites : ℕ)
+        → AreAccepted opened.session.core.max_sites (events opened.session.core) → opened.session.core.max_sites ≤ max_sites
+        → IsUnderWay opened.session.core released opened.session.core (begun_in opened released max_sites) }
+    ensures later { (begun core after : State) (released : Released) (renewing : Renewing) (e : Event) (reply : Reply)
+        → IsUnderWay begun released core renewing → IsAccepted core after e reply → has_read_file e ≡ true
+        → (length begun.log ≤ renewing.taken) ⊎ IsOfNewFile (events begun) e → IsUnderWay begun released after renewing }
+    ensures taken { (begun core : State) (released : Released) (old new : Renewing) (most : ℕ) → IsUnderWay begun released core old
+        → IsTakenFrom most core old new → IsUnderWay begun released core new }
+    ensures filled { (begun core : State) (released : Released) (old new : Renewing) (status : ℕ) (told : Told) → IsUnderWay begun released core old
+        → IsFilled old status told new → IsUnderWay begun released core new }
+    ensures kept { (begun core : State) (released : Released) (old new : Renewing) (before after : Arrays) (status : ℕ) (told : Told)
+        (fresh : Option Opened) → IsUnderWay begun released core old → IsFinished core old before status told (Some new) fresh after
+        → IsUnderWay begun released core new }
+    ensures handed_over { (begun core : State) (released : Released) (old : Renewing) (before after : Arrays) (status : ℕ) (told : Told)
+        (new : Option Renewing) (opened : Opened) → IsUnderWay begun released core old → length core.log < 2 ^ 64
+        → IsFinished core old before status told new (Some opened) after
+        → (numbers : Numbers) × IsBeside (flags_of (world_of begun) released) core opened.session.core numbers
+        × (after ≡ with_numbers numbers before) }
 {}

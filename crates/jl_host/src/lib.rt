@@ -40,8 +40,8 @@ mod laws;
 
 pub use invocations::Invocation;
 pub use laws::{
-    awaited_classes_are_named, given_links_are_from_scratch, shown_links_are_read_again,
-    targets_are_read_from_parts,
+    awaited_classes_are_named, given_links_are_from_scratch, renewals_in_steps_stay_beside,
+    shown_links_are_read_again, targets_are_read_from_parts,
 };
 pub use linker::Linker;
 pub use memo::Memo;

@@ -1,0 +1,102 @@
+-- A renewal in steps that is under way, beside the one linker of which it was begun.
+use Rattle.std.specs.Prelude.{◌≡◌, ◌⊎◌, ◌+◌, ◌<◌, ◌≤◌, ℕ, true, ⊤, slice_get, List, [], ◌∷◌, ◌++◌, length, Option, Some, None, is_some}
+use Rattle.jl_types.specs.declared.event.EventOf.TheVariants as event
+use Rattle.jl_types.specs.declared.event.Reply.{Reply}
+use Rattle.jl_types.specs.Events.Event.{Event}
+use Rattle.jl_types.specs.Values.World.{Class}
+use Rattle.jl_events.specs.Accepted.{Accepted, event_of}
+use Rattle.jl_relink.specs.Laws.{AreAccepted, has_read_file}
+use Rattle.jl_core.specs.State.{State, events, world_of, IsAccepted}
+use Rattle.jl_core.specs.Logs.{Entry, told, are_told, shown}
+use Rattle.jl_renewal.specs.declared.released.Released.{Released}
+use Rattle.jl_renewal.specs.Numbers.{Numbers}
+use Rattle.jl_renewal.specs.Carries.{carried_event, with_made}
+use Rattle.jl_renewal.specs.Moved.{flags_of, IsBeside}
+use Rattle.jl_host.specs.Seats.{seen_of}
+use Rattle.jl_host.specs.Renewing.{Start, Fresh, Renewing, installs_of}
+
+-- ---- what the linker accepts meanwhile
+
+-- The old core has accepted these, one after another, and is the new one then. Each class file was read.
+abbrev pub HasAccepted : State → List (Event × Reply) → State → Type 0
+HasAccepted old [] new = new ≡ old
+HasAccepted old (entry ∷ entries) new =
+    (next : State) × IsAccepted old next entry.0 entry.1 × (has_read_file entry.0 ≡ true) × HasAccepted next entries new
+
+-- each of these classes is at its place among the others
+abbrev pub AreAmong : List Class → List Class → Type 0
+AreAmong rows more = (c : ℕ) (row : Class) → slice_get rows c ≡ Some row → slice_get more c ≡ Some row
+
+-- the event defines no class file that one of these events defines
+abbrev pub IsOfNewFile : List Event → Event → Type 0
+IsOfNewFile es (event.Define loader file) = (n l : ℕ) → slice_get es n ≡ Some (event.Define l file) → ⊥
+IsOfNewFile es _ = ⊤
+
+-- What tells an event of the begin by the classes of the core has told one by those of the begin.
+abbrev pub AreToldThen : State → State → Type 0
+AreToldThen begun core = (a : Accepted) (e : Event) (n : ℕ) → slice_get (events begun) n ≡ Some e
+    → event_of (world_of core).classes.rows a ≡ Some e → is_some (event_of (world_of begun).classes.rows a) ≡ true
+
+-- ---- before the fresh core is made
+
+-- what there was at the begin
+abbrev pub start_of : State → Released → Start
+start_of begun released = record {
+  seen = record { world = world_of begun; serial = length begun.log };
+  sites = length (world_of begun).places;
+  links = (seen_of begun).links;
+  released = released;
+}
+
+-- All that was taken waits. The core is what it was at the begin, and what it has accepted since.
+pub record IsGathering (begun : State) (released : Released) (core : State) (had : List (Event × Reply)) (renewing : Renewing) : Type 0 where
+  pub accepted : AreAccepted begun.max_sites (events begun)
+  pub limit : begun.max_sites ≤ renewing.max_sites
+  pub since : List (Event × Reply)
+  pub grown : HasAccepted begun since core
+  pub start : renewing.start ≡ Some (start_of begun released)
+  pub fresh : renewing.fresh ≡ None
+  pub none : had ≡ []
+  -- the entries of the begin tell events by the classes of the begin
+  pub then_told : (n : ℕ) (entry : Entry) → n < length begun.log → slice_get renewing.waiting n ≡ Some entry
+      → is_some (told (world_of begun).classes.rows entry) ≡ true
+  pub all_then : (length begun.log ≤ renewing.taken) ⊎ AreToldThen begun core
+
+-- ---- once it is made
+
+-- The next entry names what is gone. It is noted already that what the entry made is gone.
+pub record IsHeldUp (renewing : Renewing) (n m : Numbers) : Type 0 where
+  pub entry : Entry
+  pub others : List Entry
+  pub next : renewing.waiting ≡ entry ∷ others
+  pub other : installs_of entry.event ≡ None
+  pub gone : carried_event renewing.defined n entry ≡ None
+  pub noted : m ≡ with_made n entry.reply.made None
+
+-- The fresh core stands beside the old one as that was when it had what was carried over. What is left came after it.
+pub record HasFresh (begun : State) (released : Released) (core : State) (had left : List (Event × Reply)) (renewing : Renewing) : Type 0 where
+  pub old : State
+  pub log : old.log ≡ had
+  pub grown : HasAccepted old left core
+  pub start : renewing.start ≡ None
+  pub made : Fresh
+  pub fresh : renewing.fresh ≡ Some made
+  pub numbers : Numbers
+  pub beside : IsBeside (flags_of (world_of begun) released) old made.core numbers
+  pub noted : (made.numbers ≡ numbers) ⊎ IsHeldUp renewing numbers made.numbers
+
+-- ---- at any time
+
+-- The renewal was begun of a core with these released, and that core is this one now. Nothing else was given to the renewal.
+pub record IsUnderWay (begun : State) (released : Released) (core : State) (renewing : Renewing) : Type 0 where
+  -- what was carried over, and what wasn't taken yet
+  pub had : List (Event × Reply)
+  pub later : List (Event × Reply)
+  -- what waits stands between them in the core's log
+  pub all_told : are_told renewing.defined.classes.rows renewing.waiting ≡ true
+  pub log : core.log ≡ had ++ (shown renewing.defined.classes.rows renewing.waiting ++ later)
+  pub taken : renewing.taken ≡ length had + length renewing.waiting
+  -- the classes that were taken are the core's
+  pub classes : AreAmong renewing.defined.classes.rows (world_of core).classes.rows
+  pub phase : IsGathering begun released core had renewing
+      ⊎ HasFresh begun released core had (shown renewing.defined.classes.rows renewing.waiting ++ later) renewing
