@@ -1,6 +1,6 @@
 -- A fresh core that stands beside the old one does so after each entry that is carried over, and what is noted as gone is as good as not noted.
-use Rattle.std.specs.Prelude.{◌≡◌, ◌+◌, ◌==◌, ℕ, zero, suc, Bool, true, false, slice_get, List, [], ◌∷◌, ◌++◌, filter_map, length, Option, Some, None}
-use Rattle.std.specs.Prelude.{option_map, option_and_then, is_ok, is_some, IsOk, MatchOption, if◌then◌else◌}
+use Rattle.std.specs.Prelude.{◌≡◌, ◌+◌, ◌==◌, ℕ, zero, suc, Bool, true, false, List, [], ◌∷◌, ◌++◌, filter_map, length, Option, Some, None}
+use Rattle.std.specs.Prelude.{option_map, option_and_then, is_ok, IsOk, MatchOption, if◌then◌else◌}
 use Rattle.std.proofs.Common.{refl, sym, ap, subst, ◌∙◌, arith, length-append, append_assoc}
 use Rattle.std.proofs.lemmas.List.{append-nil}
 use Rattle.std.proofs.lemmas.Option.{same_Some}

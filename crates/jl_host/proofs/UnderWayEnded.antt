@@ -1,5 +1,5 @@
 -- What a renewal that was under way hands over at its end.
-use Rattle.std.specs.Prelude.{◌≡◌, ◌⊎◌, ◌+◌, ◌-◌, ◌^◌, ◌<◌, ◌==◌, ℕ, Bool, true, false, List, [], ◌∷◌, ◌++◌, length, take, drop, Option, Some, None}
+use Rattle.std.specs.Prelude.{◌≡◌, ◌⊎◌, ◌+◌, ◌^◌, ◌<◌, ◌==◌, ℕ, Bool, true, false, List, [], ◌∷◌, ◌++◌, length, take, drop, Option, Some, None}
 use Rattle.std.specs.Prelude.{nat_le, MatchBool, MatchOption}
 use Rattle.std.proofs.Common.{refl, sym, ap, subst, ◌∙◌, arith, inl, inr}
 use Rattle.std.proofs.lemmas.List.{length-drop, take_all}
@@ -17,7 +17,7 @@ use Rattle.jl_renewal.specs.declared.released.Released.{Released}
 use Rattle.jl_renewal.specs.Numbers.{Numbers}
 use Rattle.jl_renewal.specs.Moved.{flags_of, IsBeside}
 use Rattle.jl_host.specs.declared.told.Told.{Told}
-use Rattle.jl_host.specs.Numbers.{done, memory, malformed, too_short, status_of_refusal}
+use Rattle.jl_host.specs.Numbers.{done, malformed, too_short, status_of_refusal}
 use Rattle.jl_host.specs.Linkers.{Opened, opened_over}
 use Rattle.jl_host.specs.Renewals.{Arrays, have_room, counts_in, with_numbers}
 use Rattle.jl_host.specs.Renewing.{Start, Fresh, Renewing, IsMade, AreCarried, IsReadyFrom, IsReady, IsTakenFrom, IsToldOf, IsFilledOn, IsFilled, all_that_are_left}
@@ -234,8 +234,7 @@ module _ (begun : State) (released : Released) (core : State) (old : Renewing) (
           (λ i. shown filled.defined.classes.rows (waits i) ++ later_none i) second.grown in
           let core_is : second.made.core ≡ opened.session.core =
           ap (λ (f : Fresh). f.core) (same_Some second.made made (sym second.fresh ∙ there))
-          ∙ ap (λ (o : Opened). o.session.core) (sym (same_Some opened (opened_over made.core) open_over)) in
-          (
+          ∙ ap (λ (o : Opened). o.session.core) (sym (same_Some opened (opened_over made.core) open_over)) in (
             made.numbers,
             subst (λ (s : State). IsBeside (flags_of (world_of begun) released) s opened.session.core made.numbers) (sym ended)
                 (subst (λ (s : State). IsBeside (flags_of (world_of begun) released) second.old s made.numbers) core_is

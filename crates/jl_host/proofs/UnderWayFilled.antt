@@ -1,12 +1,10 @@
 -- A renewal stays under way as entries are carried over, and where one isn't.
-use Rattle.std.specs.Prelude.{◌≡◌, ◌⊎◌, ◌+◌, ℕ, true, List, [], ◌∷◌, ◌++◌, length, Option, Some, None, MatchOption}
+use Rattle.std.specs.Prelude.{◌≡◌, ◌⊎◌, ℕ, true, List, [], ◌∷◌, ◌++◌, length, Option, Some, None, MatchOption}
 use Rattle.std.proofs.Common.{refl, sym, ap, subst, ◌∙◌, arith, inl, inr, length-append, append_assoc}
 use Rattle.std.proofs.lemmas.List.{append-nil}
 use Rattle.std.proofs.lemmas.Option.{MatchOption-at_some, MatchOption-at_none, same_Some, none-some}
 use Rattle.jl_types.specs.declared.event.Reply.{Reply}
 use Rattle.jl_types.specs.declared.link.Link.{Link}
-use Rattle.jl_types.specs.declared.refusal.Refusal.{Refusal}
-use Rattle.jl_types.specs.declared.refusal.Refusal.TheVariants.{Memory}
 use Rattle.jl_types.specs.Values.World.{World, Class}
 use Rattle.jl_types.specs.Events.Event.{Event}
 use Rattle.jl_core.specs.State.{State, world_of}
@@ -16,13 +14,13 @@ use Rattle.jl_renewal.specs.declared.entries.CarryFault.{CarryFault}
 use Rattle.jl_renewal.specs.declared.entries.CarryFault.TheVariants.{Gone, Refused}
 use Rattle.jl_renewal.specs.declared.released.Released.{Released}
 use Rattle.jl_renewal.specs.Numbers.{Numbers}
-use Rattle.jl_renewal.specs.Carries.{carried_event, with_made, IsAdded, AreLeft}
+use Rattle.jl_renewal.specs.Carries.{carried_event, with_made, IsAdded}
 use Rattle.jl_renewal.specs.Renewal.{fresh_rows}
 use Rattle.jl_renewal.specs.Moved.{flags_of, IsBeside}
 use Rattle.jl_host.specs.declared.told.Told.{Told}
-use Rattle.jl_host.specs.Renewing.{Fresh, Renewing, installs_of, IsLinked, IsCarriedOn, AreCarried, HasCarried, IsUnlinked, IsUncarriedOn, StopsBefore}
+use Rattle.jl_host.specs.Renewing.{Fresh, Renewing, installs_of, IsLinked, IsCarriedOn, AreCarried, IsUnlinked, StopsBefore}
 use Rattle.jl_host.specs.Renewing.{AreAllCarried, HasStopped, IsFilledOn, IsFilled}
-use Rattle.jl_host.specs.UnderWay.{HasAccepted, IsGathering, IsHeldUp, HasFresh, IsUnderWay}
+use Rattle.jl_host.specs.UnderWay.{HasAccepted, IsHeldUp, HasFresh, IsUnderWay}
 use Rattle.jl_host.proofs.UnderWayLists.{both_told, shown_both}
 use Rattle.jl_host.proofs.UnderWayCarried.{HaveComeOver, gone_still, noted_twice, all_on}
 use Rattle.jl_host.proofs.UnderWayMade.{ready_under_way}

@@ -1,5 +1,5 @@
 -- A renewal stays under way as its fresh core is made.
-use Rattle.std.specs.Prelude.{◌≡◌, ◌+◌, ◌-◌, ◌<◌, ◌≤◌, ℕ, nat_le, Bool, true, false, slice_get, List, [], ◌∷◌, ◌++◌, map, filter_map, length, take, drop}
+use Rattle.std.specs.Prelude.{◌≡◌, ◌≤◌, ℕ, nat_le, Bool, true, false, List, ◌++◌, map, filter_map, length, take, drop}
 use Rattle.std.specs.Prelude.{Some, None, MatchBool}
 use Rattle.std.proofs.Common.{refl, sym, ap, subst, ◌∙◌, arith, inl, inr, append_assoc}
 use Rattle.std.proofs.lemmas.Bool.{leb-true}
@@ -11,7 +11,7 @@ use Rattle.jl_types.specs.Events.Event.{Event}
 use Rattle.jl_types.specs.Events.History.{world_after}
 use Rattle.jl_relink.specs.Laws.{AreAccepted}
 use Rattle.jl_core.specs.State.{State, events, world_of}
-use Rattle.jl_core.specs.Logs.{Entry, told, are_told, shown}
+use Rattle.jl_core.specs.Logs.{Entry, are_told, shown}
 use Rattle.jl_core.proofs.LogLaws.{all_still, length_told}
 use Rattle.jl_renewal.specs.declared.released.Released.{Released}
 use Rattle.jl_renewal.specs.Numbers.{Numbers}
@@ -25,7 +25,7 @@ use Rattle.jl_renewal.proofs.ComeOver.{renewal_world}
 use Rattle.jl_renewal.proofs.RenewalLaws.{told_are_events}
 use Rattle.jl_renewal.proofs.MovedBeside.{beside_first}
 use Rattle.jl_host.specs.Renewing.{Fresh, Renewing, IsMade, IsReadyFrom, IsReady}
-use Rattle.jl_host.specs.UnderWay.{HasAccepted, start_of, IsGathering, HasFresh, IsUnderWay}
+use Rattle.jl_host.specs.UnderWay.{HasAccepted, start_of, IsGathering, IsUnderWay}
 use Rattle.jl_host.proofs.UnderWayLists.{same_fronts, got_of_take, both_told, shown_both, told_each, log_grows, classes_grow}
 
 -- ---- the fresh core
