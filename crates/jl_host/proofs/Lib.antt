@@ -15,6 +15,7 @@ pub mod CaughtUp
 pub mod SeatLaws
 -- a renewal in steps, beside its linker
 pub mod UnderWayLists
+pub mod UnderWayLinks
 pub mod UnderWayTaken
 pub mod UnderWayCarried
 pub mod UnderWayMade

@@ -22,9 +22,10 @@ use Rattle.jl_core.specs.Logs.{Entry, told, are_told, shown}
 use Rattle.jl_renewal.specs.Numbers.{Numbers, new_number}
 use Rattle.jl_renewal.specs.Renewal.{fresh_rows}
 use Rattle.jl_renewal.specs.Carries.{guarded, carried, carried_target, carried_event, with_number, with_made, IsAdded}
-use Rattle.jl_renewal.specs.Moved.{Flags, IsBeside}
+use Rattle.jl_renewal.specs.Moved.{Flags, IsBeside, HaveSameLinks}
 use Rattle.jl_renewal.proofs.MovedTargets.{inv_map}
 use Rattle.jl_renewal.proofs.MovedBeside.{still_beside, beside_passed, beside_linked}
+use Rattle.jl_renewal.proofs.MovedLinks.{links_after, neither_installs, both_install, install_accepted}
 use Rattle.jl_host.specs.Renewing.{Fresh, installs_of, IsLinked, IsCarriedOn, AreCarried}
 use Rattle.jl_host.specs.UnderWay.{HasAccepted}
 use Rattle.jl_host.proofs.UnderWayLists.{some_value, first_told, shown_first}
@@ -156,6 +157,47 @@ module _ (k : Flags) (w : World) (entry : Entry) (e : Event) (named : event_of w
   pub one_on : IsCarriedOn w entry f g → IsBeside k next g.core g.numbers
   one_on = by_install (installs_of entry.event) refl
 
+  -- its links are those of the old core then, too
+  module _ (links : HaveSameLinks old f.core f.numbers) where
+    module _ (rows : List (ℕ × Link)) (installed : IsAccepted old next (event.Install rows) entry.reply) where
+      may_install : IsOk (verdict old.max_sites (world_of old) (event.Install rows))
+      may_install =
+          ap is_ok (accepted_of (dropped (events old) (event.Install rows)) (verdict old.max_sites (world_of old) (event.Install rows))
+          entry.reply installed.answered).0
+
+      none_refused : IsOk (verdict f.core.max_sites (world_of f.core) (event.Install [])) → ⊥
+      none_refused e = cc
+
+      links_by_rows : (there : List (ℕ × Link)) → fresh_rows (world_of f.core) f.numbers rows ≡ there → IsLinked there f g
+          → HaveSameLinks next g.core g.numbers
+      links_by_rows [] is same =
+          absurd (none_refused (subst (λ (rs : List (ℕ × Link)). IsOk (verdict f.core.max_sites (world_of f.core) (event.Install rs))) is
+          (install_accepted k old f.core f.numbers beside rows may_install)))
+      links_by_rows (row ∷ others) is linked =
+          let there = subst (λ (rs : List (ℕ × Link)). IsAccepted f.core g.core (event.Install rs) linked.0.0) (sym is) linked.0.1 in
+          subst (λ (n : Numbers). HaveSameLinks next g.core n) (sym linked.1)
+          (links_after k old next f.core g.core f.numbers f.numbers beside
+          (beside_linked k next f.core f.numbers (beside_passed k old f.core f.numbers beside rows next entry.reply installed)
+          (fresh_rows (world_of f.core) f.numbers rows) g.core linked.0.0 there)
+          (event.Install rows) (event.Install (fresh_rows (world_of f.core) f.numbers rows)) entry.reply linked.0.0 installed there
+          (both_install k old f.core f.numbers beside rows may_install) links)
+
+    links_by_install : (o : Option (List (ℕ × Link))) → installs_of entry.event ≡ o
+        → MatchOption o (IsAdded w entry f.numbers g.numbers f.core g.core) (λ rows. IsLinked (fresh_rows (world_of f.core) f.numbers rows) f g)
+        → HaveSameLinks next g.core g.numbers
+    links_by_install None is added =
+        let carries = sym (ap (option_and_then (carried f.numbers)) named) ∙ added.is in
+        links_after k old next f.core g.core f.numbers g.numbers beside
+        (still_beside k old f.core f.numbers beside e added.event carries ok next g.core g.numbers entry.reply read accepted added.made)
+        e added.event entry.reply added.made.reply accepted added.made.accepted (λ s t at. neither_installs f.numbers e added.event carries s t) links
+    links_by_install (Some rows) is linked =
+        let same : e ≡ event.Install rows = same_Some e (event.Install rows) (sym named ∙ installs_told w.classes.rows entry.event rows is) in
+        links_by_rows rows (subst (λ (x : Event). IsAccepted old next x entry.reply) same accepted)
+        (fresh_rows (world_of f.core) f.numbers rows) refl linked
+
+    pub links_on : IsCarriedOn w entry f g → HaveSameLinks next g.core g.numbers
+    links_on = links_by_install (installs_of entry.event) refl
+
 -- ---- one after another
 
 -- Those in front were carried over. The fresh core stands beside the old one as that was after them, and what is left came then.
@@ -164,29 +206,34 @@ pub record HaveComeOver (k : Flags) (w : World) (core : State) (front left : Lis
   pub log : new.log ≡ old.log ++ shown w.classes.rows front
   pub grown : HasAccepted new (shown w.classes.rows left ++ later) core
   pub beside : IsBeside k new g.core g.numbers
+  pub links : HaveSameLinks new g.core g.numbers
 
 module _ (k : Flags) (w : World) (core : State) (left : List Entry) (later : List (Event × Reply)) where
   abbrev rows : List Class
   rows = w.classes.rows
 
   pub all_on : (front : List Entry) (old : State) (f g : Fresh) → are_told rows (front ++ left) ≡ true
-      → HasAccepted old (shown rows (front ++ left) ++ later) core → IsBeside k old f.core f.numbers → AreCarried w front f g
+      → HasAccepted old (shown rows (front ++ left) ++ later) core → IsBeside k old f.core f.numbers
+      → HaveSameLinks old f.core f.numbers → AreCarried w front f g
       → HaveComeOver k w core front left later old g
-  all_on [] old f g all grown beside same = record {
+  all_on [] old f g all grown beside links same = record {
     new = old;
     log = sym (append-nil old.log);
     grown = grown;
     beside = subst (λ (h : Fresh). IsBeside k old h.core h.numbers) (sym same) beside;
+    links = subst (λ (h : Fresh). HaveSameLinks old h.core h.numbers) (sym same) links;
   }
-  all_on (entry ∷ front) old f g all grown beside carries =
+  all_on (entry ∷ front) old f g all grown beside links carries =
       let parts = first_told rows entry (front ++ left) all in
       let value = some_value (told rows entry) parts.0 in
       let x = value.0 in
       let e = inv_map (λ (e : Event). (e, entry.reply)) (event_of rows entry.event) x value.1 in
       let next = subst (λ (xs : List (Event × Reply)). HasAccepted old (xs ++ later) core) (shown_first rows entry (front ++ left) x value.1) grown in
-      let one = one_on k w entry e.0 e.1 old next.0 (subst (λ (p : Event × Reply). IsAccepted old next.0 p.0 p.1) (sym e.2) next.1)
-      (subst (λ (p : Event × Reply). has_read_file p.0 ≡ true) (sym e.2) next.2) f carries.0 beside carries.1 in
-      let rest = all_on front next.0 carries.0 g parts.1 next.3 one carries.2 in
+      let accepted = subst (λ (p : Event × Reply). IsAccepted old next.0 p.0 p.1) (sym e.2) next.1 in
+      let read = subst (λ (p : Event × Reply). has_read_file p.0 ≡ true) (sym e.2) next.2 in
+      let one = one_on k w entry e.0 e.1 old next.0 accepted read f carries.0 beside carries.1 in
+      let still = links_on k w entry e.0 e.1 old next.0 accepted read f carries.0 beside links carries.1 in
+      let rest = all_on front next.0 carries.0 g parts.1 next.3 one still carries.2 in
       record {
         new = rest.new;
         log = rest.log ∙ (ap (λ (s : State). s.log ++ shown rows front) next.1.logged
@@ -194,4 +241,5 @@ module _ (k : Flags) (w : World) (core : State) (left : List Entry) (later : Lis
             ∙ ap (λ (log : List (Event × Reply)). old.log ++ log) (sym (shown_first rows entry front x value.1))));
         grown = rest.grown;
         beside = rest.beside;
+        links = rest.links;
       }

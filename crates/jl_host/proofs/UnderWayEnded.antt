@@ -15,7 +15,7 @@ use Rattle.jl_renewal.specs.declared.entries.CarryFault.{CarryFault}
 use Rattle.jl_renewal.specs.declared.entries.CarryFault.TheVariants.{Gone, Refused}
 use Rattle.jl_renewal.specs.declared.released.Released.{Released}
 use Rattle.jl_renewal.specs.Numbers.{Numbers}
-use Rattle.jl_renewal.specs.Moved.{flags_of, IsBeside}
+use Rattle.jl_renewal.specs.Moved.{flags_of, IsBeside, HaveSameLinks}
 use Rattle.jl_host.specs.declared.told.Told.{Told}
 use Rattle.jl_host.specs.Numbers.{done, malformed, too_short, status_of_refusal}
 use Rattle.jl_host.specs.Linkers.{Opened, opened_over}
@@ -186,7 +186,7 @@ module _ (begun : State) (released : Released) (core : State) (old : Renewing) (
 
     abbrev IsHanded : Type 0
     IsHanded = (numbers : Numbers) × IsBeside (flags_of (world_of begun) released) core opened.session.core numbers
-        × (after ≡ with_numbers numbers before)
+        × HaveSameLinks core opened.session.core numbers × (after ≡ with_numbers numbers before)
 
     under_way : IsUnderWay begun released core filled
     under_way = filled_all filling filled finished.2
@@ -240,6 +240,9 @@ module _ (begun : State) (released : Released) (core : State) (old : Renewing) (
                 (subst (λ (s : State). IsBeside (flags_of (world_of begun) released) second.old s made.numbers) core_is
                 (subst (λ (n : Numbers). IsBeside (flags_of (world_of begun) released) second.old second.made.core n) (by_noted second second.noted)
                 second.beside)),
+            subst (λ (s : State). HaveSameLinks s opened.session.core made.numbers) (sym ended)
+                (subst (λ (s : State). HaveSameLinks second.old s made.numbers) core_is
+                (subst (λ (n : Numbers). HaveSameLinks second.old second.made.core n) (by_noted second second.noted) second.links)),
             written,
           )
 

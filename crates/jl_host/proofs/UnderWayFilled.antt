@@ -16,7 +16,7 @@ use Rattle.jl_renewal.specs.declared.released.Released.{Released}
 use Rattle.jl_renewal.specs.Numbers.{Numbers}
 use Rattle.jl_renewal.specs.Carries.{carried_event, with_made, IsAdded}
 use Rattle.jl_renewal.specs.Renewal.{fresh_rows}
-use Rattle.jl_renewal.specs.Moved.{flags_of, IsBeside}
+use Rattle.jl_renewal.specs.Moved.{flags_of, IsBeside, HaveSameLinks}
 use Rattle.jl_host.specs.declared.told.Told.{Told}
 use Rattle.jl_host.specs.Renewing.{Fresh, Renewing, installs_of, IsLinked, IsCarriedOn, AreCarried, IsUnlinked, StopsBefore}
 use Rattle.jl_host.specs.Renewing.{AreAllCarried, HasStopped, IsFilledOn, IsFilled}
@@ -62,7 +62,8 @@ module _ (begun : State) (released : Released) (core : State) (renewing : Renewi
     come_over =
         all_on (flags_of (world_of begun) released) renewing.defined core left way.later front second.old second.made g told_split
         (subst (λ (xs : List Entry). HasAccepted second.old (shown rows xs ++ way.later) core) split second.grown)
-        (subst (λ (n : Numbers). IsBeside (flags_of (world_of begun) released) second.old second.made.core n) (sym same) second.beside) carried
+        (subst (λ (n : Numbers). IsBeside (flags_of (world_of begun) released) second.old second.made.core n) (sym same) second.beside)
+        (subst (λ (n : Numbers). HaveSameLinks second.old second.made.core n) (sym same) second.links) carried
 
     clean_under_way : IsUnderWay begun released core (with_fresh h left)
     clean_under_way = record {
@@ -92,6 +93,7 @@ module _ (begun : State) (released : Released) (core : State) (renewing : Renewi
         numbers = g.numbers;
         beside =
             subst (λ (c : State). IsBeside (flags_of (world_of begun) released) come_over.new c g.numbers) (sym core_same) come_over.beside;
+        links = subst (λ (c : State). HaveSameLinks come_over.new c g.numbers) (sym core_same) come_over.links;
         noted = noted;
       });
     }
@@ -132,6 +134,7 @@ module _ (begun : State) (released : Released) (core : State) (renewing : Renewi
             numbers = second.numbers;
             beside =
                 subst (λ (c : State). IsBeside (flags_of (world_of begun) released) second.old c second.numbers) (sym core_same) second.beside;
+            links = subst (λ (c : State). HaveSameLinks second.old c second.numbers) (sym core_same) second.links;
             noted = inr (record {
               entry = held.entry;
               others = held.others;

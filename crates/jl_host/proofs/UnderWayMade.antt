@@ -10,22 +10,25 @@ use Rattle.jl_types.specs.Values.World.{Class}
 use Rattle.jl_types.specs.Events.Event.{Event}
 use Rattle.jl_types.specs.Events.History.{world_after}
 use Rattle.jl_relink.specs.Laws.{AreAccepted}
-use Rattle.jl_core.specs.State.{State, events, world_of}
+use Rattle.jl_types.specs.declared.link.Link.{Link}
+use Rattle.jl_core.specs.State.{State, empty_core, events, world_of, links_of}
 use Rattle.jl_core.specs.Logs.{Entry, are_told, shown}
 use Rattle.jl_core.proofs.LogLaws.{all_still, length_told}
 use Rattle.jl_renewal.specs.declared.released.Released.{Released}
 use Rattle.jl_renewal.specs.Numbers.{Numbers}
 use Rattle.jl_renewal.specs.Staying.{numbers_of}
 use Rattle.jl_renewal.specs.Renewed.{renewed}
-use Rattle.jl_renewal.specs.Renewal.{class_event, new_loaders, site_events, renewal}
+use Rattle.jl_renewal.specs.Renewal.{class_event, new_loaders, site_events, renewal, renewal_by, fresh_rows, IsRefilled}
 use Rattle.jl_renewal.specs.Told.{told_renewal}
-use Rattle.jl_renewal.specs.Moved.{flags_of, IsBeside}
+use Rattle.jl_renewal.specs.Adds.{Installs}
+use Rattle.jl_renewal.specs.Moved.{flags_of, IsBeside, HaveSameLinks}
 use Rattle.jl_renewal.proofs.LinkLaws.{same_world}
-use Rattle.jl_renewal.proofs.ComeOver.{renewal_world}
+use Rattle.jl_renewal.proofs.ComeOver.{renewal_world, links_are_refilled}
 use Rattle.jl_renewal.proofs.RenewalLaws.{told_are_events}
 use Rattle.jl_renewal.proofs.MovedBeside.{beside_first}
 use Rattle.jl_host.specs.Renewing.{Fresh, Renewing, IsMade, IsReadyFrom, IsReady}
 use Rattle.jl_host.specs.UnderWay.{HasAccepted, start_of, IsGathering, IsUnderWay}
+use Rattle.jl_host.proofs.UnderWayLinks.{listed_links}
 use Rattle.jl_host.proofs.UnderWayLists.{same_fronts, got_of_take, both_told, shown_both, told_each, log_grows, classes_grow}
 
 -- ---- the fresh core
@@ -54,6 +57,21 @@ module _ (begun : State) (released : Released) (max_sites : ℕ) (past : List En
   beside_made =
       beside_first begun made.core released made.numbers accepted
       (subst (λ (m : ℕ). begun.max_sites ≤ m) (sym (is_made.linked.adds.limit ∙ is_made.refilled.adds.limit)) limit) its_world is_made.refilled.numbers
+
+  refilled : IsRefilled (world_of begun) past released made.numbers (empty_core max_sites) is_made.between
+  refilled = record {
+    numbers = is_made.refilled.numbers;
+    limit = is_made.refilled.adds.limit;
+    events = between_events
+        ∙ ap (λ (log : List (Event × Reply)). renewal_by (world_of begun) numbers (map (λ (x : Event × Reply). x.0) log)) (sym logged);
+    world = ap world_after between_events ∙ renewal_world begun released accepted;
+  }
+
+  pub links_made : HaveSameLinks begun made.core made.numbers
+  links_made =
+      links_are_refilled begun released accepted (empty_core max_sites) is_made.between made.core past made.numbers refilled
+      (subst (λ (rows : List (ℕ × Link)). Installs (fresh_rows (world_of is_made.between) made.numbers rows) is_made.between made.core)
+      (listed_links begun accepted) is_made.linked)
 
 -- ---- of what was gathered
 
@@ -127,6 +145,7 @@ module _ (begun : State) (released : Released) (core : State) (renewing : Renewi
       numbers = made.numbers;
       beside =
           beside_made begun released renewing.max_sites past made first.accepted first.limit (sym same_past ∙ both_fronts.0) is_made;
+      links = links_made begun released renewing.max_sites past made first.accepted first.limit (sym same_past ∙ both_fronts.0) is_made;
       noted = inl refl;
     });
   }

@@ -156,6 +156,7 @@ module _ (begun : State) (released : Released) (core after : State) (e : Event) 
         fresh = second.fresh;
         numbers = second.numbers;
         beside = second.beside;
+        links = second.links;
         noted = second.noted;
       })
     ];
@@ -357,6 +358,7 @@ module _ (begun : State) (released : Released) (core : State) (most : ℕ) (old 
     fresh = taking.2.fresh ∙ second.fresh;
     numbers = second.numbers;
     beside = second.beside;
+    links = second.links;
     noted = elim second.noted [ inl same ↦ inl same | inr held ↦ inr (held_next second.numbers second.made.numbers held) ];
   }
 

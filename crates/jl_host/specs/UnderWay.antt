@@ -11,7 +11,7 @@ use Rattle.jl_core.specs.Logs.{Entry, told, are_told, shown}
 use Rattle.jl_renewal.specs.declared.released.Released.{Released}
 use Rattle.jl_renewal.specs.Numbers.{Numbers}
 use Rattle.jl_renewal.specs.Carries.{carried_event, with_made}
-use Rattle.jl_renewal.specs.Moved.{flags_of, IsBeside}
+use Rattle.jl_renewal.specs.Moved.{flags_of, IsBeside, HaveSameLinks}
 use Rattle.jl_host.specs.Seats.{seen_of}
 use Rattle.jl_host.specs.Renewing.{Start, Fresh, Renewing, installs_of}
 
@@ -73,7 +73,7 @@ pub record IsHeldUp (renewing : Renewing) (n m : Numbers) : Type 0 where
   pub gone : carried_event renewing.defined n entry ≡ None
   pub noted : m ≡ with_made n entry.reply.made None
 
--- The fresh core stands beside the old one as that was when it had what was carried over. What is left came after it.
+-- The fresh core stands beside the old one as that was when it had what was carried over, and has its links. What is left came after it.
 pub record HasFresh (begun : State) (released : Released) (core : State) (had left : List (Event × Reply)) (renewing : Renewing) : Type 0 where
   pub old : State
   pub log : old.log ≡ had
@@ -83,6 +83,7 @@ pub record HasFresh (begun : State) (released : Released) (core : State) (had le
   pub fresh : renewing.fresh ≡ Some made
   pub numbers : Numbers
   pub beside : IsBeside (flags_of (world_of begun) released) old made.core numbers
+  pub links : HaveSameLinks old made.core numbers
   pub noted : (made.numbers ≡ numbers) ⊎ IsHeldUp renewing numbers made.numbers
 
 -- ---- at any time

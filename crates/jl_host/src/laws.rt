@@ -13,7 +13,7 @@ ghost use Rattle.jl_relink.specs.Laws.{AreAccepted, has_read_file};
 ghost use Rattle.jl_core.specs.State.{State, events, world_of, IsAccepted};
 ghost use Rattle.jl_renewal.specs.declared.released.Released.{Released};
 ghost use Rattle.jl_renewal.specs.Numbers.{Numbers};
-ghost use Rattle.jl_renewal.specs.Moved.{flags_of, IsBeside};
+ghost use Rattle.jl_renewal.specs.Moved.{flags_of, IsBeside, HaveSameLinks};
 ghost use Rattle.jl_host.specs.declared.reading.LinkRow.{LinkRow};
 ghost use Rattle.jl_host.specs.declared.shown.LinkShown.{LinkShown};
 ghost use Rattle.jl_host.specs.declared.told.Told.{Told};
@@ -84,5 +84,5 @@ pub fn renewals_in_steps_stay_beside()
         (new : Option Renewing) (opened : Opened) → IsUnderWay begun released core old → length core.log < 2 ^ 64
         → IsFinished core old before status told new (Some opened) after
         → (numbers : Numbers) × IsBeside (flags_of (world_of begun) released) core opened.session.core numbers
-        × (after ≡ with_numbers numbers before) }
+        × HaveSameLinks core opened.session.core numbers × (after ≡ with_numbers numbers before) }
 {}

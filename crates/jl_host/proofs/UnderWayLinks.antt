@@ -1,0 +1,60 @@
+-- What is listed of the links that were installed at the begin are the links of the core.
+use Rattle.std.specs.Prelude.{◌≡◌, ◌+◌, ◌*◌, ◌/◌, ◌<◌, ◌≤◌, ℕ, zero, suc, List, [], ◌∷◌, ◌++◌, filter_map, length, Option, option_map, option_and_then}
+use Rattle.std.specs.Prelude.{Result, Ok, Err, IsOk}
+use Rattle.std.specs.List.{range_with_len, cons_option}
+use Rattle.std.proofs.Common.{refl, sym, ap, subst, ◌∙◌, arith, append_assoc}
+use Rattle.std.proofs.lemmas.List.{append-nil}
+use Rattle.jl_types.specs.declared.event.Made.{Made}
+use Rattle.jl_types.specs.declared.link.Link.{Link}
+use Rattle.jl_types.specs.declared.refusal.Refusal.{Refusal}
+use Rattle.jl_types.specs.Values.World.{World}
+use Rattle.jl_types.specs.Events.Event.{Event}
+use Rattle.jl_types.specs.Events.Verdict.{verdict}
+use Rattle.jl_types.specs.Events.History.{world_after, installed}
+use Rattle.jl_types.proofs.Places.{world_more, limit_step}
+use Rattle.jl_relink.specs.Laws.{AreAccepted}
+use Rattle.jl_core.specs.State.{State, events, world_of, links_of}
+use Rattle.jl_renewal.proofs.MovedLaw.{next_accepted}
+use Rattle.jl_renewal.proofs.MovedNumbers.{mapped}
+use Rattle.jl_host.specs.Seats.{room_for, seen_of}
+use Rattle.jl_host.specs.Renewing.{row_at, listed}
+
+-- ---- no more places are requested than may be
+
+given : (r : Result Made Refusal) → IsOk r → (made : Made) × (r ≡ Ok made)
+given (Ok made) ok = (made, refl)
+given (Err refusal) ok = cc
+
+places_within : (max_sites : ℕ) (front rest : List Event) → AreAccepted max_sites (front ++ rest) → length (world_after front).places ≤ max_sites
+    → length (world_after (front ++ rest)).places ≤ max_sites
+places_within max_sites front [] accepted few =
+    subst (λ (h : List Event). length (world_after h).places ≤ max_sites) (sym (append-nil front)) few
+places_within max_sites front (e ∷ rest) accepted few =
+    let made = given (verdict max_sites (world_after front) e) (next_accepted max_sites front e rest accepted) in
+    subst (λ (h : List Event). length (world_after h).places ≤ max_sites) (append_assoc front (e ∷ []) rest)
+    (places_within max_sites (front ++ e ∷ []) rest (subst (AreAccepted max_sites) (sym (append_assoc front (e ∷ []) rest)) accepted)
+    (subst (λ (w : World). length w.places ≤ max_sites) (sym (world_more front e)) (limit_step max_sites (world_after front) e made.0 made.1 few)))
+
+-- ---- what is listed
+
+same_listed : {B : Type 0} (f g : ℕ → Option B) (most a n : ℕ) → a + n ≤ most → ((s : ℕ) → s < most → f s ≡ g s)
+    → filter_map f (range_with_len a n) ≡ filter_map g (range_with_len a n)
+same_listed f g most a zero le same = refl
+same_listed f g most a (suc n) le same =
+    let first = same a (omega (arith, le)) in
+    let rest = same_listed f g most (a + 1) n (omega (arith, le)) same in
+    λ i. cons_option (first i) (rest i)
+
+room : (places max_sites : ℕ) → places ≤ max_sites → places ≤ room_for max_sites
+room places max_sites le = omega arith
+
+pub listed_links : (begun : State) → AreAccepted begun.max_sites (events begun)
+    → listed (seen_of begun).links (length (world_of begun).places) ≡ links_of begun
+listed_links begun accepted =
+    same_listed (row_at (seen_of begun).links) (λ s. option_map (λ (l : Link). (s, l)) (installed (events begun) s))
+    (length (world_of begun).places) 0 (length (world_of begun).places) (omega arith) (λ s lt.
+    let few = room (length (world_of begun).places) begun.max_sites (places_within begun.max_sites [] (events begun) accepted (omega arith)) in
+    let at : 0 + s ≡ s = omega arith in
+    ap (λ (o : Option (Option Link)). option_map (λ (l : Link). (s, l)) (option_and_then (λ slot. slot) o))
+    (mapped (installed (events begun)) 0 (room_for begun.max_sites) s (omega (arith, lt, few)))
+    ∙ ap (λ (t : ℕ). option_map (λ (l : Link). (s, l)) (installed (events begun) t)) at)
