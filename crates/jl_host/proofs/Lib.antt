@@ -20,6 +20,7 @@ pub mod UnderWayTaken
 pub mod UnderWayCarried
 pub mod UnderWayMade
 pub mod UnderWayFilled
+pub mod UnderWayWhy
 pub mod UnderWayEnded
 -- threads, and worked rows
 pub mod Crossing

@@ -119,7 +119,7 @@ noted_twice n (made.Switch p) = ap (λ (xs : List (Option ℕ)). record n { swit
 
 -- ---- one entry
 
-installs_told : (rows : List Class) (a : Accepted) (links : List (ℕ × Link)) → installs_of a ≡ Some links → event_of rows a ≡ Some (event.Install links)
+pub installs_told : (rows : List Class) (a : Accepted) (links : List (ℕ × Link)) → installs_of a ≡ Some links → event_of rows a ≡ Some (event.Install links)
 installs_told rows event.NewLoader links is = cc
 installs_told rows (event.Define loader c) links is = cc
 installs_told rows (event.Delegate loader name to) links is = cc

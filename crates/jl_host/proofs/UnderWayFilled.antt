@@ -58,7 +58,7 @@ module _ (begun : State) (released : Released) (core : State) (renewing : Renewi
     told_split : are_told rows (front ++ left) ≡ true
     told_split = ap (are_told rows) (sym split) ∙ way.all_told
 
-    come_over : HaveComeOver (flags_of (world_of begun) released) renewing.defined core front left way.later second.old g
+    pub come_over : HaveComeOver (flags_of (world_of begun) released) renewing.defined core front left way.later second.old g
     come_over =
         all_on (flags_of (world_of begun) released) renewing.defined core left way.later front second.old second.made g told_split
         (subst (λ (xs : List Entry). HasAccepted second.old (shown rows xs ++ way.later) core) split second.grown)
@@ -105,7 +105,7 @@ module _ (begun : State) (released : Released) (core : State) (renewing : Renewi
 
   module _ (held : IsHeldUp renewing second.numbers second.made.numbers) where
     -- none was carried over
-    held_front : (front left : List Entry) (g : Fresh) → renewing.waiting ≡ front ++ left → AreCarried renewing.defined front second.made g
+    pub held_front : (front left : List Entry) (g : Fresh) → renewing.waiting ≡ front ++ left → AreCarried renewing.defined front second.made g
         → (g ≡ second.made) × (left ≡ renewing.waiting)
     held_front [] left g split carried = (carried, sym split)
     held_front (entry ∷ front) left g split carried =

@@ -1,5 +1,5 @@
 -- A renewal in steps that is under way, beside the one linker of which it was begun.
-use Rattle.std.specs.Prelude.{◌≡◌, ◌⊎◌, ◌+◌, ◌<◌, ◌≤◌, ℕ, true, ⊤, slice_get, List, [], ◌∷◌, ◌++◌, length, Some, None, is_some}
+use Rattle.std.specs.Prelude.{◌≡◌, ◌⊎◌, ◌+◌, ◌-◌, ◌<◌, ◌≤◌, ℕ, true, ⊤, slice_get, List, [], ◌∷◌, ◌++◌, length, Some, None, is_some}
 use Rattle.jl_types.specs.declared.event.EventOf.TheVariants as event
 use Rattle.jl_types.specs.declared.event.Reply.{Reply}
 use Rattle.jl_types.specs.Events.Event.{Event}
@@ -11,7 +11,9 @@ use Rattle.jl_core.specs.Logs.{Entry, told, are_told, shown}
 use Rattle.jl_renewal.specs.declared.released.Released.{Released}
 use Rattle.jl_renewal.specs.Numbers.{Numbers}
 use Rattle.jl_renewal.specs.Carries.{carried_event, with_made}
-use Rattle.jl_renewal.specs.Moved.{flags_of, IsBeside, HaveSameLinks}
+use Rattle.jl_renewal.specs.Moved.{flags_of, may_be_gone, IsBeside, HaveSameLinks}
+use Rattle.jl_host.specs.Numbers.{done, memory}
+use Rattle.jl_host.specs.Numbers as host
 use Rattle.jl_host.specs.Seats.{seen_of}
 use Rattle.jl_host.specs.Renewing.{Start, Fresh, Renewing, installs_of}
 
@@ -101,3 +103,15 @@ pub record IsUnderWay (begun : State) (released : Released) (core : State) (rene
   pub classes : AreAmong renewing.defined.classes.rows (world_of core).classes.rows
   pub phase : IsGathering begun released core had renewing
       ⊎ HasFresh begun released core had (shown renewing.defined.classes.rows renewing.waiting ++ later) renewing
+
+-- ---- what a fill answers
+
+-- After what was carried over the core has accepted an event that may name what is gone.
+abbrev pub MayNameGone : State → Renewing → Type 0
+MayNameGone core renewing = (e : Event) × (reply : Reply)
+    × (slice_get core.log (renewing.taken - length renewing.waiting) ≡ Some (e, reply)) × (may_be_gone e ≡ true)
+
+-- done; want of memory; or that the next event names what was released
+abbrev pub IsFillAnswer : State → Renewing → ℕ → Type 0
+IsFillAnswer core renewing status =
+    (status ≡ done) ⊎ ((status ≡ memory) ⊎ ((status ≡ host.released) × MayNameGone core renewing))

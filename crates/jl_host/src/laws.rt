@@ -1,6 +1,6 @@
 //! The laws of links and targets as numbers, and of a renewal in steps: each is the contract of a function that does nothing.
 
-ghost use Rattle.std.specs.Prelude.{◌≡◌, ◌≤◌, ◌<◌, ◌^◌, ◌⊎◌, ℕ, true, length, List, Option, Some, Ok, Err};
+ghost use Rattle.std.specs.Prelude.{◌≡◌, ◌≤◌, ◌<◌, ◌^◌, ◌⊎◌, ℕ, true, length, List, Option, Some, None, Ok, Err};
 ghost use Rattle.jl_types.specs.declared.answer.Missing.{Missing};
 ghost use Rattle.jl_types.specs.declared.answer.Unlinked.TheVariants.{NotReady};
 ghost use Rattle.jl_types.specs.declared.link.Link.{Link};
@@ -30,7 +30,7 @@ ghost use Rattle.jl_host.specs.Linkers.{Opened};
 ghost use Rattle.jl_host.specs.Views.{given, IsViewPrepare, IsInstallLinks};
 ghost use Rattle.jl_host.specs.Renewals.{Arrays, with_numbers};
 ghost use Rattle.jl_host.specs.Renewing.{Renewing, begun_in, IsTakenFrom, IsFilled, IsFinished};
-ghost use Rattle.jl_host.specs.UnderWay.{IsOfNewFile, IsUnderWay};
+ghost use Rattle.jl_host.specs.UnderWay.{IsOfNewFile, IsUnderWay, IsFillAnswer};
 
 /// What is shown of a link is read as that link, where it has at most eight rows and each method that it runs is among the first 2^16
 /// of its class, as those of a class file are (JVMS SE 17 §4.1).
@@ -77,6 +77,8 @@ pub fn renewals_in_steps_stay_beside()
         → IsTakenFrom most core old new → IsUnderWay begun released core new }
     ensures filled { (begun core : State) (released : Released) (old new : Renewing) (status : ℕ) (told : Told) → IsUnderWay begun released core old
         → IsFilled old status told new → IsUnderWay begun released core new }
+    ensures why { (begun core : State) (released : Released) (old new : Renewing) (status : ℕ) (told : Told) → IsUnderWay begun released core old
+        → old.start ≡ None → IsFilled old status told new → IsFillAnswer core new status }
     ensures kept { (begun core : State) (released : Released) (old new : Renewing) (before after : Arrays) (status : ℕ) (told : Told)
         (fresh : Option Opened) → IsUnderWay begun released core old → IsFinished core old before status told (Some new) fresh after
         → IsUnderWay begun released core new }

@@ -1,5 +1,6 @@
 use Rattle.jl_host.proofs.UnderWayTaken.{begun_under_way, later_under_way, taken_under_way}
 use Rattle.jl_host.proofs.UnderWayFilled.{filled_under_way}
+use Rattle.jl_host.proofs.UnderWayWhy.{why_answered}
 use Rattle.jl_host.proofs.UnderWayEnded.{kept_under_way, handed_over}
 use Rattle.jl_host.proofs.laws.renewals_in_steps_stay_beside.Goals as goal
 
@@ -15,6 +16,9 @@ returns-clause-taken c begun core released old new most way taking = taken_under
 
 pub returns-clause-filled : goal.returns-clause-filled
 returns-clause-filled c begun core released old new status told = filled_under_way begun released core old new status told
+
+pub returns-clause-why : goal.returns-clause-why
+returns-clause-why c begun core released old new status told = why_answered begun released core old new status told
 
 pub returns-clause-kept : goal.returns-clause-kept
 returns-clause-kept c begun core released old new before after status told fresh way finished =
