@@ -200,6 +200,10 @@ module _ (k : Flags) (w : World) (entry : Entry) (e : Event) (named : event_of w
 
 -- ---- one after another
 
+with_first : {A : Type 0} (new next old front all : List A) (x : A) → new ≡ next ++ front → next ≡ old ++ x ∷ [] → all ≡ x ∷ front → new ≡ old ++ all
+with_first new next old front all x later one is =
+    later ∙ (ap (λ xs. xs ++ front) one ∙ (append_assoc old (x ∷ []) front ∙ ap (λ xs. old ++ xs) (sym is)))
+
 -- Those in front were carried over. The fresh core stands beside the old one as that was after them, and what is left came then.
 pub record HaveComeOver (k : Flags) (w : World) (core : State) (front left : List Entry) (later : List (Event × Reply)) (old : State) (g : Fresh) : Type 0 where
   pub new : State
@@ -236,9 +240,9 @@ module _ (k : Flags) (w : World) (core : State) (left : List Entry) (later : Lis
       let rest = all_on front next.0 carries.0 g parts.1 next.3 one still carries.2 in
       record {
         new = rest.new;
-        log = rest.log ∙ (ap (λ (s : State). s.log ++ shown rows front) next.1.logged
-            ∙ (append_assoc old.log (x ∷ []) (shown rows front)
-            ∙ ap (λ (log : List (Event × Reply)). old.log ++ log) (sym (shown_first rows entry front x value.1))));
+        log =
+            with_first rest.new.log next.0.log old.log (shown rows front) (shown rows (entry ∷ front)) x rest.log
+            (ap (λ (s : State). s.log) next.1.logged) (shown_first rows entry front x value.1);
         grown = rest.grown;
         beside = rest.beside;
         links = rest.links;

@@ -20,8 +20,8 @@ use Rattle.jl_host.specs.declared.told.Told.{Told}
 use Rattle.jl_host.specs.Numbers.{done, malformed, too_short, status_of_refusal}
 use Rattle.jl_host.specs.Linkers.{Opened, opened_over}
 use Rattle.jl_host.specs.Renewals.{Arrays, have_room, counts_in, with_numbers}
-use Rattle.jl_host.specs.Renewing.{Start, Fresh, Renewing, IsMade, AreCarried, IsReadyFrom, IsReady, IsTakenFrom, IsToldOf, IsFilledOn, IsFilled, all_that_are_left}
-use Rattle.jl_host.specs.Renewing.{IsFilledAll, IsKept, IsHandedOver, IsFinished}
+use Rattle.jl_host.specs.Renewing.{Start, Fresh, Renewing, IsMade, AreCarried, IsReadyFrom, IsReady, IsTakenFrom, IsToldOf, IsFilledOn, IsFilled}
+use Rattle.jl_host.specs.Renewing.{all_that_are_left, IsFilledAll, IsKept, IsHandedOver, IsFinished}
 use Rattle.jl_host.specs.UnderWay.{HasAccepted, IsHeldUp, HasFresh, IsUnderWay}
 use Rattle.jl_host.proofs.UnderWayLists.{none_behind}
 use Rattle.jl_host.proofs.UnderWayTaken.{parts_length, taken_under_way}
@@ -144,7 +144,8 @@ module _ (begun : State) (released : Released) (core : State) (old : Renewing) (
 
     kept_as_filled : Some next ≡ Some kept_from → IsUnderWay begun released core next
     kept_as_filled same =
-        subst (λ (renewing : Renewing). IsUnderWay begun released core renewing) (sym (same_Some next kept_from same)) (filled_all kept_why kept_from finished.2)
+        subst (λ (renewing : Renewing). IsUnderWay begun released core renewing) (sym (same_Some next kept_from same))
+        (filled_all kept_why kept_from finished.2)
 
     kept_by_room : (made : Fresh) (b : Bool)
         → MatchBool b

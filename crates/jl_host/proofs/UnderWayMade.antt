@@ -11,7 +11,7 @@ use Rattle.jl_types.specs.Events.Event.{Event}
 use Rattle.jl_types.specs.Events.History.{world_after}
 use Rattle.jl_relink.specs.Laws.{AreAccepted}
 use Rattle.jl_types.specs.declared.link.Link.{Link}
-use Rattle.jl_core.specs.State.{State, empty_core, events, world_of, links_of}
+use Rattle.jl_core.specs.State.{State, empty_core, events, world_of}
 use Rattle.jl_core.specs.Logs.{Entry, are_told, shown}
 use Rattle.jl_core.proofs.LogLaws.{all_still, length_told}
 use Rattle.jl_renewal.specs.declared.released.Released.{Released}

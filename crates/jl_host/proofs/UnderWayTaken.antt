@@ -117,7 +117,8 @@ module _ (begun : State) (released : Released) (core after : State) (e : Event) 
   then_after : AreToldThen begun core → IsOfNewFile (events begun) e → AreToldThen begun after
   then_after all new a x n at is =
       all a x n at
-      (told_before (world_of core) e (events begun) new a x n at (ap (λ (w : World). event_of w.classes.rows a) (sym (world_next core after e reply accepted)) ∙ is))
+      (told_before (world_of core) e (events begun) new a x n at
+      (ap (λ (w : World). event_of w.classes.rows a) (sym (world_next core after e reply accepted)) ∙ is))
 
   all_then_after : (length begun.log ≤ renewing.taken) ⊎ AreToldThen begun core → (length begun.log ≤ renewing.taken) ⊎ IsOfNewFile (events begun) e
       → (length begun.log ≤ renewing.taken) ⊎ AreToldThen begun after
@@ -240,7 +241,11 @@ module _ (begun : State) (released : Released) (core : State) (most : ℕ) (old 
   all_entries = sym (length_told now entries taking.1.0) ∙ ap length taking.1.1
 
   front_length : length (take old.taken entries) ≡ old.taken
-  front_length = length-take-le old.taken entries (let e = all_entries in let f = parts_length begun released core old way in let g = way.taken in omega (arith, e, f, g))
+  front_length =
+      let e = all_entries in
+      let f = parts_length begun released core old way in
+      let g = way.taken in
+      length-take-le old.taken entries (omega (arith, e, f, g))
 
   -- ---- what is left
 

@@ -1,12 +1,10 @@
 -- Why a fill that has its fresh core stops.
-use Rattle.std.specs.Prelude.{◌≡◌, ◌⊎◌, ◌+◌, ◌-◌, ℕ, true, is_ok, IsOk, Result, slice_get, List, [], ◌∷◌, ◌++◌, length, Option, Some, None, MatchOption}
+use Rattle.std.specs.Prelude.{◌≡◌, ◌-◌, ℕ, true, is_ok, IsOk, slice_get, List, ◌∷◌, ◌++◌, length, Option, Some, None, MatchOption}
 use Rattle.std.proofs.Common.{refl, sym, ap, subst, ◌∙◌, arith, inl, inr, length-append}
 use Rattle.std.proofs.lemmas.Option.{MatchOption-at_none, same_Some, none-some}
 use Rattle.jl_types.specs.declared.event.EventOf.TheVariants as event
 use Rattle.jl_types.specs.declared.event.Reply.{Reply}
 use Rattle.jl_types.specs.declared.link.Link.{Link}
-use Rattle.jl_types.specs.declared.refusal.Refusal.{Refusal}
-use Rattle.jl_types.specs.declared.refusal.Refusal.TheVariants.{Memory}
 use Rattle.jl_types.specs.Values.World.{World, Class}
 use Rattle.jl_types.specs.Events.Event.{Event}
 use Rattle.jl_types.specs.Events.Verdict.{verdict}
@@ -22,7 +20,7 @@ use Rattle.jl_renewal.specs.declared.released.Released.{Released}
 use Rattle.jl_renewal.specs.Numbers.{Numbers}
 use Rattle.jl_renewal.specs.Renewal.{fresh_rows}
 use Rattle.jl_renewal.specs.Carries.{carried_event, IsUncarried}
-use Rattle.jl_renewal.specs.Moved.{Flags, flags_of, may_be_gone, IsBeside, IsFaultBeside}
+use Rattle.jl_renewal.specs.Moved.{Flags, flags_of, IsBeside, IsFaultBeside}
 use Rattle.jl_renewal.proofs.MovedFaults.{fault_beside}
 use Rattle.jl_renewal.proofs.MovedLinks.{install_accepted}
 use Rattle.jl_renewal.proofs.MovedTargets.{inv_map}
@@ -30,10 +28,10 @@ use Rattle.jl_renewal.proofs.StayLaws.{in_middle}
 use Rattle.jl_renewal.proofs.StopLaws.{not_both}
 use Rattle.jl_host.specs.declared.told.Told.{Told}
 use Rattle.jl_host.specs.Numbers.{status_of_refusal}
-use Rattle.jl_host.specs.Renewing.{Fresh, Renewing, installs_of, IsUnlinked, AreCarried, StopsBefore, HasStopped, IsToldOf, IsReadyFrom, IsFilledOn, IsFilled}
-use Rattle.jl_host.specs.UnderWay.{HasAccepted, start_of, IsHeldUp, HasFresh, IsUnderWay, MayNameGone, IsFillAnswer}
-use Rattle.jl_host.proofs.UnderWayLists.{some_value, both_told, first_told, shown_both, shown_first, log_grows}
-use Rattle.jl_host.proofs.UnderWayCarried.{HaveComeOver, gone_still, installs_told, all_on}
+use Rattle.jl_host.specs.Renewing.{Fresh, Renewing, installs_of, IsUnlinked, StopsBefore, IsToldOf, IsReadyFrom, IsFilledOn, IsFilled}
+use Rattle.jl_host.specs.UnderWay.{HasAccepted, start_of, IsHeldUp, HasFresh, IsUnderWay, IsFillAnswer}
+use Rattle.jl_host.proofs.UnderWayLists.{some_value, both_told, first_told, shown_first, log_grows}
+use Rattle.jl_host.proofs.UnderWayCarried.{HaveComeOver, gone_still, installs_told}
 use Rattle.jl_host.proofs.UnderWayFilled.{come_over, held_front}
 
 -- ---- the next entry
