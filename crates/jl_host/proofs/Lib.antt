@@ -19,6 +19,7 @@ pub mod UnderWayLinks
 pub mod UnderWayTaken
 pub mod UnderWayCarried
 pub mod UnderWayMade
+pub mod UnderWayUnmade
 pub mod UnderWayFilled
 pub mod UnderWayWhy
 pub mod UnderWayEnded

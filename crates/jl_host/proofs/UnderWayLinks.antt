@@ -35,6 +35,9 @@ places_within max_sites front (e ∷ rest) accepted few =
     (places_within max_sites (front ++ e ∷ []) rest (subst (AreAccepted max_sites) (sym (append_assoc front (e ∷ []) rest)) accepted)
     (subst (λ (w : World). length w.places ≤ max_sites) (sym (world_more front e)) (limit_step max_sites (world_after front) e made.0 made.1 few)))
 
+pub few_places : (begun : State) → AreAccepted begun.max_sites (events begun) → length (world_of begun).places ≤ begun.max_sites
+few_places begun accepted = places_within begun.max_sites [] (events begun) accepted (omega arith)
+
 -- ---- what is listed
 
 same_listed : {B : Type 0} (f g : ℕ → Option B) (most a n : ℕ) → a + n ≤ most → ((s : ℕ) → s < most → f s ≡ g s)
@@ -53,7 +56,7 @@ pub listed_links : (begun : State) → AreAccepted begun.max_sites (events begun
 listed_links begun accepted =
     same_listed (row_at (seen_of begun).links) (λ s. option_map (λ (l : Link). (s, l)) (installed (events begun) s))
     (length (world_of begun).places) 0 (length (world_of begun).places) (omega arith) (λ s lt.
-    let few = room (length (world_of begun).places) begun.max_sites (places_within begun.max_sites [] (events begun) accepted (omega arith)) in
+    let few = room (length (world_of begun).places) begun.max_sites (few_places begun accepted) in
     let at : 0 + s ≡ s = omega arith in
     ap (λ (o : Option (Option Link)). option_map (λ (l : Link). (s, l)) (option_and_then (λ slot. slot) o))
     (mapped (installed (events begun)) 0 (room_for begun.max_sites) s (omega (arith, lt, few)))

@@ -33,6 +33,15 @@ use Rattle.jl_host.proofs.UnderWayLists.{same_fronts, got_of_take, both_told, sh
 
 -- ---- the fresh core
 
+-- what it is told
+pub told_is : (begun : State) (released : Released) (past : List Entry) → shown (world_of begun).classes.rows past ≡ begun.log
+    → told_renewal (world_of begun) (numbers_of (world_of begun) released) past ≡ renewal begun released
+told_is begun released past logged =
+    let n = numbers_of (world_of begun) released in
+    ap (λ (es : List Event). new_loaders n.loaders ++ (es ++ site_events (world_of begun) n))
+    (told_are_events (world_of begun) n past
+    ∙ ap (λ (log : List (Event × Reply)). filter_map (class_event (world_of begun) n) (map (λ (x : Event × Reply). x.0) log)) logged)
+
 module _ (begun : State) (released : Released) (max_sites : ℕ) (past : List Entry) (made : Fresh) (accepted : AreAccepted begun.max_sites (events begun))
     (limit : begun.max_sites ≤ max_sites) (logged : shown (world_of begun).classes.rows past ≡ begun.log)
     (is_made : IsMade (start_of begun released) past max_sites made) where
@@ -42,10 +51,7 @@ module _ (begun : State) (released : Released) (max_sites : ℕ) (past : List En
   between_events : events is_made.between ≡ renewal begun released
   between_events =
       is_made.refilled.adds.events
-      ∙ ((λ i. told_renewal (world_of begun) (is_made.refilled.numbers i) past)
-      ∙ ap (λ (es : List Event). new_loaders numbers.loaders ++ (es ++ site_events (world_of begun) numbers))
-      (told_are_events (world_of begun) numbers past
-      ∙ ap (λ (log : List (Event × Reply)). filter_map (class_event (world_of begun) numbers) (map (λ (x : Event × Reply). x.0) log)) logged))
+      ∙ ((λ i. told_renewal (world_of begun) (is_made.refilled.numbers i) past) ∙ told_is begun released past logged)
 
   its_world : world_of made.core ≡ renewed (world_of begun) released
   its_world =
@@ -76,8 +82,7 @@ module _ (begun : State) (released : Released) (max_sites : ℕ) (past : List En
 -- ---- of what was gathered
 
 module _ (begun : State) (released : Released) (core : State) (renewing : Renewing) (way : IsUnderWay begun released core renewing)
-    (first : IsGathering begun released core way.had renewing) (made : Fresh) (all : length begun.log ≤ length renewing.waiting)
-    (is_made : IsMade (start_of begun released) (take (length begun.log) renewing.waiting) renewing.max_sites made) where
+    (first : IsGathering begun released core way.had renewing) (all : length begun.log ≤ length renewing.waiting) where
   abbrev past : List Entry
   past = take (length begun.log) renewing.waiting
 
@@ -123,8 +128,12 @@ module _ (begun : State) (released : Released) (core : State) (renewing : Renewi
       ∙ (sym (way.log ∙ ap (λ (log : List (Event × Reply)). log ++ (shown rows renewing.waiting ++ way.later)) first.none)
       ∙ log_grows first.since begun core first.grown)))
 
-  pub made_under_way : IsUnderWay begun released core (record renewing { start = None; fresh = Some made; waiting = rest })
-  made_under_way = record {
+  pub past_logged : shown at_begin past ≡ begun.log
+  past_logged = sym same_past ∙ both_fronts.0
+
+  pub made_under_way : (made : Fresh) → IsMade (start_of begun released) past renewing.max_sites made
+      → IsUnderWay begun released core (record renewing { start = None; fresh = Some made; waiting = rest })
+  made_under_way made is_made = record {
     had = begun.log;
     later = way.later;
     all_told = parts_told.1;
@@ -143,9 +152,8 @@ module _ (begun : State) (released : Released) (core : State) (renewing : Renewi
       made = made;
       fresh = refl;
       numbers = made.numbers;
-      beside =
-          beside_made begun released renewing.max_sites past made first.accepted first.limit (sym same_past ∙ both_fronts.0) is_made;
-      links = links_made begun released renewing.max_sites past made first.accepted first.limit (sym same_past ∙ both_fronts.0) is_made;
+      beside = beside_made begun released renewing.max_sites past made first.accepted first.limit past_logged is_made;
+      links = links_made begun released renewing.max_sites past made first.accepted first.limit past_logged is_made;
       noted = inl refl;
     });
   }
@@ -165,7 +173,7 @@ module _ (begun : State) (released : Released) (core : State) (old new : Renewin
   by_count first false few same = as_before same
   by_count first true all is =
       subst (λ (renewing : Renewing). IsUnderWay begun released core renewing) (sym is.2)
-      (made_under_way begun released core old way first is.0 (leb-true (length begun.log) (length old.waiting) all) is.1)
+      (made_under_way begun released core old way first (leb-true (length begun.log) (length old.waiting) all) is.0 is.1)
 
   pub ready_under_way : IsReady old new → IsUnderWay begun released core new
   ready_under_way is = elim way.phase [

@@ -28,10 +28,11 @@ use Rattle.jl_renewal.proofs.StayLaws.{in_middle}
 use Rattle.jl_renewal.proofs.StopLaws.{not_both}
 use Rattle.jl_host.specs.declared.told.Told.{Told}
 use Rattle.jl_host.specs.Numbers.{status_of_refusal}
-use Rattle.jl_host.specs.Renewing.{Fresh, Renewing, installs_of, IsUnlinked, StopsBefore, IsToldOf, IsReadyFrom, IsFilledOn, IsFilled}
-use Rattle.jl_host.specs.UnderWay.{HasAccepted, start_of, IsHeldUp, HasFresh, IsUnderWay, IsFillAnswer}
+use Rattle.jl_host.specs.Renewing.{Fresh, Renewing, installs_of, IsUnlinked, StopsBefore, IsToldOf, IsFilledOn, IsFilled}
+use Rattle.jl_host.specs.UnderWay.{HasAccepted, IsHeldUp, HasFresh, IsUnderWay, IsFillAnswer, IsFillOrUnready}
 use Rattle.jl_host.proofs.UnderWayLists.{some_value, both_told, first_told, shown_first, log_grows}
 use Rattle.jl_host.proofs.UnderWayCarried.{HaveComeOver, gone_still, installs_told}
+use Rattle.jl_host.proofs.UnderWayMade.{ready_under_way}
 use Rattle.jl_host.proofs.UnderWayFilled.{come_over, held_front}
 
 -- ---- the next entry
@@ -209,11 +210,14 @@ module _ (begun : State) (released : Released) (core : State) (old : Renewing) (
       ]
 
 pub why_answered : (begun : State) (released : Released) (core : State) (old new : Renewing) (status : ℕ) (told : Told) → IsUnderWay begun released core old
-    → old.start ≡ None → IsFilled old status told new → IsFillAnswer core new status
-why_answered begun released core old new status told way none (inl filled) =
-    let same = MatchOption-at_none (filled.0 ≡ old) (λ start. IsReadyFrom start old filled.0) none filled.1 in
-    elim way.phase [
-      | inl first ↦ absurd (none-some (start_of begun released) (sym none ∙ first.start))
-      | inr second ↦ on_answer begun released core old way second new status told (subst (λ (r : Renewing). IsFilledOn r status told new) same filled.2)
-    ]
-why_answered begun released core old new status told way none (inr unready) = absurd (none-some unready.1.0 (sym none ∙ unready.1.1))
+    → IsFilled old status told new → IsFillOrUnready core old status new
+why_answered begun released core old new status told way (inl filled) =
+    let ready = ready_under_way begun released core old filled.0 way filled.1 in
+    inl (elim ready.phase [
+      | inl first ↦ elim filled.2 [
+        | inl is_done ↦ inl is_done.0
+        | inr stopped ↦ absurd (none-some stopped.1.0 (sym first.fresh ∙ stopped.1.3))
+      ]
+      | inr second ↦ on_answer begun released core filled.0 ready second new status told filled.2
+    ])
+why_answered begun released core old new status told way (inr unready) = inr (unready.0, unready.1, unready.2)

@@ -2,6 +2,7 @@
 use Rattle.std.specs.Prelude.{◌≡◌, ◌⊎◌, ◌+◌, ◌-◌, ◌<◌, ◌≤◌, ℕ, true, ⊤, slice_get, List, [], ◌∷◌, ◌++◌, length, Some, None, is_some}
 use Rattle.jl_types.specs.declared.event.EventOf.TheVariants as event
 use Rattle.jl_types.specs.declared.event.Reply.{Reply}
+use Rattle.jl_types.specs.declared.refusal.Refusal.{Refusal}
 use Rattle.jl_types.specs.Events.Event.{Event}
 use Rattle.jl_types.specs.Values.World.{Class}
 use Rattle.jl_events.specs.Accepted.{Accepted, event_of}
@@ -12,10 +13,10 @@ use Rattle.jl_renewal.specs.declared.released.Released.{Released}
 use Rattle.jl_renewal.specs.Numbers.{Numbers}
 use Rattle.jl_renewal.specs.Carries.{carried_event, with_made}
 use Rattle.jl_renewal.specs.Moved.{flags_of, may_be_gone, IsBeside, HaveSameLinks}
-use Rattle.jl_host.specs.Numbers.{done, memory}
+use Rattle.jl_host.specs.Numbers.{done, memory, status_of_refusal}
 use Rattle.jl_host.specs.Numbers as host
 use Rattle.jl_host.specs.Seats.{seen_of}
-use Rattle.jl_host.specs.Renewing.{Start, Fresh, Renewing, installs_of}
+use Rattle.jl_host.specs.Renewing.{Start, Fresh, Renewing, installs_of, IsUnready}
 
 -- ---- what the linker accepts meanwhile
 
@@ -115,3 +116,7 @@ MayNameGone core renewing = (e : Event) × (reply : Reply)
 abbrev pub IsFillAnswer : State → Renewing → ℕ → Type 0
 IsFillAnswer core renewing status =
     (status ≡ done) ⊎ ((status ≡ memory) ⊎ ((status ≡ host.released) × MayNameGone core renewing))
+
+-- that; or why no fresh core was made
+abbrev pub IsFillOrUnready : State → Renewing → ℕ → Renewing → Type 0
+IsFillOrUnready core old status new = IsFillAnswer core new status ⊎ ((r : Refusal) × IsUnready old r × (status ≡ status_of_refusal r))

@@ -1,12 +1,14 @@
 //! The laws of links and targets as numbers, and of a renewal in steps: each is the contract of a function that does nothing.
 
-ghost use Rattle.std.specs.Prelude.{◌≡◌, ◌≤◌, ◌<◌, ◌^◌, ◌⊎◌, ℕ, true, length, List, Option, Some, None, Ok, Err};
+ghost use Rattle.std.specs.Prelude.{◌≡◌, ◌≤◌, ◌<◌, ◌^◌, ◌⊎◌, ℕ, true, length, List, Option, Some, Ok, Err};
 ghost use Rattle.jl_types.specs.declared.answer.Missing.{Missing};
 ghost use Rattle.jl_types.specs.declared.answer.Unlinked.TheVariants.{NotReady};
 ghost use Rattle.jl_types.specs.declared.link.Link.{Link};
 ghost use Rattle.jl_types.specs.Events.Verdict.{Accepts};
 ghost use Rattle.jl_types.specs.Events.Event.{Event};
 ghost use Rattle.jl_types.specs.declared.event.Reply.{Reply};
+ghost use Rattle.jl_types.specs.declared.refusal.Refusal.{Refusal};
+ghost use Rattle.jl_types.specs.declared.refusal.Refusal.TheVariants.{Memory, BatchSize};
 ghost use Rattle.jl_types.specs.Linkage.Links.{scratch};
 ghost use Rattle.jl_relink.specs.Preparations.{Snapshot};
 ghost use Rattle.jl_relink.specs.Laws.{AreAccepted, has_read_file};
@@ -29,8 +31,8 @@ ghost use Rattle.jl_host.specs.Targets.{nesting, parts_of, target_of};
 ghost use Rattle.jl_host.specs.Linkers.{Opened};
 ghost use Rattle.jl_host.specs.Views.{given, IsViewPrepare, IsInstallLinks};
 ghost use Rattle.jl_host.specs.Renewals.{Arrays, with_numbers};
-ghost use Rattle.jl_host.specs.Renewing.{Renewing, begun_in, IsTakenFrom, IsFilled, IsFinished};
-ghost use Rattle.jl_host.specs.UnderWay.{IsOfNewFile, IsUnderWay, IsFillAnswer};
+ghost use Rattle.jl_host.specs.Renewing.{Renewing, begun_in, IsTakenFrom, IsUnready, IsFilled, IsFinished};
+ghost use Rattle.jl_host.specs.UnderWay.{IsOfNewFile, IsUnderWay, IsFillOrUnready};
 
 /// What is shown of a link is read as that link, where it has at most eight rows and each method that it runs is among the first 2^16
 /// of its class, as those of a class file are (JVMS SE 17 §4.1).
@@ -64,8 +66,12 @@ pub fn awaited_classes_are_named()
 
 /// A renewal in steps is under way from its begin on: whatever the linker accepts meanwhile, as entries are taken and carried over, whatever a
 /// fill answers, and where nothing is handed over. The linker that is handed over stands beside the old one as that is then, under the numbers
-/// that were written, so by [`linking_commutes_beside`](jl_renewal::linking_commutes_beside) links from scratch and calls are the same there.
-/// Until all entries of the begin were taken, no class file may be defined once more that was defined before the begin.
+/// that were written, and has its links. So by [`linking_commutes_beside`](jl_renewal::linking_commutes_beside) links from scratch and calls are
+/// the same there.
+///
+/// Until all entries of the begin were taken, no class file may be defined once more that was defined before the begin. As many places may be
+/// requested in the fresh linker as in the old one, so a fill is never refused for want of them: what it answers is want of memory, or that
+/// the next event is one of a call site and names what was released. An install of no links is never tried.
 pub fn renewals_in_steps_stay_beside()
     ensures begun { (opened : Opened) (released : Released) (max_sites : ℕ)
         → AreAccepted opened.session.core.max_sites (events opened.session.core) → opened.session.core.max_sites ≤ max_sites
@@ -78,7 +84,9 @@ pub fn renewals_in_steps_stay_beside()
     ensures filled { (begun core : State) (released : Released) (old new : Renewing) (status : ℕ) (told : Told) → IsUnderWay begun released core old
         → IsFilled old status told new → IsUnderWay begun released core new }
     ensures why { (begun core : State) (released : Released) (old new : Renewing) (status : ℕ) (told : Told) → IsUnderWay begun released core old
-        → old.start ≡ None → IsFilled old status told new → IsFillAnswer core new status }
+        → IsFilled old status told new → IsFillOrUnready core old status new }
+    ensures unready { (begun core : State) (released : Released) (renewing : Renewing) (r : Refusal) → IsUnderWay begun released core renewing
+        → length begun.log ≤ renewing.taken → IsUnready renewing r → (r ≡ Memory) ⊎ (r ≡ BatchSize) }
     ensures kept { (begun core : State) (released : Released) (old new : Renewing) (before after : Arrays) (status : ℕ) (told : Told)
         (fresh : Option Opened) → IsUnderWay begun released core old → IsFinished core old before status told (Some new) fresh after
         → IsUnderWay begun released core new }

@@ -1,4 +1,5 @@
 use Rattle.jl_host.proofs.UnderWayTaken.{begun_under_way, later_under_way, taken_under_way}
+use Rattle.jl_host.proofs.UnderWayUnmade.{why_unready}
 use Rattle.jl_host.proofs.UnderWayFilled.{filled_under_way}
 use Rattle.jl_host.proofs.UnderWayWhy.{why_answered}
 use Rattle.jl_host.proofs.UnderWayEnded.{kept_under_way, handed_over}
@@ -19,6 +20,9 @@ returns-clause-filled c begun core released old new status told = filled_under_w
 
 pub returns-clause-why : goal.returns-clause-why
 returns-clause-why c begun core released old new status told = why_answered begun released core old new status told
+
+pub returns-clause-unready : goal.returns-clause-unready
+returns-clause-unready c begun core released renewing r way all unready = why_unready begun released core renewing r way all unready
 
 pub returns-clause-kept : goal.returns-clause-kept
 returns-clause-kept c begun core released old new before after status told fresh way finished =

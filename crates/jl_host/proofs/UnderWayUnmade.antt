@@ -1,0 +1,142 @@
+-- Why no fresh core is made, once all entries of the begin were taken.
+use Rattle.std.specs.Prelude.{◌≡◌, ◌⊎◌, ◌≤◌, ℕ, zero, suc, List, [], ◌∷◌, ◌++◌, take, drop, length, Result, Err}
+use Rattle.std.proofs.Common.{refl, sym, ap, subst, ◌∙◌, arith, inl, inr}
+use Rattle.std.proofs.lemmas.List.{length-drop, length-map, take-append-drop}
+use Rattle.std.proofs.lemmas.Option.{none-some, same_Some}
+use Rattle.jl_types.specs.declared.event.EventOf.TheVariants as event
+use Rattle.jl_types.specs.declared.event.Made.{Made}
+use Rattle.jl_types.specs.declared.link.Link.{Link}
+use Rattle.jl_types.specs.declared.refusal.Refusal.{Refusal}
+use Rattle.jl_types.specs.declared.refusal.Refusal.TheVariants.{Memory, BatchSize}
+use Rattle.jl_types.specs.Values.Members.{is_present}
+use Rattle.jl_types.specs.Values.World.{World}
+use Rattle.jl_types.specs.Events.Event.{Event}
+use Rattle.jl_types.specs.Events.Verdict.{verdict}
+use Rattle.jl_types.specs.Events.History.{world_after}
+use Rattle.jl_types.proofs.InstalledLinks.{links_rise}
+use Rattle.jl_relink.proofs.InOrder.{accepted_in_order}
+use Rattle.jl_core.specs.State.{State, empty_core, events, world_of, links_of}
+use Rattle.jl_core.specs.Logs.{Entry}
+use Rattle.jl_renewal.specs.declared.released.Released.{Released}
+use Rattle.jl_renewal.specs.Numbers.{Numbers, how_many}
+use Rattle.jl_renewal.specs.Staying.{numbers_of, staying_sites}
+use Rattle.jl_renewal.specs.Renewal.{AreBatches, fresh_rows}
+use Rattle.jl_renewal.specs.Told.{told_renewal}
+use Rattle.jl_renewal.specs.Carries.{IsRefusedIn}
+use Rattle.jl_renewal.specs.Adds.{AreFresh, MayAdd, StopsAt}
+use Rattle.jl_renewal.proofs.InstallLaws.{rest_fresh, batch_accepted, rows_fresh}
+use Rattle.jl_renewal.proofs.LinkLaws.{same_world}
+use Rattle.jl_renewal.proofs.NumberLaws.{many_fewer}
+use Rattle.jl_renewal.proofs.RenewalPhases.{renewal_leads}
+use Rattle.jl_renewal.proofs.StopLaws.{not_both, lacks_memory}
+use Rattle.jl_host.specs.Renewing.{Start, Renewing, IsUnmade, IsUnready}
+use Rattle.jl_host.specs.UnderWay.{start_of, IsGathering, IsUnderWay}
+use Rattle.jl_host.proofs.UnderWayLinks.{few_places, listed_links}
+use Rattle.jl_host.proofs.UnderWayMade.{told_is, past_logged}
+
+abbrev Row : Type 0
+Row = ℕ × Link
+
+-- ---- links that are left
+
+batches_of : (n : ℕ) (rows : List Row) → length rows ≤ n → (batches : List (List Row)) × AreBatches batches rows
+batches_of n [] le = ([], refl)
+batches_of zero (row ∷ rows) le = absurd (omega (arith, le))
+batches_of (suc n) (row ∷ rows) le =
+    let left = length-drop 256 (row ∷ rows) in
+    let rest = batches_of n (drop 256 (row ∷ rows)) (omega (arith, le, left)) in
+    (take 256 (row ∷ rows) ∷ rest.0, (omega arith, refl, rest.1))
+
+rest_of : (w : World) (batches others : List (List Row)) (rows : List Row) → AreFresh w rows → AreBatches (batches ++ others) rows
+    → (rest : List Row) × AreFresh w rest × AreBatches others rest
+rest_of w [] others rows fresh are = (rows, fresh, are)
+rest_of w (batch ∷ batches) others rows fresh are = rest_of w batches others (drop 256 rows) (rest_fresh w rows fresh 256) are.2
+
+same_rows : (batches : List (List Row)) (xs ys : List Row) → AreBatches batches xs → AreBatches batches ys → xs ≡ ys
+same_rows [] xs ys a b = a ∙ sym b
+same_rows (batch ∷ batches) xs ys a b =
+    let first : take 256 xs ≡ take 256 ys = sym a.1 ∙ b.1 in
+    let rest = same_rows batches (drop 256 xs) (drop 256 ys) a.2 b.2 in
+    sym (take-append-drop 256 xs) ∙ ((λ i. first i ++ rest i) ∙ take-append-drop 256 ys)
+
+left_fresh : (w : World) (batches : List (List Row)) (rows left : List Row) → AreFresh w rows
+    → ((others : List (List Row)) → AreBatches others left → AreBatches (batches ++ others) rows) → AreFresh w left
+left_fresh w batches rows left fresh are =
+    let made = batches_of (length left) left (omega arith) in
+    let rest = rest_of w batches made.0 rows fresh (are made.0 made.1) in
+    subst (λ (xs : List Row). AreFresh w xs) (sym (same_rows made.0 left rest.0 made.1 rest.2)) rest.1
+
+-- the next of them is refused for want of memory, or as an install of none
+left_refused : (core : State) (r : Refusal) (left : List Row) → AreFresh (world_of core) left → IsRefusedIn core (event.Install (take 256 left)) r
+    → (r ≡ Memory) ⊎ (r ≡ BatchSize)
+left_refused core r left fresh (inl lacks) = inl lacks
+left_refused core r [] fresh (inr refused) =
+    let same : ◌≡◌ {A = Result Made Refusal} (Err BatchSize) (Err r) = refused in
+    inr (cc)
+left_refused core r (row ∷ left) fresh (inr refused) =
+    absurd (not_both (verdict core.max_sites (world_of core) (event.Install (take 256 (row ∷ left)))) r refused
+    (batch_accepted (world_of core) (row ∷ left) fresh core.max_sites (omega arith)))
+
+install_stops : (rows : List Row) (between after : State) (r : Refusal) → AreFresh (world_of between) rows → StopsAt rows between after r
+    → (r ≡ Memory) ⊎ (r ≡ BatchSize)
+install_stops rows between after r fresh stops =
+    let same : world_of after ≡ world_of between =
+    ap world_after stops.front.adds.events ∙ same_world (events between) stops.front.batches in
+    left_refused after r stops.left
+    (subst (λ (w : World). AreFresh w stops.left) (sym same)
+    (left_fresh (world_of between) stops.front.batches rows stops.left fresh stops.front.are_batches))
+    stops.refused
+
+-- ---- no fresh core
+
+module _ (begun : State) (released : Released) (core : State) (renewing : Renewing) (way : IsUnderWay begun released core renewing)
+    (first : IsGathering begun released core way.had renewing) (all : length begun.log ≤ length renewing.waiting) where
+  abbrev w : World
+  w = world_of begun
+
+  abbrev n : Numbers
+  n = numbers_of w released
+
+  abbrev past : List Entry
+  past = take (length begun.log) renewing.waiting
+
+  few : how_many (staying_sites w.classes w.places) ≤ renewing.max_sites
+  few =
+      let a = many_fewer (staying_sites w.classes w.places) in
+      let b = length-map w.places (λ place. is_present w.classes place.class) in
+      let c = few_places begun first.accepted in
+      let d = first.limit in
+      omega (arith, a, b, c, d)
+
+  may_add : MayAdd (told_renewal w n past) (empty_core renewing.max_sites)
+  may_add =
+      subst (λ (es : List Event). MayAdd es (empty_core renewing.max_sites))
+      (sym (told_is begun released past (past_logged begun released core renewing way first all)))
+      (renewal_leads begun released first.accepted.each (accepted_in_order begun.max_sites (events begun) first.accepted).classes.closed
+      renewing.max_sites few).follow
+
+  rows_made : (between : State) (m : Numbers) → m ≡ n → AreFresh (world_of between) (fresh_rows (world_of between) m (links_of begun))
+  rows_made between m same =
+      rows_fresh (world_of between) m (staying_sites w.classes w.places) (ap (λ (numbers : Numbers). numbers.sites) same) (links_of begun)
+      (links_rise (events begun))
+
+  unmade : (r : Refusal) → IsUnmade (start_of begun released) past renewing.max_sites r → (r ≡ Memory) ⊎ (r ≡ BatchSize)
+  unmade r (inl (after, inl (inl full, same))) = let over = full.1 in let le = few in absurd (omega (arith, over, le))
+  unmade r (inl (after, inl (inr lacks, same))) = inl lacks
+  unmade r (inl (after, inr stopped)) = inl (lacks_memory (told_renewal w n past) (empty_core renewing.max_sites) after r may_add stopped)
+  unmade r (inr (inl lacks)) = inl lacks
+  unmade r (inr (inr stopped)) =
+      install_stops (fresh_rows (world_of stopped.1) stopped.0 (links_of begun)) stopped.1 stopped.2 r (rows_made stopped.1 stopped.0 stopped.3.numbers)
+      (subst (λ (rows : List Row). StopsAt (fresh_rows (world_of stopped.1) stopped.0 rows) stopped.1 stopped.2 r) (listed_links begun first.accepted) stopped.4)
+
+pub why_unready : (begun : State) (released : Released) (core : State) (renewing : Renewing) (r : Refusal) → IsUnderWay begun released core renewing
+    → length begun.log ≤ renewing.taken → IsUnready renewing r → (r ≡ Memory) ⊎ (r ≡ BatchSize)
+why_unready begun released core renewing r way all unready = elim way.phase [
+  | inl first ↦
+      let same = same_Some unready.0 (start_of begun released) (sym unready.1 ∙ first.start) in
+      let none = ap length first.none in
+      let g = way.taken in
+      unmade begun released core renewing way first (omega (arith, all, none, g)) r
+      (subst (λ (start : Start). IsUnmade start (take start.seen.serial renewing.waiting) renewing.max_sites r) same unready.2)
+  | inr second ↦ absurd (none-some unready.0 (sym second.start ∙ unready.1))
+]
