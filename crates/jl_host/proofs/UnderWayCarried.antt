@@ -154,7 +154,7 @@ module _ (k : Flags) (w : World) (entry : Entry) (e : Event) (named : event_of w
       by_rows (fresh_rows (world_of f.core) f.numbers rows)
       (beside_passed k old f.core f.numbers beside rows next entry.reply (subst (λ (x : Event). IsAccepted old next x entry.reply) same accepted)) linked
 
-  pub one_on : IsCarriedOn w entry f g → IsBeside k next g.core g.numbers
+  one_on : IsCarriedOn w entry f g → IsBeside k next g.core g.numbers
   one_on = by_install (installs_of entry.event) refl
 
   -- its links are those of the old core then, too
@@ -195,7 +195,7 @@ module _ (k : Flags) (w : World) (entry : Entry) (e : Event) (named : event_of w
         links_by_rows rows (subst (λ (x : Event). IsAccepted old next x entry.reply) same accepted)
         (fresh_rows (world_of f.core) f.numbers rows) refl linked
 
-    pub links_on : IsCarriedOn w entry f g → HaveSameLinks next g.core g.numbers
+    links_on : IsCarriedOn w entry f g → HaveSameLinks next g.core g.numbers
     links_on = links_by_install (installs_of entry.event) refl
 
 -- ---- one after another

@@ -217,7 +217,7 @@ module _ (begun : State) (released : Released) (core : State) (old new : Renewin
               (subst (λ (f : Fresh). AreCarried old.defined old.waiting f stopped.1) made lacks.2))
         ])
 
-    pub on_under_way : IsFilledOn old status told new → IsUnderWay begun released core new
+    on_under_way : IsFilledOn old status told new → IsUnderWay begun released core new
     on_under_way is = elim way.phase [
       | inl first ↦ elim is [
         | inl carried ↦

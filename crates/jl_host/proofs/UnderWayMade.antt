@@ -59,7 +59,7 @@ module _ (begun : State) (released : Released) (max_sites : ℕ) (past : List En
       ∙ (same_world (events is_made.between) is_made.linked.batches
       ∙ (ap world_after between_events ∙ renewal_world begun released accepted))
 
-  pub beside_made : IsBeside (flags_of (world_of begun) released) begun made.core made.numbers
+  beside_made : IsBeside (flags_of (world_of begun) released) begun made.core made.numbers
   beside_made =
       beside_first begun made.core released made.numbers accepted
       (subst (λ (m : ℕ). begun.max_sites ≤ m) (sym (is_made.linked.adds.limit ∙ is_made.refilled.adds.limit)) limit) its_world is_made.refilled.numbers
@@ -73,7 +73,7 @@ module _ (begun : State) (released : Released) (max_sites : ℕ) (past : List En
     world = ap world_after between_events ∙ renewal_world begun released accepted;
   }
 
-  pub links_made : HaveSameLinks begun made.core made.numbers
+  links_made : HaveSameLinks begun made.core made.numbers
   links_made =
       links_are_refilled begun released accepted (empty_core max_sites) is_made.between made.core past made.numbers refilled
       (subst (λ (rows : List (ℕ × Link)). Installs (fresh_rows (world_of is_made.between) made.numbers rows) is_made.between made.core)
@@ -131,7 +131,7 @@ module _ (begun : State) (released : Released) (core : State) (renewing : Renewi
   pub past_logged : shown at_begin past ≡ begun.log
   past_logged = sym same_past ∙ both_fronts.0
 
-  pub made_under_way : (made : Fresh) → IsMade (start_of begun released) past renewing.max_sites made
+  made_under_way : (made : Fresh) → IsMade (start_of begun released) past renewing.max_sites made
       → IsUnderWay begun released core (record renewing { start = None; fresh = Some made; waiting = rest })
   made_under_way made is_made = record {
     had = begun.log;

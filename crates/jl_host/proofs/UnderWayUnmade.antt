@@ -127,7 +127,8 @@ module _ (begun : State) (released : Released) (core : State) (renewing : Renewi
   unmade r (inr (inl lacks)) = inl lacks
   unmade r (inr (inr stopped)) =
       install_stops (fresh_rows (world_of stopped.1) stopped.0 (links_of begun)) stopped.1 stopped.2 r (rows_made stopped.1 stopped.0 stopped.3.numbers)
-      (subst (λ (rows : List Row). StopsAt (fresh_rows (world_of stopped.1) stopped.0 rows) stopped.1 stopped.2 r) (listed_links begun first.accepted) stopped.4)
+      (subst (λ (rows : List Row). StopsAt (fresh_rows (world_of stopped.1) stopped.0 rows) stopped.1 stopped.2 r)
+      (listed_links begun first.accepted) stopped.4)
 
 pub why_unready : (begun : State) (released : Released) (core : State) (renewing : Renewing) (r : Refusal) → IsUnderWay begun released core renewing
     → length begun.log ≤ renewing.taken → IsUnready renewing r → (r ≡ Memory) ⊎ (r ≡ BatchSize)
