@@ -5,12 +5,13 @@ use Rattle.std.proofs.lemmas.Option.{MatchOption-at_none, same_Some, none-some}
 use Rattle.jl_types.specs.declared.event.EventOf.TheVariants as event
 use Rattle.jl_types.specs.declared.event.Reply.{Reply}
 use Rattle.jl_types.specs.declared.link.Link.{Link}
+use Rattle.jl_types.specs.declared.refusal.Refusal.TheVariants.{Memory}
 use Rattle.jl_types.specs.Values.World.{World, Class}
 use Rattle.jl_types.specs.Events.Event.{Event}
 use Rattle.jl_types.specs.Events.Verdict.{verdict}
 use Rattle.jl_types.specs.Events.History.{dropped}
 use Rattle.jl_types.proofs.Places.{accepted_of}
-use Rattle.jl_events.specs.Accepted.{event_of}
+use Rattle.jl_events.specs.Accepted.{Accepted, event_of}
 use Rattle.jl_core.specs.State.{State, events, world_of}
 use Rattle.jl_core.specs.Logs.{Entry, told, are_told, shown}
 use Rattle.jl_core.proofs.LogLaws.{length_told}
@@ -20,7 +21,7 @@ use Rattle.jl_renewal.specs.declared.released.Released.{Released}
 use Rattle.jl_renewal.specs.Numbers.{Numbers}
 use Rattle.jl_renewal.specs.Renewal.{fresh_rows}
 use Rattle.jl_renewal.specs.Carries.{carried_event, IsUncarried}
-use Rattle.jl_renewal.specs.Moved.{Flags, flags_of, IsBeside, IsFaultBeside}
+use Rattle.jl_renewal.specs.Moved.{Flags, flags_of, may_be_gone, IsBeside, IsFaultBeside}
 use Rattle.jl_renewal.proofs.MovedFaults.{fault_beside}
 use Rattle.jl_renewal.proofs.MovedLinks.{install_accepted}
 use Rattle.jl_renewal.proofs.MovedTargets.{inv_map}
@@ -29,7 +30,7 @@ use Rattle.jl_renewal.proofs.StopLaws.{not_both}
 use Rattle.jl_host.specs.declared.told.Told.{Told}
 use Rattle.jl_host.specs.Numbers.{status_of_refusal}
 use Rattle.jl_host.specs.Renewing.{Fresh, Renewing, installs_of, IsUnlinked, StopsBefore, IsToldOf, IsFilledOn, IsFilled}
-use Rattle.jl_host.specs.UnderWay.{HasAccepted, IsHeldUp, HasFresh, IsUnderWay, IsFillAnswer, IsFillOrUnready}
+use Rattle.jl_host.specs.UnderWay.{HasAccepted, IsHeldUp, HasFresh, IsUnderWay, is_of_call_site, IsFillAnswer, IsFillOrUnready}
 use Rattle.jl_host.proofs.UnderWayLists.{some_value, both_told, first_told, shown_first, log_grows}
 use Rattle.jl_host.proofs.UnderWayCarried.{HaveComeOver, gone_still, installs_told}
 use Rattle.jl_host.proofs.UnderWayMade.{ready_under_way}
@@ -64,12 +65,53 @@ next_is w core entry others later old all grown =
 
 -- ---- why it isn't carried over to a fresh core beside the old one
 
+-- it names what is gone, and is of a call site; or memory lacks
+abbrev IsFaultOn : Event → CarryFault → Type 0
+IsFaultOn e Gone = is_of_call_site e ≡ true
+IsFaultOn e (Refused r) = r ≡ Memory
+
+of_call_site : (e : Event) → may_be_gone e ≡ true → ((links : List (ℕ × Link)) → e ≡ event.Install links → ⊥) → is_of_call_site e ≡ true
+of_call_site event.NewLoader gone other = cc
+of_call_site (event.Define loader file) gone other = cc
+of_call_site (event.Delegate loader name to) gone other = cc
+of_call_site (event.Request place) gone other = cc
+of_call_site (event.NewCallSite kind ty target) gone other = refl
+of_call_site (event.SetTarget c target) gone other = refl
+of_call_site event.NewSwitch gone other = cc
+of_call_site (event.Invalidate points) gone other = cc
+of_call_site (event.Bind s c) gone other = refl
+of_call_site (event.Install links) gone other = absurd (other links refl)
+of_call_site (event.Retire loader) gone other = cc
+
+no_install : (rows : List Class) (a : Accepted) (links : List (ℕ × Link)) → installs_of a ≡ None → event_of rows a ≡ Some (event.Install links) → ⊥
+no_install rows event.NewLoader links none is = cc
+no_install rows (event.Define loader c) links none is =
+    let found = inv_map (λ (row : Class). event.Define loader row.file) (slice_get rows c) (event.Install links) is in
+    let same : event.Define loader found.0.file ≡ event.Install links = found.2 in
+    cc
+no_install rows (event.Delegate loader name to) links none is = cc
+no_install rows (event.Request place) links none is = cc
+no_install rows (event.NewCallSite kind ty target) links none is = cc
+no_install rows (event.SetTarget c target) links none is = cc
+no_install rows event.NewSwitch links none is = cc
+no_install rows (event.Invalidate points) links none is = cc
+no_install rows (event.Bind s c) links none is = cc
+no_install rows (event.Install old) links none is = cc
+no_install rows (event.Retire loader) links none is = cc
+
+fault_on : (rows : List Class) (a : Accepted) (e : Event) (fault : CarryFault) → installs_of a ≡ None → event_of rows a ≡ Some e → IsFaultBeside e fault
+    → IsFaultOn e fault
+fault_on rows a e Gone none named gone = of_call_site e gone (λ links same. no_install rows a links none (named ∙ ap Some same))
+fault_on rows a e (Refused r) none named lacks = lacks
+
 module _ (k : Flags) (w : World) (core : State) (entry : Entry) (old : State) (next : IsNext w core entry old) (f : Fresh)
     (beside : IsBeside k old f.core f.numbers) where
   by_install : (fault : CarryFault) (o : Option (List (ℕ × Link))) → installs_of entry.event ≡ o
       → MatchOption o (IsUncarried w entry f.numbers f.core fault) (λ rows. IsUnlinked (fresh_rows (world_of f.core) f.numbers rows) f.core fault)
-      → IsFaultBeside next.event fault
-  by_install fault None is why = fault_beside k old f.core f.numbers beside w entry next.event next.named next.ok fault why
+      → IsFaultOn next.event fault
+  by_install fault None is why =
+      fault_on w.classes.rows entry.event next.event fault is next.named
+      (fault_beside k old f.core f.numbers beside w entry next.event next.named next.ok fault why)
   by_install Gone (Some rows) is why = absurd why
   by_install (Refused r) (Some rows) is (inl lacks) = lacks
   by_install (Refused r) (Some rows) is (inr (inr lacks)) = lacks.0
@@ -83,16 +125,16 @@ module _ (k : Flags) (w : World) (core : State) (entry : Entry) (old : State) (n
   why_beside : (fault : CarryFault)
       → MatchOption (installs_of entry.event) (IsUncarried w entry f.numbers f.core fault)
       (λ rows. IsUnlinked (fresh_rows (world_of f.core) f.numbers rows) f.core fault)
-      → IsFaultBeside next.event fault
+      → IsFaultOn next.event fault
   why_beside fault = by_install fault (installs_of entry.event) refl
 
 -- ---- where the fresh core is there
 
 -- by what was told
 answer_of : (core : State) (new : Renewing) (fault : CarryFault) (status : ℕ) (told : Told) → IsToldOf new fault status told → (e : Event) (reply : Reply)
-    → slice_get core.log (new.taken - length new.waiting) ≡ Some (e, reply) → IsFaultBeside e fault → IsFillAnswer core new status
-answer_of core new Gone status told said e reply at named = inr (inr (said.0, (e, reply, at, named)))
-answer_of core new (Refused r) status told said e reply at lacks = inr (inl (said.0 ∙ ap status_of_refusal lacks))
+    → slice_get core.log (new.taken - length new.waiting) ≡ Some (e, reply) → IsFaultOn e fault → IsFillAnswer core new status
+answer_of core new Gone status telling said e reply at named = inr (inr (said.0, (e, reply, at, named)))
+answer_of core new (Refused r) status telling said e reply at lacks = inr (inl (said.0 ∙ ap status_of_refusal lacks))
 
 module _ (begun : State) (released : Released) (core : State) (old : Renewing) (way : IsUnderWay begun released core old)
     (second : HasFresh begun released core way.had (shown old.defined.classes.rows old.waiting ++ way.later) old) where
@@ -177,10 +219,11 @@ module _ (begun : State) (released : Released) (core : State) (old : Renewing) (
       held_why : (fault : CarryFault)
           → MatchOption (installs_of stops.entry.event) (IsUncarried old.defined stops.entry stops.before.numbers stops.before.core fault)
           (λ rows. IsUnlinked (fresh_rows (world_of stops.before.core) stops.before.numbers rows) stops.before.core fault)
-          → IsFaultBeside held_next.event fault
+          → IsFaultOn held_next.event fault
       held_why Gone why =
-          fault_beside flags second.old second.made.core second.numbers second.beside old.defined stops.entry held_next.event held_next.named held_next.ok Gone
-          (ap (carried_event old.defined second.numbers) same_entry ∙ held.gone)
+          fault_on rows stops.entry.event held_next.event Gone (ap (λ (entry : Entry). installs_of entry.event) same_entry ∙ held.other) held_next.named
+          (fault_beside flags second.old second.made.core second.numbers second.beside old.defined stops.entry held_next.event held_next.named
+          held_next.ok Gone (ap (carried_event old.defined second.numbers) same_entry ∙ held.gone))
       held_why (Refused r) why =
           elim (MatchOption-at_none (IsUncarried old.defined stops.entry stops.before.numbers stops.before.core (Refused r))
           (λ rows. IsUnlinked (fresh_rows (world_of stops.before.core) stops.before.numbers rows) stops.before.core (Refused r))

@@ -1,5 +1,5 @@
 -- A renewal in steps that is under way, beside the one linker of which it was begun.
-use Rattle.std.specs.Prelude.{◌≡◌, ◌⊎◌, ◌+◌, ◌-◌, ◌<◌, ◌≤◌, ℕ, true, ⊤, slice_get, List, [], ◌∷◌, ◌++◌, length, Some, None, is_some}
+use Rattle.std.specs.Prelude.{◌≡◌, ◌⊎◌, ◌+◌, ◌-◌, ◌<◌, ◌≤◌, ℕ, Bool, true, false, ⊤, slice_get, List, [], ◌∷◌, ◌++◌, length, Some, None, is_some}
 use Rattle.jl_types.specs.declared.event.EventOf.TheVariants as event
 use Rattle.jl_types.specs.declared.event.Reply.{Reply}
 use Rattle.jl_types.specs.declared.refusal.Refusal.{Refusal}
@@ -12,7 +12,7 @@ use Rattle.jl_core.specs.Logs.{Entry, told, are_told, shown}
 use Rattle.jl_renewal.specs.declared.released.Released.{Released}
 use Rattle.jl_renewal.specs.Numbers.{Numbers}
 use Rattle.jl_renewal.specs.Carries.{carried_event, with_made}
-use Rattle.jl_renewal.specs.Moved.{flags_of, may_be_gone, IsBeside, HaveSameLinks}
+use Rattle.jl_renewal.specs.Moved.{flags_of, IsBeside, HaveSameLinks}
 use Rattle.jl_host.specs.Numbers.{done, memory, status_of_refusal}
 use Rattle.jl_host.specs.Numbers as host
 use Rattle.jl_host.specs.Seats.{seen_of}
@@ -107,15 +107,22 @@ pub record IsUnderWay (begun : State) (released : Released) (core : State) (rene
 
 -- ---- what a fill answers
 
--- After what was carried over the core has accepted an event that may name what is gone.
-abbrev pub MayNameGone : State → Renewing → Type 0
-MayNameGone core renewing = (e : Event) × (reply : Reply)
-    × (slice_get core.log (renewing.taken - length renewing.waiting) ≡ Some (e, reply)) × (may_be_gone e ≡ true)
+-- a new call site, a new target, or a bind
+abbrev pub is_of_call_site : Event → Bool
+is_of_call_site (event.NewCallSite kind ty target) = true
+is_of_call_site (event.SetTarget c target) = true
+is_of_call_site (event.Bind s c) = true
+is_of_call_site _ = false
 
--- done; want of memory; or that the next event names what was released
+-- The first event that the core has accepted after what was carried over is one of a call site.
+abbrev pub IsNextOfCallSite : State → Renewing → Type 0
+IsNextOfCallSite core renewing = (e : Event) × (reply : Reply)
+    × (slice_get core.log (renewing.taken - length renewing.waiting) ≡ Some (e, reply)) × (is_of_call_site e ≡ true)
+
+-- done; want of memory; or that the next event, one of a call site, names what was released
 abbrev pub IsFillAnswer : State → Renewing → ℕ → Type 0
 IsFillAnswer core renewing status =
-    (status ≡ done) ⊎ ((status ≡ memory) ⊎ ((status ≡ host.released) × MayNameGone core renewing))
+    (status ≡ done) ⊎ ((status ≡ memory) ⊎ ((status ≡ host.released) × IsNextOfCallSite core renewing))
 
 -- that; or why no fresh core was made
 abbrev pub IsFillOrUnready : State → Renewing → ℕ → Renewing → Type 0
