@@ -1,14 +1,16 @@
 /* What a renewal takes, in one call and in steps beside threads that go on, of a linker that has all classes of a folder.
  *
- *     renewing once FOLDER                     by linkd_renew, while nothing else is done
- *     renewing steps FOLDER [PORTION [PAUSE]]  in steps, of PORTION (1000) events each, beside four threads
+ *     renewing once FOLDER                           by linkd_renew, while nothing else is done
+ *     renewing steps FOLDER [PORTION [PAUSE [FEW]]]  in steps, of PORTION (1000) events each, beside four threads
  *
  * The standard input has the names of the class files in FOLDER, without ".class", a line each. Those that can be are defined by one loader,
  * all their invocations requested, and all links installed that are there. Each thread has a seat. Over and over it installs 16 links anew
- * or, in every 16th turn, defines a class of its own, then refreshes its seat, each under the lock, and sleeps for PAUSE (1000)
- * microseconds. Two seconds after it has begun so the renewal begins, and one second after its finish all is told: the seconds of the whole,
- * and of what was held the longest in milliseconds. What is resident bench/resident.py tells beside each line of the standard error. It
- * ends with status 0 only where each call was done.
+ * or, in every 16th turn, defines a class of its own, then refreshes its seat, each under the lock, and sleeps for PAUSE (10000)
+ * microseconds. Two seconds after the threads have begun the renewal begins. It finishes once no more than FEW (10) events are left. One second
+ * later all is told: the seconds of the whole, and in milliseconds what the lock was held the longest for each kind of call, by the clock
+ * and, in brackets, by the processor time of the thread. The clock goes on where another program has the processor, or where the thread
+ * waits for the memory allocator. What is resident bench/resident.py tells beside each line of the standard error. It ends with status 0
+ * only where each call was done.
  */
 #define _DEFAULT_SOURCE
 #define _POSIX_C_SOURCE 200809L
@@ -18,20 +20,26 @@
 #include <time.h>
 #include <unistd.h>
 
-enum { MOST_SITES = 1048576, MOST_CLASSES = 65536, WRITERS = 4, INSTALLED = 16, DEFINES = 16, FEW = 100 };
+enum { MOST_SITES = 1048576, MOST_CLASSES = 65536, WRITERS = 4, INSTALLED = 16, DEFINES = 16 };
 
 /* What the threads do before the begin, beside the renewal, and after its finish. */
 enum phase { BEFORE, BESIDE, AFTER, PHASES };
 static const char *const PHASE_NAMES[] = {"before", "beside", "after"};
 
+/* Seconds, by the clock and of this thread's processor time. */
+struct span {
+    double clock, processor;
+};
+
 struct holds {
-    double define, install, refresh;
+    struct span define, install, refresh;
 };
 
 struct writer {
     pthread_t thread;
     linkd_seat *seat;
     unsigned seed;
+    bool is_over; /* its seat has the links of the fresh linker */
     struct holds longest[PHASES];
 };
 
@@ -40,23 +48,41 @@ static pthread_mutex_t lock = PTHREAD_MUTEX_INITIALIZER;
 static linkd *linker;
 static enum phase phase;
 static unsigned long events[PHASES];
+static double beginnings[PHASES + 1];
 static uint32_t sites, classes;
+static int gone_over; /* how many threads have */
 
 static uint32_t *linked; /* the sites that had a link at first */
 static size_t linked_count;
 static struct writer writers[WRITERS];
-static useconds_t pause_between = 1000;
+static useconds_t pause_between = 10000;
 static atomic_bool is_over;
 
-static double now(void) {
+static double seconds_of(clockid_t clock) {
     struct timespec time;
-    clock_gettime(CLOCK_MONOTONIC, &time);
+    clock_gettime(clock, &time);
     return (double)time.tv_sec + (double)time.tv_nsec / 1e9;
 }
 
-static void raise_to(double *longest, double since) {
-    double is = now() - since;
-    if (is > *longest) *longest = is;
+static struct span now(void) {
+    struct span is = {seconds_of(CLOCK_MONOTONIC), seconds_of(CLOCK_THREAD_CPUTIME_ID)};
+    return is;
+}
+
+static struct span passed(struct span since) {
+    struct span is = now();
+    is.clock -= since.clock;
+    is.processor -= since.processor;
+    return is;
+}
+
+static void raise_to(struct span *longest, struct span is) {
+    if (is.clock > longest->clock) longest->clock = is.clock;
+    if (is.processor > longest->processor) longest->processor = is.processor;
+}
+
+static void tell_hold(const char *of, struct span is) {
+    printf(" %s %.3f ms (%.3f)", of, is.clock * 1e3, is.processor * 1e3);
 }
 
 /* ---- the linker */
@@ -147,19 +173,23 @@ static void install_some(struct writer *writer) {
 static void write_one(struct writer *writer, bool defines) {
     pthread_mutex_lock(&lock);
     struct holds *longest = &writer->longest[phase];
-    double since = now();
+    struct span since = now();
     if (defines) define_another();
     else install_some(writer);
     events[phase]++;
-    raise_to(defines ? &longest->define : &longest->install, since);
+    raise_to(defines ? &longest->define : &longest->install, passed(since));
     pthread_mutex_unlock(&lock);
 }
 
 static void refresh(struct writer *writer) {
     pthread_mutex_lock(&lock);
-    double since = now();
+    struct span since = now();
     done(linkd_seat_refresh(writer->seat, linker), "no seat is refreshed");
-    raise_to(&writer->longest[phase].refresh, since);
+    raise_to(&writer->longest[phase].refresh, passed(since));
+    if (phase == AFTER && !writer->is_over) {
+        writer->is_over = true;
+        gone_over++;
+    }
     pthread_mutex_unlock(&lock);
 }
 
@@ -173,11 +203,16 @@ static void *write_all(void *of) {
     return NULL;
 }
 
+/* A seat's first refresh goes over all events, so it is done before anything is measured. */
 static void start_writers(void) {
     for (unsigned i = 0; i < WRITERS; i++) {
         writers[i].seed = i + 1;
         writers[i].seat = block(linkd_seat_size(), linkd_seat_align());
         linkd_seat_blank(writers[i].seat);
+        done(linkd_seat_refresh(writers[i].seat, linker), "no seat is refreshed");
+    }
+    beginnings[BEFORE] = seconds_of(CLOCK_MONOTONIC);
+    for (unsigned i = 0; i < WRITERS; i++) {
         int fault = pthread_create(&writers[i].thread, NULL, write_all, &writers[i]);
         must(fault == 0, NO_THREAD, "no thread", (uint32_t)fault);
     }
@@ -185,23 +220,26 @@ static void start_writers(void) {
 
 static void end_writers(void) {
     atomic_store(&is_over, true);
+    for (int i = 0; i < WRITERS; i++) pthread_join(writers[i].thread, NULL);
+    beginnings[PHASES] = seconds_of(CLOCK_MONOTONIC);
     for (int i = 0; i < WRITERS; i++) {
-        pthread_join(writers[i].thread, NULL);
         linkd_seat_leave(writers[i].seat);
         free(writers[i].seat);
     }
 }
 
 static void tell_holds(enum phase of) {
-    struct holds most = {0, 0, 0};
+    struct holds most = {{0, 0}, {0, 0}, {0, 0}};
     for (int i = 0; i < WRITERS; i++) {
-        const struct holds *is = &writers[i].longest[of];
-        if (is->define > most.define) most.define = is->define;
-        if (is->install > most.install) most.install = is->install;
-        if (is->refresh > most.refresh) most.refresh = is->refresh;
+        raise_to(&most.define, writers[i].longest[of].define);
+        raise_to(&most.install, writers[i].longest[of].install);
+        raise_to(&most.refresh, writers[i].longest[of].refresh);
     }
-    printf("longest held by the threads, %s: define %.3f ms, install %.3f ms, refresh %.3f ms, of %lu events\n", PHASE_NAMES[of],
-           most.define * 1e3, most.install * 1e3, most.refresh * 1e3, events[of]);
+    printf("longest held by the threads, %s:", PHASE_NAMES[of]);
+    tell_hold("define", most.define);
+    tell_hold("install", most.install);
+    tell_hold("refresh", most.refresh);
+    printf(", of %.0f events a second\n", (double)events[of] / (beginnings[of + 1] - beginnings[of]));
 }
 
 /* ---- renewals */
@@ -213,9 +251,9 @@ static void let_old_go(linkd *old, linkd_numbers *numbers) {
     for (uint32_t site = 0; site < numbers->site_capacity; site++)
         must(numbers->sites[site] == site, BAD_NUMBER, "a site has another number", site);
     let_numbers_go(numbers);
-    double since = now();
+    struct span since = now();
     linkd_close(old);
-    printf("the old linker's close: %.3f s\n", now() - since);
+    printf("the old linker's close: %.3f s\n", passed(since).clock);
     free(old);
 }
 
@@ -229,86 +267,107 @@ static void renew_at_once(void) {
     linkd_count count;
     linkd *fresh = blank_linker();
     linkd_numbers numbers = numbers_for(linker, &count);
-    double since = now();
+    struct span since = now();
     done(linkd_renew(linker, fresh, MOST_SITES, &NOTHING, &numbers), "no fresh linker is made");
-    printf("a renewal in one call: %.3f s\n", now() - since);
+    struct span is = passed(since);
+    printf("a renewal in one call: %.3f s (%.3f)\n", is.clock, is.processor);
     fprintf(stderr, "renewed\n");
     linkd *old = linker;
     linker = fresh;
     let_old_go(old, &numbers);
 }
 
-static double begin(linkd_renewal *renewal) {
-    double longest = 0;
+static struct span begin(linkd_renewal *renewal) {
     pthread_mutex_lock(&lock);
-    double since = now();
+    struct span since = now();
     phase = BESIDE;
+    beginnings[BESIDE] = since.clock;
     done(linkd_renewal_begin(renewal, linker, MOST_SITES, &NOTHING), "no renewal begins");
-    raise_to(&longest, since);
+    struct span held = passed(since);
     pthread_mutex_unlock(&lock);
-    return longest;
+    return held;
 }
 
 /* Gives how many events are left. */
-static size_t take(linkd_renewal *renewal, size_t portion, double *longest) {
+static size_t take(linkd_renewal *renewal, size_t portion, struct span *longest) {
     size_t left = 0;
     pthread_mutex_lock(&lock);
-    double since = now();
+    struct span since = now();
     done(linkd_renewal_take(renewal, linker, portion, &left), "no events are taken");
-    raise_to(longest, since);
+    raise_to(longest, passed(since));
     pthread_mutex_unlock(&lock);
     return left;
 }
 
 /* Gives the old linker. The arrays are made under the lock, too, since there may be no more numbers than these have places for. */
-static linkd *finish(linkd_renewal *renewal, linkd_numbers *numbers, double *longest) {
+static linkd *finish(linkd_renewal *renewal, linkd_numbers *numbers, struct span *held) {
     linkd_count count;
     linkd_told told;
     linkd *fresh = blank_linker(), *old;
     pthread_mutex_lock(&lock);
-    double since = now();
+    struct span since = now();
     *numbers = numbers_for(linker, &count);
     done(linkd_renewal_finish(renewal, linker, fresh, &told, numbers), "no renewal is finished");
     old = linker;
     linker = fresh;
     phase = AFTER;
-    raise_to(longest, since);
+    beginnings[AFTER] = seconds_of(CLOCK_MONOTONIC);
+    *held = passed(since);
     pthread_mutex_unlock(&lock);
     return old;
 }
 
-static void renew_in_steps(size_t portion) {
+/* The old linker is closed once each thread has gone over, so that none of them frees its links under the lock. */
+static void wait_for_writers(void) {
+    bool all = false;
+    while (!all) {
+        usleep(1000);
+        pthread_mutex_lock(&lock);
+        all = gone_over == WRITERS;
+        pthread_mutex_unlock(&lock);
+    }
+}
+
+static void renew_in_steps(size_t portion, size_t few) {
     linkd_told told;
     linkd_numbers numbers;
-    double taking = 0, filling = 0, longest_fill = 0, finishing = 0;
+    struct span taking = {0, 0}, longest_fill = {0, 0}, finishing;
+    double filling = 0;
     unsigned long portions = 0;
     size_t left;
     linkd_renewal *renewal = block(linkd_renewal_size(), linkd_renewal_align());
     linkd_renewal_blank(renewal);
-    double start = now(), beginning = begin(renewal);
+    struct span start = now(), beginning = begin(renewal);
     do {
         take(renewal, portion, &taking);
-        double since = now();
+        struct span since = now();
         done(linkd_renewal_fill(renewal, &told), "nothing is filled in");
-        filling += now() - since;
-        raise_to(&longest_fill, since);
+        struct span is = passed(since);
+        filling += is.clock;
+        raise_to(&longest_fill, is);
         portions++;
         left = take(renewal, 0, &taking);
-    } while (left > FEW);
+    } while (left > few);
     fprintf(stderr, "filled\n");
     linkd *old = finish(renewal, &numbers, &finishing);
-    printf("a renewal in steps: %.3f s, of which fills %.3f s, the longest %.3f s; %lu portions\n", now() - start, filling, longest_fill,
-           portions);
-    printf("longest held by the renewal: begin %.3f ms, take %.3f ms, finish %.3f ms\n", beginning * 1e3, taking * 1e3, finishing * 1e3);
-    let_old_go(old, &numbers);
+    struct span whole = passed(start);
+    printf("a renewal in steps: %.3f s (%.3f), of which fills %.3f s, the longest %.3f s (%.3f); %lu portions, %zu events left\n", whole.clock,
+           whole.processor, filling, longest_fill.clock, longest_fill.processor, portions, left);
+    printf("longest held by the renewal:");
+    tell_hold("begin", beginning);
+    tell_hold("take", taking);
+    tell_hold("finish", finishing);
+    printf("\n");
     linkd_renewal_leave(renewal);
+    wait_for_writers();
+    let_old_go(old, &numbers);
     free(renewal);
 }
 
-static void renew_beside_writers(size_t portion) {
+static void renew_beside_writers(size_t portion, size_t few) {
     start_writers();
     sleep(2);
-    renew_in_steps(portion);
+    renew_in_steps(portion, few);
     sleep(1);
     end_writers();
     for (enum phase of = BEFORE; of < PHASES; of++) tell_holds(of);
@@ -316,12 +375,12 @@ static void renew_beside_writers(size_t portion) {
 
 int main(int argc, char **argv) {
     bool in_steps = argc > 1 && strcmp(argv[1], "steps") == 0;
-    long portion = argc > 3 ? atol(argv[3]) : 1000;
-    must(argc >= 3 && argc <= (in_steps ? 5 : 3) && (in_steps || strcmp(argv[1], "once") == 0) && portion > 0, BAD_WORDS,
-         "once FOLDER, or steps FOLDER [PORTION [PAUSE]]", 0);
+    long portion = argc > 3 ? atol(argv[3]) : 1000, few = argc > 5 ? atol(argv[5]) : 10;
+    must(argc >= 3 && argc <= (in_steps ? 6 : 3) && (in_steps || strcmp(argv[1], "once") == 0) && portion > 0 && few >= 0, BAD_WORDS,
+         "once FOLDER, or steps FOLDER [PORTION [PAUSE [FEW]]]", 0);
     if (argc > 4) pause_between = (useconds_t)atol(argv[4]);
     open_linker(argv[2]);
-    if (in_steps) renew_beside_writers((size_t)portion);
+    if (in_steps) renew_beside_writers((size_t)portion, (size_t)few);
     else renew_at_once();
     free(linked);
     linkd_close(linker);

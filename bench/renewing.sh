@@ -4,9 +4,11 @@
 #
 #     bench/renewing.sh [FOLDER]     FOLDER has class files, parents among them
 #
-# Without FOLDER the classes are those of a JDK, of JAVA_HOME or else of the PATH, up to Java 25. PORTION (1000) is how many events are taken at a
-# time, PAUSE (1000) how many microseconds a thread sleeps between its turns, RUNS (3) how often each is run. It needs what library.sh beside
-# this file needs, python3 and Linux, and ends with status 0 only where each call was done.
+# Without FOLDER the classes are those of a JDK, of JAVA_HOME or else of the PATH, up to Java 25. PORTION (1000) is how many events are taken
+# at a time, PAUSE (10000) how many microseconds a thread sleeps between its turns, FEW (10) how many events are left for the finish at most,
+# RUNS (3) how often each is run. Beside each time of the clock stands, in brackets, the processor time of the thread. The first one is longer
+# where another program has the processor, or the thread waits for the memory allocator. It needs what library.sh beside this file needs,
+# python3 and Linux. It ends with status 0 only where each call was done.
 set -eu
 here=$(cd "$(dirname "$0")" && pwd)
 top=$(dirname "$here")
@@ -35,5 +37,5 @@ for run in $(seq "${RUNS:-3}"); do
     echo "== run $run, in one call"
     "$here/resident.py" "$work/renewing" once "$folder" < "$work/names"
     echo "== run $run, in steps"
-    "$here/resident.py" "$work/renewing" steps "$folder" "${PORTION:-1000}" "${PAUSE:-1000}" < "$work/names"
+    "$here/resident.py" "$work/renewing" steps "$folder" "${PORTION:-1000}" "${PAUSE:-10000}" "${FEW:-10}" < "$work/names"
 done
