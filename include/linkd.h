@@ -445,8 +445,9 @@ void linkd_renewal_blank(linkd_renewal *at);
 
 /* Begins a renewal of the linker as it is now: what stays is said at linkd_renew_into. At most max_sites sites may be requested in the fresh
  * linker; give as many as the linker was opened with, or a request that is still to come may be LINKD_SITES_FULL there. What the linker has
- * is shared and not copied, but for the pages of links that events have touched since a seat was last refreshed. So the second event after
- * this call copies the list of requested sites, as after a view. Counts as a call on the renewal and on the linker.
+ * is shared and not copied, but for the pages of links that events have touched since a seat was last refreshed. So this call takes as long as
+ * a seat's refresh would, and the second event after it copies the list of requested sites, as after a view. Counts as a call on the renewal
+ * and on the linker.
  * In this order: LINKD_CLOSED, where the linker isn't open; LINKD_OPEN_ALREADY, where the renewal has begun and wasn't left;
  * LINKD_MALFORMED, where max_sites is 0 or above 1,048,576; LINKD_MEMORY. Where it isn't done the renewal is as before. */
 uint32_t linkd_renewal_begin_with(linkd_renewal *at, linkd *from, uint32_t max_sites, const uint32_t *released_call_sites,
@@ -459,7 +460,8 @@ static inline uint32_t linkd_renewal_begin(linkd_renewal *at, linkd *from, uint3
 }
 
 /* Takes the next events that the linker has accepted, at most so many of them: first those that it had at the begin, and then those since.
- * An event is shared and not copied. *left is how many are left then. Counts as a call on the renewal and on the linker.
+ * An event is shared and not copied. Where classes were defined since the last take, the lists of all classes are copied. *left is how many
+ * events are left then. Counts as a call on the renewal and on the linker.
  * LINKD_CLOSED, where the renewal has not begun or the linker isn't open: *left is not written. LINKD_MEMORY: none of these events was taken,
  * and *left tells how many are left; the call may be made again. */
 uint32_t linkd_renewal_take(linkd_renewal *at, linkd *from, size_t most, size_t *left);
@@ -471,8 +473,8 @@ uint32_t linkd_renewal_take(linkd_renewal *at, linkd *from, size_t most, size_t 
  * Takes no lock. Counts as a call on the renewal alone: the linker may be asked anything meanwhile.
  * LINKD_CLOSED, where the renewal has not begun. LINKD_SITES_FULL, where more sites stay than max_sites, or more are requested later.
  * LINKD_RELEASED, where an event since the begin names a call site or a switch point that was released and is gone: place is its number, and
- * number is how many of the linker's events the fresh one has; then the renewal is good for nothing but linkd_renewal_leave. LINKD_MEMORY,
- * maybe in the place of another refusal: what was carried over stays so, and the call may be made again. */
+ * number is how many of the linker's events the fresh one has. After either of these two the renewal is good for nothing but
+ * linkd_renewal_leave. LINKD_MEMORY, maybe in the place of another refusal: what was carried over stays so, and the call may be made again. */
 uint32_t linkd_renewal_fill(linkd_renewal *at, linkd_told *told);
 
 /* Takes what is left and carries it over, as the two calls above do. Then it opens the linker `fresh`, which isn't open, over what was made,
@@ -483,7 +485,8 @@ uint32_t linkd_renewal_fill(linkd_renewal *at, linkd_told *told);
  * In this order: LINKD_CLOSED, where the renewal has not begun or the linker isn't open; LINKD_OPEN_ALREADY, where `fresh` is;
  * LINKD_TOO_SHORT, where an array is shorter than linkd_counts says that there are numbers for it: nothing was taken then; LINKD_MEMORY;
  * then as linkd_renewal_fill. LINKD_MALFORMED, where the linker isn't the one of the begin and has accepted fewer events than that had. Where
- * it isn't done `fresh` and the arrays are as before, and the renewal goes on: it may be finished later. */
+ * it isn't done `fresh` and the arrays are as before, and the renewal has not ended: after LINKD_OPEN_ALREADY, LINKD_TOO_SHORT and
+ * LINKD_MEMORY it may be finished later. */
 uint32_t linkd_renewal_finish_into(linkd_renewal *at, linkd *from, linkd *fresh, linkd_told *told, uint32_t *loaders, size_t loader_capacity,
                                    uint32_t *classes, size_t class_capacity, uint32_t *sites, size_t site_capacity, uint32_t *call_sites,
                                    size_t call_site_capacity, uint32_t *switches, size_t switch_capacity);

@@ -182,7 +182,8 @@ impl Renewal {
     /// Makes of the fresh linker what the taken events tell: nothing before all from before the begin are taken, then what there was at the
     /// begin, which takes the most time, and then each event since. On [`Error::Memory`] it may be tried again.
     ///
-    /// [`Error::SitesFull`], where more sites stay than `max_sites`, or are requested later; [`Error::Released`].
+    /// [`Error::SitesFull`], where more sites stay than `max_sites`, or are requested later; [`Error::Released`]. After either the renewal can
+    /// only be dropped.
     pub fn fill(&mut self) -> Result<(), Error> {
         let mut told = Told::default();
         // SAFETY: the renewal is borrowed alone, and the out place for the call.

@@ -87,7 +87,7 @@ public final class Renewing implements AutoCloseable {
      * again.
      *
      * <p>Refused with {@link Refusal.Plain#SITES_FULL}, where more sites stay than may be requested there, or are requested later, and with
-     * {@link Refusal.NamesReleased}.
+     * {@link Refusal.NamesReleased}. After either it can only be closed.
      */
     public void fill() {
         Numbers.done(Native.renewalFill(at(), told), told);
@@ -95,8 +95,8 @@ public final class Renewing implements AutoCloseable {
 
     /**
      * Takes what is left and carries it over; then the fresh linker is there, with the ids of what stays. What the old linker accepts from
-     * now on the fresh one never has: so hold the old one's monitor until all threads ask the fresh one. Refused as {@link #fill}; then the
-     * renewing goes on. Once it is done it refuses all with {@link Refusal.Plain#CLOSED}.
+     * now on the fresh one never has: so hold the old one's monitor until all threads ask the fresh one. Refused as {@link #fill}, and where
+     * memory lacks; then it hasn't ended. Once it is done it refuses all with {@link Refusal.Plain#CLOSED}.
      */
     public Renewal finish() {
         MemorySegment own = at();
