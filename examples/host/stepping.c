@@ -4,7 +4,7 @@
  *
  * FOLDER holds the class files of java and of dynamic beside this file, and java/lang/Object's. Four threads write, each in turns: it lets
  * the older of its two loaders go; it makes another one, with a Triangle or, in every other turn, a Square, with a Main, and with a Chosen
- * whose invokedynamic gets a call site of its own; it gives that call site a target behind a new switch point, or makes that point invalid;
+ * whose invokedynamic gets a call site of its own; it gives that call site a target that a new switch point guards, or makes that point invalid;
  * and it installs what is pending. Each of these is done under the lock. The first thread goes over to a fresh linker ROUNDS (20) times. It
  * begins, takes and fills until few events are left, and finishes, and holds the lock for each step but the fills. What the threads don't
  * need any more is released at the begin: the call sites of loaders that are gone, and switch points that no target names. At the finish
@@ -22,7 +22,7 @@ enum { WRITERS = 4, LOADERS = 2, MOST_SITES = 65536, PORTION = 16, FEW = 4, MOST
 /* How many turns the threads have before a begin, and until the finish; and for how many the first thread waits. */
 enum { TURNS_BEFORE = 12, TURNS = 24, WAITED_BEFORE = 8, WAITED = 20 };
 
-/* Of loader 0, each behind its parents; the first ones are delegated to each other loader. */
+/* Of loader 0, each after its parents; the first ones are delegated to each other loader. */
 static const char *const NAMES[] = {"Object", "Measured", "Shape", "Circle", "Square", "Main", "Chosen"};
 enum { SQUARE = 4, MAIN = 5, CHOSEN = 6, NAMED = 7 };
 static const char TYPE[] = "()LMeasured;";
@@ -121,7 +121,7 @@ static void add_loader(struct writer *writer) {
     writer->loaders[writer->count++] = made;
 }
 
-/* A target behind a new switch point; or that point is invalid. */
+/* A target that a new switch point guards; or that point becomes invalid. */
 static void retarget(struct writer *writer) {
     linkd_told told;
     struct loader *newest = &writer->loaders[writer->count - 1];
