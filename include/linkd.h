@@ -460,8 +460,8 @@ static inline uint32_t linkd_renewal_begin(linkd_renewal *at, linkd *from, uint3
 }
 
 /* Takes the next events that the linker has accepted, at most so many of them: first those that it had at the begin, and then those since.
- * An event is shared and not copied. Where classes were defined since the last take, the lists of all classes are copied. *left is how many
- * events are left then. Counts as a call on the renewal and on the linker.
+ * An event is shared and not copied. Where the linker has more classes than at the take before, the table of all classes is copied. *left is
+ * how many events are left then. Counts as a call on the renewal and on the linker.
  * LINKD_CLOSED, where the renewal has not begun or the linker isn't open: *left is not written. LINKD_MEMORY: none of these events was taken,
  * and *left tells how many are left; the call may be made again. */
 uint32_t linkd_renewal_take(linkd_renewal *at, linkd *from, size_t most, size_t *left);
