@@ -90,8 +90,11 @@ pub ready_from : (old : Renewing) (start : Start) (past waiting : List Entry) (m
     → past ≡ take start.seen.serial old.waiting → nat_le start.seen.serial (length old.waiting) ≡ true → IsMade start past old.max_sites made
     → waiting ≡ drop start.seen.serial old.waiting → IsReady old (record old { start = None; fresh = Some made; waiting = waiting })
 ready_from old start past waiting made is are few is_made left =
-    rw is (rw few (made, subst (λ entries. IsMade start entries old.max_sites made) are is_made,
-    λ i. record old { start = None; fresh = Some made; waiting = left i }))
+    rw is (rw few (
+      made,
+      subst (λ entries. IsMade start entries old.max_sites made) are is_made,
+      λ i. record old { start = None; fresh = Some made; waiting = left i },
+    ))
 
 -- ---- how it ends
 

@@ -13,6 +13,7 @@ use jl_renewal::CarryFault;
 use jl_types::Refusal;
 use std::alloc::{AllocError, Global};
 use std::marker::Model;
+use std::mem;
 
 /// What a renewal has from its begin on. A clause sees all but the entries that were carried over.
 pub(crate) struct Begun {
@@ -29,6 +30,8 @@ pub(crate) struct Begun {
     carried: usize,
     /// The classes as they were when entries were taken, and nothing else.
     defined: World,
+    /// Those that were there before, which go where no lock is held.
+    past: Vec<World>,
 }
 
 // Written out, since a derived drop is proved anew in each crate that lets one go.
@@ -42,6 +45,7 @@ impl Drop for Begun {
             waiting: _waiting,
             carried: _carried,
             defined: _defined,
+            past: _past,
         } = self;
     }
 }
@@ -83,6 +87,7 @@ impl Begun {
             waiting: Vec::new(alloc),
             carried: 0,
             defined,
+            past: Vec::new(alloc),
         })
     }
 
@@ -107,10 +112,17 @@ impl Begun {
         let count = entries.len();
         let shared = share_log(alloc, entries)?;
         self.waiting.reserve(count)?;
-        bring_classes(&mut self.defined, alloc, core.world())?;
+        bring_classes(&mut self.defined, &mut self.past, alloc, core.world())?;
         push_all(&mut self.waiting, shared);
         self.taken += count;
         Ok(())
+    }
+
+    /// Lets the classes go that earlier takes have brought.
+    pub(crate) fn let_past_go(&mut self, alloc: Global)
+        ensures { self.new ≡ self.old }
+    {
+        self.past = Vec::new(alloc);
     }
 
     /// Makes the fresh core once all entries of the begin were taken. Those that came since are carried over then.
@@ -169,7 +181,12 @@ impl Begun {
         let Some(fresh) = &mut self.fresh else {
             return Ok(());
         };
-        fresh.carry_all(alloc, &self.defined, self.waiting.as_slice(), &mut self.carried)?;
+        fresh.carry_all(
+            alloc,
+            &self.defined,
+            self.waiting.as_slice(),
+            &mut self.carried,
+        )?;
         self.waiting = Vec::new(alloc);
         self.carried = 0;
         fresh.catch_up()
@@ -236,21 +253,27 @@ fn front(entries: &[Entry], count: u64) -> Option<&[Entry]>
     Some(&entries[..count as usize])
 }
 
-/// The classes of the world take the place of these, unless there are no more of them.
+/// The classes of the world take the place of these, unless there are no more of them. These are kept beside the earlier ones.
 ///
 /// # Errors
 ///
 /// Want of memory. Nothing has changed then.
-fn bring_classes(defined: &mut World, alloc: Global, world: &World) -> Result<(), AllocError>
+fn bring_classes(
+    defined: &mut World,
+    past: &mut Vec<World>,
+    alloc: Global,
+    world: &World,
+) -> Result<(), AllocError>
     ensures brought { OnOk result (AreBrought world.now.classes defined.old defined.new) }
     ensures unchanged { OnErr result (defined.new ≡ defined.old) }
 {
     if world.classes.class_count() == defined.classes.class_count() {
         return Ok(());
     }
+    past.reserve(1)?;
     let mut made = World::new(alloc)?;
     made.classes = world.classes.copy(alloc)?;
-    *defined = made;
+    past.push_reserved(mem::replace(defined, made));
     Ok(())
 }
 

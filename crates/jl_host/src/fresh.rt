@@ -16,7 +16,7 @@ use jl_core::{Accepted, Core, Entry};
 use jl_names::Seq;
 use jl_relink::{Snapshot, World};
 use jl_renewal::{CarryFault, Released, Renumbering, carry, fresh_links, install_all, try_refill};
-use jl_types::{Event, Link, Refusal, SiteNo, Target, Part};
+use jl_types::{Event, Link, Part, Refusal, SiteNo, Target};
 use std::alloc::{AllocError, Global};
 use std::marker::Model;
 use std::sync::Arc;

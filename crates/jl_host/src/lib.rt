@@ -1,8 +1,9 @@
 //! A linker as a host holds it: one core, its events by plain numbers, bytes and arrays, seats, at which threads read its links without a
-//! lock, and views, in which compilers prepare links without one. Everything that a call answers is a status and plain numbers.
+//! lock, views, in which compilers prepare links without one, and renewals, which make a fresh linker while the old one goes on. Everything
+//! that a call answers is a status and plain numbers.
 //!
 //! What each call leaves, by its status, stands in `specs/`, in reading order: `Numbers`, `Telling`, `Showing`, `Copies`, `Linkers`,
-//! `Seats`, `Memos`, `Reading`, `Targets`, `Views`, `Awaiting`, `Asking`, `Renewals`.
+//! `Seats`, `Memos`, `Reading`, `Targets`, `Views`, `Awaiting`, `Asking`, `Renewals`, `Renewing`, `UnderWay`.
 #![tactic(auto)]
 
 // What is answered, as numbers.
@@ -21,11 +22,11 @@ mod asked;
 mod awaited;
 
 // What stands behind a linker, and the linker.
+mod begun;
 mod behind;
+mod fresh;
 mod linker;
 mod opened;
-mod begun;
-mod fresh;
 mod renew;
 mod renewal;
 

@@ -99,12 +99,7 @@ impl Opened {
 
     /// One over this core, which has these links but for the sites that were touched by the events from the `reached`-th on. Takes no
     /// memory.
-    pub(crate) fn with_links(
-        alloc: Global,
-        core: Core,
-        links: Arc<Links>,
-        reached: usize,
-    ) -> Opened
+    pub(crate) fn with_links(alloc: Global, core: Core, links: Arc<Links>, reached: usize) -> Opened
         requires { IsBehind links.value reached core }
         ensures { result ≡ opened_over core }
     {

@@ -8,9 +8,7 @@ use crate::begun::Begun;
 use crate::fresh::Fresh;
 use crate::linker::{Linker, MOST_SITES};
 use crate::renew::{have_places, write_numbers};
-use crate::told::{
-    CLOSED, DONE, MALFORMED, MEMORY, OPEN_ALREADY, TOO_SHORT, Told, unasked,
-};
+use crate::told::{CLOSED, DONE, MALFORMED, MEMORY, OPEN_ALREADY, TOO_SHORT, Told, unasked};
 use jl_core::Core;
 use std::alloc::Global;
 use std::marker::Model;
@@ -18,12 +16,17 @@ use std::marker::Model;
 /// A renewal of a linker that goes on meanwhile, or none. A clause sees what it has.
 pub struct Renewal {
     begun: Option<Begun>,
+    /// What is left of one that has ended, which goes where no lock is held.
+    ended: Option<Begun>,
 }
 
 // Written out, since a derived drop is proved anew in each crate that lets one go.
 impl Drop for Renewal {
     fn drop(self) {
-        let Renewal { begun: _begun } = self;
+        let Renewal {
+            begun: _begun,
+            ended: _ended,
+        } = self;
     }
 }
 
@@ -45,7 +48,10 @@ impl Renewal {
     pub fn blank() -> Renewal
         ensures { result ≡ None }
     {
-        Renewal { begun: None }
+        Renewal {
+            begun: None,
+            ended: None,
+        }
     }
 
     /// Begins a renewal of the linker as it is now, of which the call sites and switch points that are released go unless they are still
@@ -83,13 +89,7 @@ impl Renewal {
     /// Takes the next of the events that the linker has accepted, at most so many, and tells how many are left: first those that it had at
     /// the begin, and then those since. None is copied. The status tells whether the renewal hasn't begun, the linker isn't open, or memory
     /// lacks; nothing was taken then.
-    pub fn take(
-        &mut self,
-        alloc: Global,
-        from: &mut Linker,
-        most: usize,
-        left: &mut usize,
-    ) -> u32
+    pub fn take(&mut self, alloc: Global, from: &mut Linker, most: usize, left: &mut usize) -> u32
         ensures { IsTake most self.old from.old left.old result left.new self.new from.new }
     {
         let Some(begun) = &mut self.begun else {
@@ -120,6 +120,7 @@ impl Renewal {
         let Some(begun) = &mut self.begun else {
             return unasked(CLOSED, told);
         };
+        begun.let_past_go(alloc);
         begun.fill(alloc, told)
     }
 
@@ -151,14 +152,27 @@ impl Renewal {
         if fresh.is_open() {
             return unasked(OPEN_ALREADY, told);
         }
-        if !opened.counts().fit(loaders, classes, sites, call_sites, switches) {
+        if !opened
+            .counts()
+            .fit(loaders, classes, sites, call_sites, switches)
+        {
             return unasked(TOO_SHORT, told);
         }
         let status = begun.fill_all(alloc, opened.core(), told);
         if status != DONE {
             return status;
         }
-        hand_over(&mut self.begun, alloc, fresh, loaders, classes, sites, call_sites, switches)
+        hand_over(
+            &mut self.begun,
+            &mut self.ended,
+            alloc,
+            fresh,
+            loaders,
+            classes,
+            sites,
+            call_sites,
+            switches,
+        )
     }
 
     /// Lets go what was made. The renewal hasn't begun then.
@@ -166,6 +180,7 @@ impl Renewal {
         ensures { self.new ≡ None }
     {
         self.begun = None;
+        self.ended = None;
     }
 }
 
@@ -180,6 +195,7 @@ fn count_left(core: &Core, taken: usize) -> usize
 /// then.
 fn hand_over(
     renewal: &mut Option<Begun>,
+    ended: &mut Option<Begun>,
     alloc: Global,
     linker: &mut Linker,
     loaders: &mut [u32],
@@ -199,7 +215,7 @@ fn hand_over(
         return TOO_SHORT;
     }
     write_numbers(numbers, loaders, classes, sites, call_sites, switches);
-    let Some(fresh) = take_fresh(renewal) else {
+    let Some(fresh) = take_fresh(renewal, ended) else {
         return MALFORMED;
     };
     linker.open_over(fresh.into_opened(alloc));
@@ -213,11 +229,13 @@ fn fresh_of(renewal: &Option<Begun>) -> Option<&Fresh>
     renewal.as_ref()?.fresh()
 }
 
-/// Takes the fresh core, if it is there. The renewal has ended then.
-fn take_fresh(renewal: &mut Option<Begun>) -> Option<Fresh>
+/// Takes the fresh core, if it is there. The renewal has ended then, and what is left of it is kept.
+fn take_fresh(renewal: &mut Option<Begun>, ended: &mut Option<Begun>) -> Option<Fresh>
     ensures taken { result ≡ option_and_then (λ begun. begun.fresh) renewal.old }
     ensures ended { renewal.new ≡ None }
 {
     let mut begun = renewal.take()?;
-    begun.take_fresh()
+    let fresh = begun.take_fresh();
+    *ended = Some(begun);
+    fresh
 }

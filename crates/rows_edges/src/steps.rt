@@ -1,8 +1,8 @@
 //! Steps on a linker, a seat, a memo and a view, each with numbers for an answer.
 
 use jl_host::{
-    CallAnswer, Counts, Invocation, LinkRow, LinkShown, Linker, Memo, Renewal, Row, Seat, TargetPart,
-    Told, View,
+    CallAnswer, Counts, Invocation, LinkRow, LinkShown, Linker, Memo, Renewal, Row, Seat,
+    TargetPart, Told, View,
 };
 use std::alloc::Global;
 use std::mem;

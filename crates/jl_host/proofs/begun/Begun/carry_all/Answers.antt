@@ -1,4 +1,4 @@
-use Rattle.std.specs.Prelude.{◌≡◌, [], Some, drop}
+use Rattle.std.specs.Prelude.{[], Some, drop}
 use Rattle.std.proofs.Common.{◌∙◌, refl, sym, ap, subst, inl, inr}
 use Rattle.std.proofs.lemmas.Result.{err_from_is_err_and}
 use Rattle.jl_types.specs.declared.refusal.Refusal.TheVariants.{Memory}
@@ -16,12 +16,16 @@ returns-in_err-carry_all-clause-stopped c =
     let left = drop to inside.waiting.items in
     let fault = c.in_err-carry_all.field-0.0 in
     let p = err_from_is_err_and c.from_residual.result c.from_residual.ensures.1 in
-    rw (p.1, p.2)
-    (fresh, after, left, ap (λ (r : Renewing). r.fresh) (sym c.self.view_is) ∙ c.in-Some.is,
-    inl (subst (λ (r : Renewing). StopsBefore r.defined r.waiting left fresh fault after) c.self.view_is
-    (subst (λ entries. StopsBefore inside.defined (drop inside.carried entries) (drop to entries) fresh fault after) c.as_slice.ensures.value
-    c.in_err-carry_all.ensures.uncarried)),
-    λ i. record (c.self.view_is i) { fresh = Some after; waiting = left })
+    rw (p.1, p.2) (
+      fresh,
+      after,
+      left,
+      ap (λ (r : Renewing). r.fresh) (sym c.self.view_is) ∙ c.in-Some.is,
+      inl (subst (λ (r : Renewing). StopsBefore r.defined r.waiting left fresh fault after) c.self.view_is
+          (subst (λ entries. StopsBefore inside.defined (drop inside.carried entries) (drop to entries) fresh fault after) c.as_slice.ensures.value
+          c.in_err-carry_all.ensures.uncarried)),
+      λ i. record (c.self.view_is i) { fresh = Some after; waiting = left },
+    )
 
 pub returns-clause-carried : goal.returns-clause-carried
 returns-clause-carried c =
@@ -58,7 +62,11 @@ returns-clause-stopped c =
     (all_in inside.defined c.as_slice.result.now inside.waiting.items inside.carried c.carry_all.new.carried fresh c.carry_all.new.self
     c.as_slice.ensures.value c.in_ok-carry_all.ensures.all c.in_ok-carry_all.ensures.carried)
     in
-    if_fault c.catch_up.result _ (Refused Memory) c.catch_up.ensures.lacks
-    (fresh, after, [], ap (λ (r : Renewing). r.fresh) (sym c.self.view_is) ∙ c.in-Some.is,
-    inr (refl, refl, subst (λ (r : Renewing). AreCarried r.defined r.waiting fresh after) c.self.view_is carried),
-    λ i. record (c.self.view_is i) { fresh = Some after; waiting = c.new.ensures.items i })
+    if_fault c.catch_up.result _ (Refused Memory) c.catch_up.ensures.lacks (
+      fresh,
+      after,
+      [],
+      ap (λ (r : Renewing). r.fresh) (sym c.self.view_is) ∙ c.in-Some.is,
+      inr (refl, refl, subst (λ (r : Renewing). AreCarried r.defined r.waiting fresh after) c.self.view_is carried),
+      λ i. record (c.self.view_is i) { fresh = Some after; waiting = c.new.ensures.items i },
+    )

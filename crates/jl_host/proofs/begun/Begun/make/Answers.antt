@@ -1,5 +1,5 @@
 use Rattle.std.specs.Prelude.{◌≡◌, ◌+◌, drop, take, length, nat_le, true, Some, None}
-use Rattle.std.proofs.Common.{◌∙◌, sym, ap, subst}
+use Rattle.std.proofs.Common.{◌∙◌, sym, subst}
 use Rattle.std.proofs.lemmas.Result.{err_from_is_err_and}
 use Rattle.jl_host.specs.Renewing.{Renewing, IsReady, IsUnready, IsUnmade}
 use Rattle.jl_host.proofs.RenewingLaws.{from_place, drop_past, ready_from}
@@ -14,10 +14,13 @@ returns-in_err-fresh-clause-unready c =
     let rest = from_place c.as_slice.result.now c.self.inside.waiting.items k c.as_slice.ensures.value in
     let p = err_from_is_err_and c.from_residual.result c.from_residual.ensures.1 in
     rw (p.1, p.2)
-    (subst (λ (old : Renewing). IsUnready old r) c.self.view_is
-    (start, c.in-Some.is, subst (λ past. IsUnmade start past most r)
-    (c.in-Some-front.ensures.0 ∙ (λ i. take (c.serial.ensures i) (rest i)))
-    c.in_err-fresh.ensures.refused))
+    (subst (λ (old : Renewing). IsUnready old r) c.self.view_is (
+      start,
+      c.in-Some.is,
+      subst (λ past. IsUnmade start past most r)
+          (c.in-Some-front.ensures.0 ∙ (λ i. take (c.serial.ensures i) (rest i)))
+          c.in_err-fresh.ensures.refused,
+    ))
 
 pub returns-clause-ready : goal.returns-clause-ready
 returns-clause-ready c =

@@ -1,5 +1,4 @@
-use Rattle.jl_host.specs.Renewing.{Fresh}
-use Rattle.jl_host.proofs.RenewingLaws.{carried_behind, carries_on, uncarries_on}
+use Rattle.jl_host.proofs.RenewingLaws.{carried_behind}
 use Rattle.jl_host.proofs.fresh.Fresh.carry.Goals as goal
 
 pub invariant_of-self : goal.invariant_of-self

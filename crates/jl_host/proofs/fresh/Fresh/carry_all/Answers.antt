@@ -1,4 +1,4 @@
-use Rattle.std.specs.Prelude.{◌≡◌, ◌<◌, ◌+◌, ◌∷◌, drop, length}
+use Rattle.std.specs.Prelude.{◌<◌, ◌+◌, ◌∷◌, drop, length}
 use Rattle.std.proofs.Common.{◌∙◌, sym, ap, subst, arith}
 use Rattle.jl_core.specs.Logs.{Entry}
 use Rattle.jl_host.specs.Renewing.{HasCarried}

@@ -17,10 +17,13 @@ returns-in_err-numbers-clause-refused c =
     let r = c.in_err-numbers.field-0.0 in
     let p = err_from_is_err_and c.from_residual-in_err-numbers.result c.from_residual-in_err-numbers.ensures.1 in
     rw (p.1, p.2)
-    (inl (after, subst (λ (s : Start). IsPartlyFilled s.seen.world past s.released most (empty_core most) after r) c.self.view_is
-    (subst (λ (core : State). IsPartlyFilled c.self.inside.seen.world past c.self.inside.released most core after r) c.in_ok-core.ensures
-    (subst (λ (w : World). IsPartlyFilled w past c.self.inside.released most c.in_ok-core.core after r) c.world-old.ensures
-    c.in_err-numbers.ensures.stops))))
+    (inl (
+      after,
+      subst (λ (s : Start). IsPartlyFilled s.seen.world past s.released most (empty_core most) after r) c.self.view_is
+          (subst (λ (core : State). IsPartlyFilled c.self.inside.seen.world past c.self.inside.released most core after r) c.in_ok-core.ensures
+          (subst (λ (w : World). IsPartlyFilled w past c.self.inside.released most c.in_ok-core.core after r) c.world-old.ensures
+          c.in_err-numbers.ensures.stops)),
+    ))
 
 pub returns-in_err-install_all-clause-refused : goal.returns-in_err-install_all-clause-refused
 returns-in_err-install_all-clause-refused c =
@@ -32,17 +35,21 @@ returns-in_err-install_all-clause-refused c =
     let r = c.in_err-install_all.field-0.0 in
     let p = err_from_is_err_and c.from_residual-in_err-install_all.result c.from_residual-in_err-install_all.ensures.1 in
     rw (p.1, p.2)
-    (inr (inr (n, between, after,
-    (subst (λ (s : Start). IsFilledFrom s.seen.world past s.released n (empty_core most) between) c.self.view_is
-    (subst (λ (core : State). IsFilledFrom c.self.inside.seen.world past c.self.inside.released n core between) c.in_ok-core.ensures
-    (subst (λ (w : World). IsFilledFrom w past c.self.inside.released n c.in_ok-core.core between) c.world-old.ensures
-    c.in_ok-numbers.ensures.added))),
-    subst (λ (s : Start). StopsAt (fresh_rows (world_of between) n (listed s.links s.sites)) between after r) c.self.view_is
-    (subst (λ rows. StopsAt rows between after r)
-    (c.as_slice-2.ensures.value ∙ c.in_ok-rows.ensures
-    ∙ (λ i. fresh_rows (c.world.ensures.world i) n
-    ((c.as_slice.ensures.value ∙ c.in_ok-linked.ensures ∙ ap (λ links. listed links c.self.inside.sites) c.deref.ensures) i)))
-    c.in_err-install_all.ensures.stops))))
+    (inr (inr (
+      n,
+      between,
+      after,
+      (subst (λ (s : Start). IsFilledFrom s.seen.world past s.released n (empty_core most) between) c.self.view_is
+          (subst (λ (core : State). IsFilledFrom c.self.inside.seen.world past c.self.inside.released n core between) c.in_ok-core.ensures
+          (subst (λ (w : World). IsFilledFrom w past c.self.inside.released n c.in_ok-core.core between) c.world-old.ensures
+          c.in_ok-numbers.ensures.added))),
+      subst (λ (s : Start). StopsAt (fresh_rows (world_of between) n (listed s.links s.sites)) between after r) c.self.view_is
+          (subst (λ rows. StopsAt rows between after r)
+          (c.as_slice-2.ensures.value ∙ c.in_ok-rows.ensures
+          ∙ (λ i. fresh_rows (c.world.ensures.world i) n
+          ((c.as_slice.ensures.value ∙ c.in_ok-linked.ensures ∙ ap (λ links. listed links c.self.inside.sites) c.deref.ensures) i)))
+          c.in_err-install_all.ensures.stops),
+    )))
 
 pub invariant_of-result : goal.invariant_of-result
 invariant_of-result c =
