@@ -5,6 +5,7 @@ use Rattle.jl_types.proofs.link.Link.TheSendSync as of_links
 use Rattle.jl_cache.proofs.kept.KeptSlot.TheSendSync as of_slots
 use Rattle.jl_relink.proofs.Crossing.{snapshot_send, world_send}
 use Rattle.jl_core.proofs.Crossing.{core_send, entry_send}
+use Rattle.jl_renewal.specs.contracts.numbers.Renumbering as Renumbering
 use Rattle.jl_session.specs.contracts.session.Session as Session
 use Rattle.jl_host.specs.contracts.opened.Opened as Opened
 use Rattle.jl_host.specs.contracts.linker.Linker as Linker
@@ -29,8 +30,11 @@ view_send = search (snapshot_send, sendable) depth 12
 start_send : IsSend Start.the_row
 start_send = search (snapshot_send, of_slots.the_send, of_slots.the_sync, sendable, of_std) depth 40
 
+numbers_send : IsSend Renumbering.the_row
+numbers_send = search (sendable, of_std) depth 60 fits 100000
+
 fresh_send : IsSend Fresh.the_row
-fresh_send = search (core_send, of_slots.the_send, of_slots.the_sync, sendable, of_std) depth 40
+fresh_send = search (core_send, numbers_send, of_slots.the_send, of_slots.the_sync, sendable, of_std) depth 60 fits 100000
 
 begun_send : IsSend Begun.the_row
 begun_send = search (start_send, fresh_send, entry_send, world_send, sendable, of_std) depth 40

@@ -1,4 +1,5 @@
 -- Numbers that hosts know by include/linkd.h, and what is shown of small values.
+pub mod Renewing
 use Rattle.std.specs.Prelude.{◌≡◌, ℕ, List, [], ◌∷◌, ◌++◌, map, replicate, Some, None, option_map}
 use Rattle.std.proofs.Common.{refl}
 use Rattle.jl_pool.specs.declared.pool_fault.PoolFault.TheVariants as pool
