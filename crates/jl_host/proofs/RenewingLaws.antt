@@ -18,9 +18,6 @@ use Rattle.jl_host.specs.Renewing.{Start, Fresh, Renewing, IsMade, IsReady}
 use Rattle.jl_host.specs.Renewing.{IsCarriedOn, IsUncarriedOn, AreCarried, AreAllCarried, HasCarried, installs_of}
 use Rattle.jl_host.proofs.CaughtUp.{accepted_behind}
 
-pub none_carried : (w : World) (entries : List Entry) (m : Fresh) → HasCarried w entries entries m m
-none_carried w entries m = ([], refl, refl)
-
 then_carried : (w : World) (front : List Entry) (entry : Entry) (old between new : Fresh) → AreCarried w front old between
     → IsCarriedOn w entry between new → AreCarried w (front ++ entry ∷ []) old new
 then_carried w [] entry old between new same one = (new, subst (λ m. IsCarriedOn w entry m new) same one, refl)

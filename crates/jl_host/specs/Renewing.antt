@@ -1,6 +1,6 @@
 -- A renewal in steps, beside a linker that goes on: what it has, and what each of its calls leaves.
-use Rattle.std.specs.Prelude.{◌≡◌, ◌⊎◌, ◌+◌, ◌-◌, ◌^◌, ◌==◌, ℕ, true, nat_le, slice_get, List, [], ◌∷◌, ◌++◌, filter_map, take, drop, length, Option, Some, None}
-use Rattle.std.specs.Prelude.{option_map, option_and_then, MatchBool, MatchOption}
+use Rattle.std.specs.Prelude.{◌≡◌, ◌⊎◌, ◌+◌, ◌-◌, ◌^◌, ◌==◌, ℕ, true, nat_le, slice_get, List, [], ◌∷◌, ◌++◌, filter_map, take, drop, length}
+use Rattle.std.specs.Prelude.{Option, Some, None, option_map, option_and_then, MatchBool, MatchOption}
 use Rattle.std.specs.Option.{unwrap_or, option_map_or, option_or}
 use Rattle.std.specs.List.{range_with_len}
 use Rattle.jl_types.specs.declared.event.EventOf.TheVariants as event

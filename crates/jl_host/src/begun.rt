@@ -1,6 +1,7 @@
 //! What a renewal in steps has from its begin on.
 
-ghost use Rattle.std.specs.Prelude.{◌≡◌, ◌≤◌, ◌∷◌, [], List, None, take, drop, length, ◌++◌, ◌+◌, ◌-◌, ℕ, nat_le, true, false, MatchOption, option_copied, IfOk, IfErr, OnOk, OnErr};
+ghost use Rattle.std.specs.Prelude.{◌≡◌, ◌≤◌, take, drop, length, ◌++◌, ◌+◌, ◌-◌, nat_le, true, false, MatchOption, option_copied};
+ghost use Rattle.std.specs.Prelude.{IfOk, IfErr, OnOk, OnErr};
 ghost use Rattle.std.specs.Vec.{vec_len, vec_capacity};
 ghost use Rattle.jl_host.specs.Renewing as renewing;
 ghost use Rattle.jl_host.specs.Renewing.{IsTakenFrom, AreBrought, IsReady, IsUnready, IsFilled, IsFilledOn, IsFilledAll, AreAllCarried, HasStopped};

@@ -7,7 +7,7 @@ ghost use Rattle.jl_renewal.specs.declared.entries.CarryFault.TheVariants.{Refus
 ghost use Rattle.jl_renewal.specs.Renewal.{fresh_rows};
 ghost use Rattle.jl_host.specs.Linkers.{opened_over};
 ghost use Rattle.jl_host.specs.Renewing as renewing;
-ghost use Rattle.jl_host.specs.Renewing.{IsMade, IsUnmade, IsLinked, AreUnlinked, IsCarriedOn, IsUncarriedOn, HasCarried};
+ghost use Rattle.jl_host.specs.Renewing.{IsMade, IsUnmade, IsLinked, AreUnlinked, IsCarriedOn, IsUncarriedOn, HasCarried, StopsBefore};
 
 use crate::behind::{Links, catch_up, no_links};
 use crate::opened::Opened;
@@ -212,7 +212,8 @@ impl Fresh {
         ensures most { carried.new ≤ length entries.now }
         ensures carried { OnOk result (HasCarried defined.now (drop carried.old entries.now) (drop carried.new entries.now) self.old self.new) }
         ensures all { OnOk result (carried.new ≡ length entries.now) }
-        ensures uncarried { IfErr result (λ fault. renewing.StopsBefore defined.now (drop carried.old entries.now) (drop carried.new entries.now) self.old fault self.new) }
+        ensures uncarried { IfErr result (λ fault. StopsBefore defined.now (drop carried.old entries.now) (drop carried.new entries.now)
+            self.old fault self.new) }
     {
         while let Some(entry) = entries.get(*carried) {
             self.carry(alloc, defined, entry)?;

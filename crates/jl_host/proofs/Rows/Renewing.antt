@@ -26,8 +26,8 @@ n = record { loaders = []; classes = []; sites = []; call_sites = Some 0 ∷ Non
 
 -- ---- what is gone in a target: the first in its order, a guard's switch point before its parts
 
-gone : map (gone_in n) (Method m ∷ Invoker 0 ∷ Invoker 1 ∷ Guard 1 (Method m) (Invoker 0) ∷ Guard 0 (Invoker 1) (Method m) ∷ Guard 1 (Invoker 1) (Guard 0 (Method m) (Method m))
-    ∷ Guard 1 (Method m) (Guard 0 (Invoker 1) (Method m)) ∷ Guard 1 (Invoker 0) (Invoker 7) ∷ [])
+gone : map (gone_in n) (Method m ∷ Invoker 0 ∷ Invoker 1 ∷ Guard 1 (Method m) (Invoker 0) ∷ Guard 0 (Invoker 1) (Method m)
+    ∷ Guard 1 (Invoker 1) (Guard 0 (Method m) (Method m)) ∷ Guard 1 (Method m) (Guard 0 (Invoker 1) (Method m)) ∷ Guard 1 (Invoker 0) (Invoker 7) ∷ [])
     ≡ None ∷ None ∷ Some 1 ∷ None ∷ Some 0 ∷ Some 1 ∷ Some 0 ∷ Some 7 ∷ []
 gone = refl
 
