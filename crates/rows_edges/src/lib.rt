@@ -1,6 +1,6 @@
 //! Tests of what comes in and goes out: plain values; commands, sketches and answers as JSON; readers and writers of one's own, with short
-//! reads and writes and devices that fail at any call; how the program ends, and how many workers words ask for; and linkers, seats and
-//! memos as a host has them. Nothing here is called by other crates.
+//! reads and writes and devices that fail at any call; how the program ends, and how many workers words ask for; and linkers, seats,
+//! memos, views and renewals as a host has them. Nothing here is called by other crates.
 #![tactic(auto)]
 
 #[cfg(test)]
