@@ -1,7 +1,8 @@
 #!/usr/bin/env python3
 """Holds the pages to the sources. Of docs/PROMISES.md each call is a public function of the file that it leads to, with a clause of each
 name that stands behind it in brackets, and so is each of README.md's promises; each crate and script is there; docs/DEFINITIONS.md
-names each file of definitions; docs/CRATES.md names each crate below those that it uses; each link of a page leads to a file; and the newest
+names each file of definitions, and as the headline's reading list exactly what its file reaches by its imports, of which README.md says how
+much it is; docs/CRATES.md names each crate below those that it uses; each link of a page leads to a file; and the newest
 known version of class files and the version of the header are the same wherever they have to be written again.
 
     bench/promises.py     at the top of the repository; prints what isn't so, and ends with status 0 where all is
@@ -64,6 +65,34 @@ def definitions():
     return wrong
 
 
+def imported(text):
+    """The files of specs/ whose definitions the text imports. What is made of the sources' types has no file."""
+    found = set()
+    for crate, module in re.findall(r"use Rattle\.(\w+)\.specs\.([\w.]+)", text):
+        parts = module.strip(".").split(".")
+        paths = [TOP / "crates" / crate / "specs" / "/".join(parts[:count]) for count in range(len(parts), 0, -1)]
+        found |= set([path.with_suffix(".antt") for path in paths if path.with_suffix(".antt").is_file()][:1])
+    return found
+
+
+def headline():
+    """What docs/DEFINITIONS.md has to be read for the headline, and what README.md says of how much that is, beside what the file of its law
+    reaches."""
+    reached, left = set(), imported((TOP / "crates/jl_core/src/laws.rt").read_text())
+    while left:
+        path = left.pop()
+        if path not in reached:
+            reached.add(path)
+            left |= imported(path.read_text())
+    page = (TOP / "docs/DEFINITIONS.md").read_text().split("\n## The headline\n")[1].split("\n## ")[0]
+    named = {TOP / file for file in re.findall(r"\]\(\.\./(crates/\w+/specs/[^)]*)\)", page)}
+    wrong = [f"docs/DEFINITIONS.md: the headline rests on {path}, too" for path in sorted(reached - named)]
+    wrong += [f"docs/DEFINITIONS.md: the headline doesn't rest on {path}" for path in sorted(named - reached)]
+    lines = sum(len(path.read_text().splitlines()) for path in reached)
+    said = f"{len(reached)} files of definitions, {lines:,} lines"
+    return wrong + ([] if said in (TOP / "README.md").read_text().replace("\n", " ") else [f"README.md doesn't say: {said}"])
+
+
 def crates():
     """The crates that docs/CRATES.md leaves out, or names above one that they use."""
     rows = re.findall(r"^\| (.*?) \|", (TOP / "docs/CRATES.md").read_text(), re.M)
@@ -108,7 +137,7 @@ def promised(page, rows, found, are_named):
 
 def main():
     page, found = (TOP / "docs/PROMISES.md").read_text(), clauses()
-    wrong = definitions() + crates() + differing("the newest known version", NEWEST) + differing("the version of the header", HEADER)
+    wrong = definitions() + headline() + crates() + differing("the newest known version", NEWEST) + differing("the version of the header", HEADER)
     wrong += promised(TOP / "docs/PROMISES.md", page.split("## What no clause says")[0], found, True)
     first = (TOP / "README.md").read_text().split("## What is proved")[1].split("\n## ")[0]
     wrong += promised(TOP / "README.md", first, found, False)

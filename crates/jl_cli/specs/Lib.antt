@@ -1,4 +1,5 @@
 pub mod Endings
 pub mod Modes
 pub mod Farms
+pub mod Asked
 pub mod ForProofs

@@ -1,7 +1,7 @@
 //! The program `linkd`, as a library: its modes, which answer the lines of an input, and how it ends.
 //!
-//! What one line is answered stands in `specs/Modes`, by jl_session, and in `specs/Farms`; how the program ends, in `specs/Endings`. The lines
-//! of an input, and that each is answered once, in order, are those of jl_lines; the words are those of jl_words.
+//! What one line is answered stands in `specs/Modes`, by jl_session, and in `specs/Farms`; what the program does for words, in `specs/Asked`,
+//! and how it ends, in `specs/Endings`. The lines of an input, and that each is answered once, in order, are those of jl_lines; the words are those of jl_words.
 #![tactic(auto)]
 
 // The modes of lines.
@@ -14,9 +14,11 @@ mod farm_fault;
 mod farm_lines;
 mod served;
 
-// The end.
+// The words, and the end.
+mod asked;
 mod ending;
 
+pub use asked::obey_words;
 pub use ending::Ending;
 pub use farm_fault::FarmLineFault;
 pub use farm_lines::run_farm;

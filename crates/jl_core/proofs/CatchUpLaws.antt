@@ -1,7 +1,7 @@
 -- An instance that is one event behind another one, and what it is once the event was replayed.
 use Rattle.std.specs.Prelude.{◌≡◌, ℕ, zero, suc, ◌+◌, ◌≤◌, ◌&&◌, Bool, true, false, List, [], ◌∷◌, ◌++◌, map, take, length}
 use Rattle.std.specs.Prelude.{slice_get, Option, Some, None, option_map, is_some, IsOk, Ok, if◌then◌else◌}
-use Rattle.std.specs.List.{cons_option}
+use Rattle.std.specs.List.{cons_option, list_all}
 use Rattle.std.proofs.Common.{refl, ap, sym, subst, ◌∙◌, arith}
 use Rattle.std.proofs.lemmas.List.{map-append}
 use Rattle.std.proofs.lemmas.Option.{same_Some}
@@ -16,16 +16,17 @@ use Rattle.jl_types.specs.Events.History as history
 use Rattle.jl_types.proofs.OneMore.{installed_step}
 use Rattle.jl_types.proofs.Places.{accepted_of, world_more}
 use Rattle.jl_types.specs.declared.key.Key.{Key}
-use Rattle.jl_relink.specs.Laws.{IsInOrder}
+use Rattle.jl_relink.specs.Laws.{IsInOrder, has_read_file}
 use Rattle.jl_cache.specs.Links.{link_at}
 use Rattle.jl_deps.specs.Indexes.{AreRising, IsIndex}
 use Rattle.jl_events.specs.Accepted.{event_of}
 use Rattle.jl_events.specs.Changes.{IsNext}
 use Rattle.jl_core.specs.State.{State, events, world_of, AreAnswered}
-use Rattle.jl_core.specs.Logs.{Entry, told, are_told, shown, IsLogged}
+use Rattle.jl_core.specs.Logs.{Entry, told, are_told, shown, AreToldThen, IsLogged}
 use Rattle.jl_core.specs.ForProofs.Replays.{AreDropped, IsBehind, IsFurther}
 use Rattle.jl_core.specs.ForProofs.Touched.{has}
 use Rattle.jl_core.proofs.LogLaws.{length_told}
+use Rattle.jl_core.proofs.HeadlineLaws.{then_more}
 use Rattle.jl_core.proofs.ToldLaws.{installs_so}
 use Rattle.jl_core.proofs.SlotLaws.{left_after}
 use Rattle.jl_core.proofs.HistoryLaws.{core_of, IsExact, exact_links, shown_further, told_further}
@@ -216,14 +217,23 @@ module _ (m : ℕ) (old : World) (links : List (ℕ × Link)) (log : List Entry)
       log = (shown_further old new log more e reply exact.told (came ∙ moved) is_logged ∙ sym next.more) i;
     }
 
-    pub exact_so : IsExact m new after more
-    exact_so = record {
+    then_so : AreToldThen (record { max_sites = m; log = core.log ++ (e, reply) ∷ [] }) more
+    then_so =
+        let tells = ap (λ (w : World). told w.classes.rows entry) (sym (is_world ∙ ap world_after events_further)) ∙ one.1 in
+        subst (AreToldThen (record { max_sites = m; log = core.log ++ (e, reply) ∷ [] })) (sym logged)
+        (then_more m core.log e reply log entry (sym (length_told old.classes.rows log exact.told)) tells exact.told_then)
+
+    pub exact_so : list_all has_read_file (events further) ≡ true → IsExact m new after more
+    exact_so files = record {
       world = came ∙ is_world ∙ ap world_of (sym same_core);
       links = λ s. same_links s ∙ are_links s ∙ ap (λ (es : List Event). installed es s) (ap events (sym same_core));
       told = told_further old new log more e reply exact.told (came ∙ moved) is_logged;
       answered = subst AreAnswered (sym same_core) answered;
+      told_then = subst (λ (core : State). AreToldThen core more)
+          ((λ i. record { max_sites = next.limit i; log = sym next.more i }) ∙ sym same_core) then_so;
+      files = ap (λ (core : State). list_all has_read_file (events core)) same_core ∙ files;
     }
 
     -- with no more places than may be requested
-    pub kept_so : length ahead.places ≤ k → IsExact m new after more × (length new.places ≤ m)
-    kept_so few = (exact_so, few_so new came few)
+    pub kept_so : list_all has_read_file (events further) ≡ true → length ahead.places ≤ k → IsExact m new after more × (length new.places ≤ m)
+    kept_so files few = (exact_so files, few_so new came few)

@@ -1,8 +1,10 @@
 -- What a core is after any events.
-use Rattle.std.specs.Prelude.{◌≡◌, ◌↔◌, ℕ, ◌<◌, ◌≤◌, ◌⊎◌, List, [], ◌∷◌, ◌++◌, take, length, slice_get, Some, Result, Ok, Err, Contains}
-use Rattle.std.proofs.Common.{ap, sym, subst, ◌∙◌, arith, inl, inr, length-append}
-use Rattle.std.proofs.lemmas.Bool.{cases_lt}
+use Rattle.std.specs.Prelude.{◌≡◌, ◌↔◌, ℕ, suc, ◌<◌, ◌≤◌, ◌⊎◌, true, List, [], ◌∷◌, ◌++◌, take, length, slice_get, Some, Result, Ok, Err, Contains}
+use Rattle.std.specs.List.{list_all}
+use Rattle.std.proofs.Common.{refl, ap, sym, subst, ◌∙◌, arith, inl, inr, length-append}
+use Rattle.std.proofs.lemmas.Bool.{and_from, cases_lt}
 use Rattle.std.proofs.lemmas.List.{map-append, take-append-le, length-map}
+use Rattle.std.proofs.lemmas.List.Folds.{list_all-append}
 use Rattle.std.proofs.lemmas.Option.{same_Some, slice_get_within}
 use Rattle.std.proofs.Math.Seq.{take-length}
 use Rattle.jl_types.specs.Events.Event.{Event}
@@ -11,12 +13,14 @@ use Rattle.jl_types.specs.declared.link.Link.{Link}
 use Rattle.jl_types.specs.declared.refusal.Refusal.{Refusal}
 use Rattle.jl_types.specs.Linkage.Links.{scratch}
 use Rattle.jl_types.specs.Events.History as history
-use Rattle.jl_types.specs.Events.History.{Settled}
+use Rattle.jl_types.specs.Events.History.{Settled, world_after}
 use Rattle.jl_types.proofs.Installed.{installed_to, installed_from, settled_now}
 use Rattle.jl_types.proofs.InstalledLinks.{links_are, installed_requested}
 use Rattle.jl_types.proofs.Lists.{before_end, at_end}
 use Rattle.jl_core.specs.State.{State, empty_core, events, world_of, links_of, AreAnswered, IsApplied}
 use Rattle.jl_core.specs.Headline.{AreApplied}
+use Rattle.jl_core.specs.Logs.{Entry, told, AreToldThen}
+use Rattle.jl_relink.specs.Laws.{has_read_file}
 
 -- ---- the links
 
@@ -69,6 +73,44 @@ module _ (m : ℕ) (log : List (Event × Reply)) (e : Event) (reply : Reply) whe
       by_place (inr le) =
           let within = slice_get_within after.log n (x, r) is in
           last (omega (arith, length-append log ((e, reply) ∷ [])))
+
+  pub files_more : list_all has_read_file (events before) ≡ true → has_read_file e ≡ true → list_all has_read_file (events after) ≡ true
+  files_more files read =
+      ap (list_all has_read_file) events_after
+      ∙ list_all-append has_read_file (events before) (e ∷ [])
+      ∙ and_from (list_all has_read_file (events before)) (list_all has_read_file (e ∷ [])) files (and_from (has_read_file e) true read refl)
+
+  -- one entry more, which tells the event by the classes that there are then
+  pub then_more : (entries : List Entry) (entry : Entry) → length entries ≡ length log
+      → told (world_after (events before ++ e ∷ [])).classes.rows entry ≡ Some (e, reply) → AreToldThen before entries
+      → AreToldThen after (entries ++ entry ∷ [])
+  then_more entries entry same tells h n x is = by_place (cases_lt n (length log))
+    where
+      whole : n ≡ length log → take (suc n) (events after) ≡ events before ++ e ∷ []
+      whole at =
+          let count : suc n ≡ length (events before ++ e ∷ []) =
+          omega (arith, at, length-append (events before) (e ∷ []), length-map log (λ (entry : Event × Reply). entry.0)) in
+          ap (take (suc n)) events_after
+          ∙ ap (λ k. take k (events before ++ e ∷ [])) count
+          ∙ take-length (events before ++ e ∷ [])
+
+      last : n ≡ length log → told (world_after (take (suc n) (events after))).classes.rows x ≡ slice_get after.log n
+      last at =
+          let one : entry ≡ x =
+          same_Some entry x (sym (at_end entries entry) ∙ ap (slice_get (entries ++ entry ∷ [])) (same ∙ sym at) ∙ is) in
+          (λ i. told (world_after (whole at i)).classes.rows (sym one i))
+          ∙ tells
+          ∙ sym (at_end log (e, reply))
+          ∙ ap (slice_get after.log) (sym at)
+
+      by_place : ((n < length log) ⊎ (length log ≤ n)) → told (world_after (take (suc n) (events after))).classes.rows x ≡ slice_get after.log n
+      by_place (inl lt) =
+          ap (λ (es : List Event). told (world_after es).classes.rows x) (first_events (suc n) lt)
+          ∙ h n x (sym (before_end entries entry n (omega (arith, lt, same))) ∙ is)
+          ∙ sym (before_end log (e, reply) n lt)
+      by_place (inr le) =
+          let within = slice_get_within (entries ++ entry ∷ []) n x is in
+          last (omega (arith, same, length-append entries (entry ∷ [])))
 
 applied_answered : (old : State) (e : Event) (answer : Result Reply Refusal) (new : State) → AreAnswered old → IsApplied old e answer new
     → AreAnswered new × (new.max_sites ≡ old.max_sites)

@@ -1,6 +1,6 @@
 -- One event more, as the whole history says it.
 use Rattle.std.specs.Prelude.{◌≡◌, ◌≤◌, ℕ, ◌&&◌, true, List, [], ◌∷◌, ◌++◌, map, filter, length, slice_get, Some, option_map, Ok, IsOk, is_some, is_none}
-use Rattle.std.specs.List.{range_with_len}
+use Rattle.std.specs.List.{list_all, range_with_len}
 use Rattle.std.proofs.Common.{ap, sym, subst, ◌∙◌}
 use Rattle.std.proofs.lemmas.List.{map-append}
 use Rattle.std.proofs.lemmas.List.Sums.{fold-append}
@@ -20,12 +20,14 @@ use Rattle.jl_types.specs.declared.key.Key.{Key}
 use Rattle.jl_types.specs.Events.Footprints.{footprint}
 use Rattle.jl_cache.specs.Links.{link_at}
 use Rattle.jl_deps.specs.Indexes.{footprint_at, IsIndex}
+use Rattle.jl_relink.specs.Laws.{has_read_file}
+use Rattle.jl_events.specs.Accepted.{event_of}
 use Rattle.jl_events.proofs.AcceptedLaws.{rows_stay}
 use Rattle.jl_core.specs.State.{State, events, world_of, AreAnswered, IsAccepted}
-use Rattle.jl_core.specs.Logs.{Entry, are_told, shown, IsLogged}
+use Rattle.jl_core.specs.Logs.{Entry, are_told, shown, AreToldThen, IsLogged}
 use Rattle.jl_core.specs.ForProofs.Changes.{AreScratch, IsDone}
-use Rattle.jl_core.proofs.LogLaws.{all_still, told_more, shown_more}
-use Rattle.jl_core.proofs.HeadlineLaws.{answered_more}
+use Rattle.jl_core.proofs.LogLaws.{all_still, told_more, shown_more, length_told}
+use Rattle.jl_core.proofs.HeadlineLaws.{answered_more, files_more, then_more}
 
 -- the core of a log
 abbrev pub core_of : ℕ → World → List Entry → State
@@ -37,6 +39,8 @@ pub record IsExact (m : ℕ) (w : World) (cached : List (ℕ × Link)) (log : Li
   pub links : (s : ℕ) → link_at cached s ≡ installed (events (core_of m w log)) s
   pub told : are_told w.classes.rows log ≡ true
   pub answered : AreAnswered (core_of m w log)
+  pub told_then : AreToldThen (core_of m w log) log
+  pub files : list_all has_read_file (events (core_of m w log)) ≡ true
 
 -- so each link is the one from scratch
 pub exact_links : (m : ℕ) (w : World) (links : List (ℕ × Link)) (log : List Entry) → IsExact m w links log → AreScratch w links
@@ -94,14 +98,26 @@ module _ (m : ℕ) (old new : World) (before after : List (ℕ × Link)) (log mo
       (λ i. replied (same_dropped i) (verdict m (sym exact.world i) e))
       ∙ ap (replied reply.dropped) (done.moved.made_is m accepted)
 
-  pub exact_after : IsExact m new after more
-  exact_after = record {
+  then_after : AreToldThen (record { max_sites = m; log = shown old.classes.rows log ++ (e, reply) ∷ [] }) more
+  then_after =
+      let tells = ap (λ (w : World). option_map (λ (x : Event). (x, reply)) (event_of w.classes.rows done.logged.accepted)) (sym world_more)
+      ∙ ap (option_map (λ (x : Event). (x, reply))) done.logged.is in
+      subst (AreToldThen (record { max_sites = m; log = shown old.classes.rows log ++ (e, reply) ∷ [] })) (sym done.logged.last)
+      (then_more m (shown old.classes.rows log) e reply log (record { event = done.logged.accepted; reply = reply })
+      (sym (length_told old.classes.rows log exact.told)) tells exact.told_then)
+
+  pub exact_after : has_read_file e ≡ true → IsExact m new after more
+  exact_after read = record {
     world = world_more ∙ ap world_after (sym events_after);
     links = λ s. links_more s ∙ ap (λ (es : List Event). installed es s) (sym events_after);
     told = told_further old new log more e reply exact.told done.moved.step done.logged;
     answered =
         subst (λ (entries : List (Event × Reply)). AreAnswered (record { max_sites = m; log = entries })) (sym shown_after)
         (answered_more m (shown old.classes.rows log) e reply exact.answered answered);
+    told_then = subst (λ (entries : List (Event × Reply)). AreToldThen (record { max_sites = m; log = entries }) more) (sym shown_after) then_after;
+    files =
+        subst (λ (entries : List (Event × Reply)). list_all has_read_file (events (record { max_sites = m; log = entries })) ≡ true) (sym shown_after)
+        (files_more m (shown old.classes.rows log) e reply exact.files read);
   }
 
   pub accepted_after : IsAccepted (core_of m old log) (core_of m new more) e reply
@@ -113,9 +129,9 @@ module _ (m : ℕ) (old new : World) (before after : List (ℕ × Link)) (log mo
   }
 
   -- with no more places than may be requested
-  pub kept_after : length old.places ≤ m → IsExact m new after more × (length new.places ≤ m)
-  kept_after few =
-      (exact_after, subst (λ (w : World). length w.places ≤ m) (sym done.moved.step) (limit_step m old e reply.made (done.moved.made_is m accepted) few))
+  pub kept_after : has_read_file e ≡ true → length old.places ≤ m → IsExact m new after more × (length new.places ≤ m)
+  kept_after read few =
+      (exact_after read, subst (λ (w : World). length w.places ≤ m) (sym done.moved.step) (limit_step m old e reply.made (done.moved.made_is m accepted) few))
 
 -- the same verdict, by what the core's parts are
 pub accepted_inside : (m : ℕ) (w : World) (log : List Entry) (core : State) (e : Event) → w ≡ world_of (core_of m w log) → core_of m w log ≡ core

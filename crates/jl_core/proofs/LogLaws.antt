@@ -18,7 +18,7 @@ module _ (rows more : List Class) (stay : (c : ℕ) (row : Class) → slice_get 
   some_event None reply e = cc
   some_event (Some x) reply e = refl
 
-  told_still : (entry : Entry) → is_some (told rows entry) ≡ true → told more entry ≡ told rows entry
+  pub told_still : (entry : Entry) → is_some (told rows entry) ≡ true → told more entry ≡ told rows entry
   told_still entry e =
       ap (λ (o : Option Event). option_map (λ (x : Event). (x, entry.reply)) o)
       (event_still rows more stay entry.event (some_event (event_of rows entry.event) entry.reply e))

@@ -1,14 +1,15 @@
 //! One instance of all that a core keeps.
 
 ghost use Rattle.std.specs.Prelude.{◌≡◌, ◌≤◌, ℕ, true, length, option_copied, slice_get, IsOk, IfOk, OnOk};
+ghost use Rattle.std.specs.List.{list_all};
 ghost use Rattle.jl_types.specs.Events.Verdict.{verdict};
 ghost use Rattle.jl_types.specs.Events.History.{installed};
 ghost use Rattle.jl_types.specs.Events.Footprints.{bound};
-ghost use Rattle.jl_relink.specs.Laws.{IsInOrder};
+ghost use Rattle.jl_relink.specs.Laws.{IsInOrder, has_read_file};
 ghost use Rattle.jl_cache.specs.Links.{link_at};
 ghost use Rattle.jl_events.specs.Judging.{IsJudged, most_to_judge};
 ghost use Rattle.jl_core.specs.State.{empty_core, events, world_of, AreAnswered, IsAccepted};
-ghost use Rattle.jl_core.specs.Logs.{shown, are_told};
+ghost use Rattle.jl_core.specs.Logs.{shown, are_told, AreToldThen};
 ghost use Rattle.jl_core.specs.ForProofs.Replays.{IsBehind};
 
 use crate::catch_up::catch_up;
@@ -48,13 +49,15 @@ impl Drop for Instance {
 
 impl Model for Instance {
     ghost use Rattle.std.specs.Prelude.{◌≡◌, ◌<◌, ◌≤◌, ◌^◌, ℕ, true, length};
+    ghost use Rattle.std.specs.List.{list_all};
     ghost use Rattle.std.specs.Coded.{codes};
     ghost use Rattle.jl_types.specs.ForProofs.TargetCode.{target_code};
     ghost use Rattle.jl_types.specs.Events.History.{installed};
+    ghost use Rattle.jl_relink.specs.Laws.{has_read_file};
     ghost use Rattle.jl_cache.specs.Links.{link_at};
     ghost use Rattle.jl_deps.specs.Indexes.{IsIndex};
     ghost use Rattle.jl_core.specs.State.{State, events, world_of, AreAnswered};
-    ghost use Rattle.jl_core.specs.Logs.{shown, are_told};
+    ghost use Rattle.jl_core.specs.Logs.{shown, are_told, AreToldThen};
 
     ghost Value = { State };
 
@@ -69,7 +72,9 @@ impl Model for Instance {
         × (length c.world.value.places ≤ c.max_sites)
         × (c.max_sites < 2 ^ 32)
         × AreAnswered (record { max_sites = c.max_sites; log = shown c.world.value.classes.rows c.log.items })
-        × IsIndex c.world.value (link_at c.links) c.index };
+        × IsIndex c.world.value (link_at c.links) c.index
+        × AreToldThen (record { max_sites = c.max_sites; log = shown c.world.value.classes.rows c.log.items }) c.log.items
+        × (list_all has_read_file (events (record { max_sites = c.max_sites; log = shown c.world.value.classes.rows c.log.items })) ≡ true) };
 }
 
 impl Instance {
@@ -135,6 +140,7 @@ impl Instance {
             mut log,
         } = self;
         note_order(&world);
+        note_file(&event);
         // Shows that the sites of the index rise.
         let _sites = index.len();
         let reply = perform(
@@ -223,6 +229,8 @@ impl Instance {
         ensures told { are_told (world_of self.now).classes.rows result.now ≡ true }
         ensures events { shown (world_of self.now).classes.rows result.now ≡ self.now.log }
         ensures answered { AreAnswered self.now }
+        ensures told_then { AreToldThen self.now result.now }
+        ensures files { list_all has_read_file (events self.now) ≡ true }
     {
         self.log.as_slice()
     }
@@ -233,6 +241,17 @@ pub(crate) fn entry_at<'a>(log: &'a [Entry], place: usize) -> Option<&'a Entry>
     ensures { option_copied result ≡ slice_get log.now place }
 {
     log.get(place)
+}
+
+/// The class file of a definition was read.
+fn note_file(event: &Event)
+    ensures { has_read_file event.now ≡ true }
+{
+    if let Event::Define(_, file) = event {
+        // Both show what the invariants of a class file say.
+        let _superclass = file.superclass();
+        let _methods = file.methods();
+    }
 }
 
 /// The classes of a world came in order, and each guard has its switch point.

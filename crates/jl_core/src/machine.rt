@@ -1,6 +1,7 @@
 //! The event machine.
 
 ghost use Rattle.std.specs.Prelude.{◌≡◌, ◌≤◌, ◌⊎◌, ℕ, true, length, IsOk, IfOk, IfErr, OnOk, OnErr};
+ghost use Rattle.std.specs.List.{list_all};
 ghost use Rattle.jl_types.specs.declared.event.Reply.{Reply};
 ghost use Rattle.jl_types.specs.declared.refusal.Refusal.TheVariants.{Memory};
 ghost use Rattle.jl_types.specs.Linkage.Calls as calls;
@@ -8,12 +9,13 @@ ghost use Rattle.jl_types.specs.Events.Event.{Event};
 ghost use Rattle.jl_types.specs.Events.Verdict.{verdict};
 ghost use Rattle.jl_types.specs.Events.History.{installed};
 ghost use Rattle.jl_types.specs.Events.Footprints.{bound};
+ghost use Rattle.jl_relink.specs.Laws.{has_read_file};
 ghost use Rattle.jl_relink.specs.Preparations.{IsPreparation};
 ghost use Rattle.jl_cache.specs.Links.{link_at};
 ghost use Rattle.jl_events.specs.Judging.{most_to_judge};
 ghost use Rattle.jl_core.specs.State.{State, empty_core, events, world_of, links_of, AreAnswered, IsAccepted, IsRefused};
 ghost use Rattle.jl_core.specs.Plans.{IsPlanned, IsAsPlanned};
-ghost use Rattle.jl_core.specs.Logs.{shown, are_told};
+ghost use Rattle.jl_core.specs.Logs.{shown, are_told, AreToldThen};
 ghost use Rattle.jl_core.specs.WorkBounds.{most_of_last};
 
 use crate::instance::Instance;
@@ -265,11 +267,13 @@ impl Core {
     }
 
     /// The accepted events in order, each with its reply, which is what the events before it say. An entry of a definition names its
-    /// class, which has the loader and the file. Takes no memory.
+    /// class, which has the loader and the file: one that was there once the event was accepted. Each class file was read. Takes no memory.
     pub fn log(&self) -> &[Entry]
         ensures told { are_told (world_of self.now).classes.rows result.now ≡ true }
         ensures events { shown (world_of self.now).classes.rows result.now ≡ self.now.log }
         ensures answered { AreAnswered self.now }
+        ensures told_then { AreToldThen self.now result.now }
+        ensures files { list_all has_read_file (events self.now) ≡ true }
     {
         self.present.log()
     }

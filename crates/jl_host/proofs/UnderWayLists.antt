@@ -1,14 +1,15 @@
 -- Lists of entries, and what they tell as the core goes on.
-use Rattle.std.specs.Prelude.{◌≡◌, ◌<◌, ◌≤◌, ℕ, zero, suc, ◌&&◌, true, List, [], ◌∷◌, ◌++◌, length, slice_get, take, Option, Some, None}
+use Rattle.std.specs.Prelude.{◌≡◌, ◌<◌, ◌≤◌, ℕ, zero, suc, ◌&&◌, true, List, [], ◌∷◌, ◌++◌, fold, length, slice_get, take, drop, Option, Some, None}
 use Rattle.std.specs.Prelude.{option_map, is_some}
 use Rattle.std.specs.List.{cons_option}
 use Rattle.std.proofs.Common.{refl, sym, ap, subst, ◌∙◌, arith, append_assoc}
 use Rattle.std.proofs.lemmas.Bool.{and_parts}
-use Rattle.std.proofs.lemmas.List.{append-nil, map-append}
+use Rattle.std.proofs.lemmas.List.{append-nil, map-append, take-append-drop}
 use Rattle.std.proofs.lemmas.List.Elements.{filter_map-append}
 use Rattle.std.proofs.lemmas.List.Folds.{list_all-append}
+use Rattle.std.proofs.lemmas.List.Sums.{fold-append}
 use Rattle.jl_types.specs.declared.event.Reply.{Reply}
-use Rattle.jl_types.specs.Values.World.{Class}
+use Rattle.jl_types.specs.Values.World.{Class, World, nothing_yet}
 use Rattle.jl_types.specs.Events.Event.{Event}
 use Rattle.jl_types.specs.Events.Verdict.{step}
 use Rattle.jl_types.specs.Events.History.{world_after}
@@ -17,6 +18,7 @@ use Rattle.jl_events.proofs.AcceptedLaws.{rows_stay}
 use Rattle.jl_relink.specs.Laws.{has_read_file}
 use Rattle.jl_core.specs.State.{State, events, world_of, IsAccepted}
 use Rattle.jl_core.specs.Logs.{Entry, told, are_told, shown}
+use Rattle.jl_core.proofs.LogLaws.{told_still}
 use Rattle.jl_host.specs.UnderWay.{HasAccepted, AreAmong}
 
 -- ---- lists
@@ -137,6 +139,21 @@ pub classes_next : (old new : State) (e : Event) (reply : Reply) → IsAccepted 
     → AreAmong (world_of old).classes.rows (world_of new).classes.rows
 classes_next old new e reply accepted c row at =
     ap (λ w. slice_get w.classes.rows c) (world_next old new e reply accepted) ∙ rows_stay (world_of old) e c row at
+
+stay_on : (es : List Event) (w : World) → AreAmong w.classes.rows (fold step w es).classes.rows
+stay_on [] w c row at = at
+stay_on (e ∷ es) w c row at = stay_on es (step w e) c row (rows_stay w e c row at)
+
+-- what an entry tells after a front of the events it tells after all of them
+pub told_later : (entry : Entry) (n : ℕ) (es : List Event) → is_some (told (world_after (take n es)).classes.rows entry) ≡ true
+    → is_some (told (world_after es).classes.rows entry) ≡ true
+told_later entry n es e = ap is_some (told_still (world_after (take n es)).classes.rows (world_after es).classes.rows stay entry e) ∙ e
+  where
+    whole : world_after es ≡ fold step (world_after (take n es)) (drop n es)
+    whole = ap world_after (sym (take-append-drop n es)) ∙ fold-append step nothing_yet (take n es) (drop n es)
+
+    stay : AreAmong (world_after (take n es)).classes.rows (world_after es).classes.rows
+    stay c row at = ap (λ (w : World). slice_get w.classes.rows c) whole ∙ stay_on (drop n es) (world_after (take n es)) c row at
 
 pub classes_grow : (xs : List (Event × Reply)) (old new : State) → HasAccepted old xs new
     → AreAmong (world_of old).classes.rows (world_of new).classes.rows

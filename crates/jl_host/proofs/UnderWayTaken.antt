@@ -1,19 +1,16 @@
 -- A renewal that begins is under way. It stays so while the linker accepts events, and as entries are taken.
-use Rattle.std.specs.Prelude.{◌≡◌, ◌⊎◌, ◌+◌, ◌<◌, ◌≤◌, ℕ, true, slice_get, List, [], ◌∷◌, ◌++◌, length, take, drop, Some}
-use Rattle.std.specs.Prelude.{option_map, option_and_then, is_some}
+use Rattle.std.specs.Prelude.{◌≡◌, ◌⊎◌, ◌+◌, ◌<◌, ◌≤◌, ℕ, suc, true, slice_get, List, [], ◌∷◌, ◌++◌, map, length, take, drop, Some}
+use Rattle.std.specs.Prelude.{option_and_then, is_some}
 use Rattle.std.proofs.Common.{refl, sym, ap, subst, ◌∙◌, arith, inl, inr, length-append, append_assoc}
 use Rattle.std.proofs.lemmas.Bool.{cases_lt}
-use Rattle.std.proofs.lemmas.List.{length-take-le, take-append-drop}
-use Rattle.std.proofs.lemmas.Option.{same_Some, slice_get-map, slice_get_within}
-use Rattle.jl_class.specs.Class.{ClassFile}
-use Rattle.jl_types.specs.declared.event.EventOf.TheVariants as event
+use Rattle.std.proofs.lemmas.List.{length-map, length-take-le, map-append, take-append-drop, take-append-le}
+use Rattle.std.proofs.lemmas.Option.{same_Some, slice_get_within}
 use Rattle.jl_types.specs.declared.event.Reply.{Reply}
 use Rattle.jl_types.specs.Values.World.{World, Class, Classes}
 use Rattle.jl_types.specs.Events.Event.{Event}
-use Rattle.jl_types.specs.Events.Definitions.{class_made}
-use Rattle.jl_types.specs.Events.Verdict.{step}
+use Rattle.jl_types.specs.Events.History.{world_after}
 use Rattle.jl_types.proofs.Lists.{element_at}
-use Rattle.jl_events.specs.Accepted.{Accepted, event_of}
+use Rattle.jl_events.specs.Accepted.{event_of}
 use Rattle.jl_events.proofs.AcceptedLaws.{event_still}
 use Rattle.jl_relink.specs.Laws.{AreAccepted, has_read_file}
 use Rattle.jl_core.specs.State.{State, events, world_of, IsAccepted}
@@ -22,14 +19,12 @@ use Rattle.jl_core.proofs.LogLaws.{all_still, length_told}
 use Rattle.jl_renewal.specs.declared.released.Released.{Released}
 use Rattle.jl_renewal.specs.Numbers.{Numbers}
 use Rattle.jl_renewal.specs.Carries.{carried}
-use Rattle.jl_renewal.proofs.FitParts.{at_more}
-use Rattle.jl_renewal.proofs.MovedTargets.{inv_map}
 use Rattle.jl_renewal.proofs.StayLaws.{in_front}
 use Rattle.jl_host.specs.Linkers.{Opened}
 use Rattle.jl_host.specs.Renewing.{Renewing, begun_in, AreBrought, IsTakenFrom}
-use Rattle.jl_host.specs.UnderWay.{HasAccepted, AreAmong, IsOfNewFile, AreToldThen, IsGathering, IsHeldUp, HasFresh, IsUnderWay}
-use Rattle.jl_host.proofs.UnderWayLists.{same_fronts, got_in_front, got_behind, some_of, some_map, both_told, told_both, first_told, shown_both, shown_at}
-use Rattle.jl_host.proofs.UnderWayLists.{log_grows, accepted_more, world_next, classes_next}
+use Rattle.jl_host.specs.UnderWay.{HasAccepted, AreAmong, IsGathering, IsHeldUp, HasFresh, IsUnderWay}
+use Rattle.jl_host.proofs.UnderWayLists.{same_fronts, got_in_front, got_behind, some_of, both_told, told_both, first_told, shown_both, shown_at}
+use Rattle.jl_host.proofs.UnderWayLists.{log_grows, accepted_more, classes_next, told_later}
 
 -- ---- the begin
 
@@ -52,7 +47,6 @@ begun_under_way opened released max_sites accepted limit = record {
     fresh = refl;
     none = refl;
     then_told = λ n entry lt at. absurd (nothing n entry at);
-    all_then = inr (λ a e n at is. ap is_some is);
   });
 }
   where
@@ -61,49 +55,8 @@ begun_under_way opened released max_sites accepted limit = record {
 
 -- ---- the linker accepts an event
 
-abbrev tells : ℕ → ℕ → Event → List Class → Type 0
-tells l c x rows = option_map (λ (row : Class). event.Define l row.file) (slice_get rows c) ≡ Some x
-
--- what tells an event of the list by the classes after another one told it before
-told_before : (w : World) (e : Event) (es : List Event) → IsOfNewFile es e → (a : Accepted) (x : Event) (n : ℕ) → slice_get es n ≡ Some x
-    → event_of (step w e).classes.rows a ≡ Some x → event_of w.classes.rows a ≡ Some x
-told_before w e es new (event.Define l c) x n at is = by_event e new is
-  where
-    by_place : (loader : ℕ) (file : ClassFile) → ((m k : ℕ) → slice_get es m ≡ Some (event.Define k file) → ⊥) → (row : Class)
-        → (slice_get w.classes.rows c ≡ Some row) ⊎ ((c ≡ length w.classes.rows) × (class_made w.classes loader file ≡ row))
-        → event.Define l row.file ≡ x → tells l c x w.classes.rows
-    by_place loader file other row (inl old) same = ap (option_map (λ (row : Class). event.Define l row.file)) old ∙ ap Some same
-    by_place loader file other row (inr last) same =
-        absurd (other n l (at ∙ ap Some (sym same ∙ ap (λ (r : Class). event.Define l r.file) (sym last.1))))
-
-    by_event : (e : Event) → IsOfNewFile es e → tells l c x (step w e).classes.rows → tells l c x w.classes.rows
-    by_event event.NewLoader new is = is
-    by_event (event.Define loader file) new is =
-        let found = inv_map (λ (row : Class). event.Define l row.file) (slice_get (step w (event.Define loader file)).classes.rows c) x is in
-        by_place loader file new found.0 (at_more w.classes.rows (class_made w.classes loader file) c found.0 found.1) found.2
-    by_event (event.Delegate loader name to) new is = is
-    by_event (event.Request place) new is = is
-    by_event (event.NewCallSite kind ty target) new is = is
-    by_event (event.SetTarget site target) new is = is
-    by_event event.NewSwitch new is = is
-    by_event (event.Invalidate points) new is = is
-    by_event (event.Bind site call_site) new is = is
-    by_event (event.Install links) new is = is
-    by_event (event.Retire loader) new is = is
-told_before w e es new event.NewLoader x n at is = is
-told_before w e es new (event.Delegate loader name to) x n at is = is
-told_before w e es new (event.Request place) x n at is = is
-told_before w e es new (event.NewCallSite kind ty target) x n at is = is
-told_before w e es new (event.SetTarget site target) x n at is = is
-told_before w e es new event.NewSwitch x n at is = is
-told_before w e es new (event.Invalidate points) x n at is = is
-told_before w e es new (event.Bind site call_site) x n at is = is
-told_before w e es new (event.Install links) x n at is = is
-told_before w e es new (event.Retire loader) x n at is = is
-
 module _ (begun : State) (released : Released) (core after : State) (e : Event) (reply : Reply) (renewing : Renewing)
-    (way : IsUnderWay begun released core renewing) (accepted : IsAccepted core after e reply) (read : has_read_file e ≡ true)
-    (free : (length begun.log ≤ renewing.taken) ⊎ IsOfNewFile (events begun) e) where
+    (way : IsUnderWay begun released core renewing) (accepted : IsAccepted core after e reply) (read : has_read_file e ≡ true) where
   abbrev waits : List (Event × Reply)
   waits = shown renewing.defined.classes.rows renewing.waiting
 
@@ -113,18 +66,6 @@ module _ (begun : State) (released : Released) (core after : State) (e : Event) 
       ∙ (ap (λ (log : List (Event × Reply)). log ++ (e, reply) ∷ []) way.log
       ∙ (append_assoc way.had (waits ++ way.later) ((e, reply) ∷ [])
       ∙ ap (λ (log : List (Event × Reply)). way.had ++ log) (append_assoc waits way.later ((e, reply) ∷ []))))
-
-  then_after : AreToldThen begun core → IsOfNewFile (events begun) e → AreToldThen begun after
-  then_after all new a x n at is =
-      all a x n at
-      (told_before (world_of core) e (events begun) new a x n at
-      (ap (λ (w : World). event_of w.classes.rows a) (sym (world_next core after e reply accepted)) ∙ is))
-
-  all_then_after : (length begun.log ≤ renewing.taken) ⊎ AreToldThen begun core → (length begun.log ≤ renewing.taken) ⊎ IsOfNewFile (events begun) e
-      → (length begun.log ≤ renewing.taken) ⊎ AreToldThen begun after
-  all_then_after (inl le) new = inl le
-  all_then_after (inr all) (inl le) = inl le
-  all_then_after (inr all) (inr new) = inr (then_after all new)
 
   pub later_under_way : IsUnderWay begun released after renewing
   later_under_way = record {
@@ -144,7 +85,6 @@ module _ (begun : State) (released : Released) (core after : State) (e : Event) 
         fresh = first.fresh;
         none = first.none;
         then_told = first.then_told;
-        all_then = all_then_after first.all_then free;
       })
       | inr second ↦ inr (record {
         old = second.old;
@@ -284,28 +224,29 @@ module _ (begun : State) (released : Released) (core : State) (most : ℕ) (old 
 
   module _ (first : IsGathering begun released core way.had old) where
     -- an entry of the begin that is taken
-    entry_then : AreToldThen begun core → (n : ℕ) (entry : Entry) → n < length begun.log → slice_get entries n ≡ Some entry
+    entry_then : (n : ℕ) (entry : Entry) → n < length begun.log → slice_get entries n ≡ Some entry
         → is_some (told (world_of begun).classes.rows entry) ≡ true
-    entry_then all n entry lt at =
+    entry_then n entry lt at =
         let found = shown_at now entries n entry taking.1.0 at in
-        let event = inv_map (λ (x : Event). (x, entry.reply)) (event_of now entry.event) found.0 found.1 in
-        let logged : slice_get begun.log n ≡ Some found.0 =
-        sym (got_in_front begun.log first.since n lt)
-        ∙ (ap (λ (log : List (Event × Reply)). slice_get log n) (sym (log_grows first.since begun core first.grown))
-        ∙ (ap (λ (log : List (Event × Reply)). slice_get log n) (sym taking.1.1) ∙ found.2)) in
-        let there : slice_get (events begun) n ≡ Some event.0 =
-        slice_get-map (λ (x : Event × Reply). x.0) begun.log n
-        ∙ (ap (option_map (λ (x : Event × Reply). x.0)) logged ∙ ap (λ (x : Event × Reply). Some x.0) (sym event.2)) in
-        some_map (λ (x : Event). (x, entry.reply)) (event_of (world_of begun).classes.rows entry.event) (all entry.event event.0 n there event.1)
+        let tells : told (world_after (take (suc n) (events core))).classes.rows entry ≡ Some found.0 =
+        taking.1.2 n entry at ∙ (ap (λ (log : List (Event × Reply)). slice_get log n) (sym taking.1.1) ∙ found.2) in
+        let grown : events core ≡ events begun ++ map (λ (x : Event × Reply). x.0) first.since =
+        ap (map (λ (x : Event × Reply). x.0)) (log_grows first.since begun core first.grown)
+        ∙ map-append (λ (x : Event × Reply). x.0) begun.log first.since in
+        let front : take (suc n) (events core) ≡ take (suc n) (events begun) =
+        ap (take (suc n)) grown
+        ∙ take-append-le (suc n) (events begun) (map (λ (x : Event × Reply). x.0) first.since)
+        (omega (arith, lt, length-map begun.log (λ (x : Event × Reply). x.0))) in
+        told_later entry (suc n) (events begun)
+        (ap (λ (es : List Event). is_some (told (world_after es).classes.rows entry)) (sym front) ∙ ap is_some tells)
 
     count : old.taken ≡ length old.waiting
     count = let none = ap length first.none in let g = way.taken in omega (arith, none, g)
 
-    by_then : (length begun.log ≤ old.taken) ⊎ AreToldThen begun core → (n : ℕ) (entry : Entry) → n < length begun.log → length old.waiting ≤ n
-        → slice_get (old.waiting ++ portion) n ≡ Some entry → is_some (told (world_of begun).classes.rows entry) ≡ true
-    by_then (inl most_taken) n entry lt le at = let c = count in absurd (omega (arith, c, most_taken, lt, le))
-    by_then (inr all) n entry lt le at =
-        entry_then all n entry lt
+    by_then : (n : ℕ) (entry : Entry) → n < length begun.log → length old.waiting ≤ n → slice_get (old.waiting ++ portion) n ≡ Some entry
+        → is_some (told (world_of begun).classes.rows entry) ≡ true
+    by_then n entry lt le at =
+        entry_then n entry lt
         (ap (λ (xs : List Entry). slice_get xs n) split
         ∙ (ap (λ (xs : List Entry). slice_get xs n) (sym (append_assoc (take old.taken entries) portion rest))
         ∙ in_front (take old.taken entries ++ portion) rest n entry
@@ -315,11 +256,7 @@ module _ (begun : State) (released : Released) (core : State) (most : ℕ) (old 
     by_place : (n : ℕ) (entry : Entry) → n < length begun.log → (n < length old.waiting) ⊎ (length old.waiting ≤ n)
         → slice_get (old.waiting ++ portion) n ≡ Some entry → is_some (told (world_of begun).classes.rows entry) ≡ true
     by_place n entry lt (inl few) at = first.then_told n entry lt (sym (got_in_front old.waiting portion n few) ∙ at)
-    by_place n entry lt (inr many) at = by_then first.all_then n entry lt many at
-
-    all_then_next : (length begun.log ≤ old.taken) ⊎ AreToldThen begun core → (length begun.log ≤ new.taken) ⊎ AreToldThen begun core
-    all_then_next (inl le) = inl (let more = taking.2.taken in omega (arith, more, le))
-    all_then_next (inr all) = inr all
+    by_place n entry lt (inr many) at = by_then n entry lt many at
 
     gathering_next : IsGathering begun released core way.had new
     gathering_next = record {
@@ -332,7 +269,6 @@ module _ (begun : State) (released : Released) (core : State) (most : ℕ) (old 
       none = first.none;
       then_told = λ n entry lt at.
           by_place n entry lt (cases_lt n (length old.waiting)) (ap (λ (xs : List Entry). slice_get xs n) (sym taking.2.waiting) ∙ at);
-      all_then = all_then_next first.all_then;
     }
 
   -- ---- once it is made

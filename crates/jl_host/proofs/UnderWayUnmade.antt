@@ -1,13 +1,13 @@
 -- Why no fresh core is made, once all entries of the begin were taken.
-use Rattle.std.specs.Prelude.{◌≡◌, ◌⊎◌, ◌≤◌, ℕ, zero, suc, List, [], ◌∷◌, ◌++◌, take, drop, length, Result, Err}
+use Rattle.std.specs.Prelude.{◌≡◌, ◌≤◌, ℕ, zero, suc, nat_le, List, [], ◌∷◌, ◌++◌, take, drop, length}
 use Rattle.std.proofs.Common.{refl, sym, ap, subst, ◌∙◌, arith, inl, inr}
+use Rattle.std.proofs.lemmas.Bool.{leb-true}
 use Rattle.std.proofs.lemmas.List.{length-drop, length-map, take-append-drop}
 use Rattle.std.proofs.lemmas.Option.{none-some, same_Some}
 use Rattle.jl_types.specs.declared.event.EventOf.TheVariants as event
-use Rattle.jl_types.specs.declared.event.Made.{Made}
 use Rattle.jl_types.specs.declared.link.Link.{Link}
 use Rattle.jl_types.specs.declared.refusal.Refusal.{Refusal}
-use Rattle.jl_types.specs.declared.refusal.Refusal.TheVariants.{Memory, BatchSize}
+use Rattle.jl_types.specs.declared.refusal.Refusal.TheVariants.{Memory}
 use Rattle.jl_types.specs.Values.Members.{is_present}
 use Rattle.jl_types.specs.Values.World.{World}
 use Rattle.jl_types.specs.Events.Event.{Event}
@@ -66,23 +66,20 @@ left_fresh w batches rows left fresh are =
     let rest = rest_of w batches made.0 rows fresh (are made.0 made.1) in
     subst (λ (xs : List Row). AreFresh w xs) (sym (same_rows made.0 left rest.0 made.1 rest.2)) rest.1
 
--- the next of them is refused for want of memory, or as an install of none
-left_refused : (core : State) (r : Refusal) (left : List Row) → AreFresh (world_of core) left → IsRefusedIn core (event.Install (take 256 left)) r
-    → (r ≡ Memory) ⊎ (r ≡ BatchSize)
-left_refused core r left fresh (inl lacks) = inl lacks
-left_refused core r [] fresh (inr refused) =
-    let same : ◌≡◌ {A = Result Made Refusal} (Err BatchSize) (Err r) = refused in
-    inr (cc)
-left_refused core r (row ∷ left) fresh (inr refused) =
-    absurd (not_both (verdict core.max_sites (world_of core) (event.Install (take 256 (row ∷ left)))) r refused
-    (batch_accepted (world_of core) (row ∷ left) fresh core.max_sites (omega arith)))
+-- the next of them is refused for want of memory alone
+left_refused : (core : State) (r : Refusal) (left : List Row) → 1 ≤ length left → AreFresh (world_of core) left
+    → IsRefusedIn core (event.Install (take 256 left)) r → r ≡ Memory
+left_refused core r left some fresh (inl lacks) = lacks
+left_refused core r left some fresh (inr refused) =
+    absurd (not_both (verdict core.max_sites (world_of core) (event.Install (take 256 left))) r refused
+    (batch_accepted (world_of core) left fresh core.max_sites some))
 
 install_stops : (rows : List Row) (between after : State) (r : Refusal) → AreFresh (world_of between) rows → StopsAt rows between after r
-    → (r ≡ Memory) ⊎ (r ≡ BatchSize)
+    → r ≡ Memory
 install_stops rows between after r fresh stops =
     let same : world_of after ≡ world_of between =
     ap world_after stops.front.adds.events ∙ same_world (events between) stops.front.batches in
-    left_refused after r stops.left
+    left_refused after r stops.left stops.some
     (subst (λ (w : World). AreFresh w stops.left) (sym same)
     (left_fresh (world_of between) stops.front.batches rows stops.left fresh stops.front.are_batches))
     stops.refused
@@ -120,24 +117,24 @@ module _ (begun : State) (released : Released) (core : State) (renewing : Renewi
       rows_fresh (world_of between) m (staying_sites w.classes w.places) (ap (λ (numbers : Numbers). numbers.sites) same) (links_of begun)
       (links_rise (events begun))
 
-  unmade : (r : Refusal) → IsUnmade (start_of begun released) past renewing.max_sites r → (r ≡ Memory) ⊎ (r ≡ BatchSize)
+  unmade : (r : Refusal) → IsUnmade (start_of begun released) past renewing.max_sites r → r ≡ Memory
   unmade r (inl (after, inl (inl full, same))) = let over = full.1 in let le = few in absurd (omega (arith, over, le))
-  unmade r (inl (after, inl (inr lacks, same))) = inl lacks
-  unmade r (inl (after, inr stopped)) = inl (lacks_memory (told_renewal w n past) (empty_core renewing.max_sites) after r may_add stopped)
-  unmade r (inr (inl lacks)) = inl lacks
+  unmade r (inl (after, inl (inr lacks, same))) = lacks
+  unmade r (inl (after, inr stopped)) = lacks_memory (told_renewal w n past) (empty_core renewing.max_sites) after r may_add stopped
+  unmade r (inr (inl lacks)) = lacks
   unmade r (inr (inr stopped)) =
       install_stops (fresh_rows (world_of stopped.1) stopped.0 (links_of begun)) stopped.1 stopped.2 r (rows_made stopped.1 stopped.0 stopped.3.numbers)
       (subst (λ (rows : List Row). StopsAt (fresh_rows (world_of stopped.1) stopped.0 rows) stopped.1 stopped.2 r)
       (listed_links begun first.accepted) stopped.4)
 
 pub why_unready : (begun : State) (released : Released) (core : State) (renewing : Renewing) (r : Refusal) → IsUnderWay begun released core renewing
-    → length begun.log ≤ renewing.taken → IsUnready renewing r → (r ≡ Memory) ⊎ (r ≡ BatchSize)
-why_unready begun released core renewing r way all unready = elim way.phase [
+    → IsUnready renewing r → r ≡ Memory
+why_unready begun released core renewing r way unready = elim way.phase [
   | inl first ↦
       let same = same_Some unready.0 (start_of begun released) (sym unready.1 ∙ first.start) in
-      let none = ap length first.none in
-      let g = way.taken in
-      unmade begun released core renewing way first (omega (arith, all, none, g)) r
-      (subst (λ (start : Start). IsUnmade start (take start.seen.serial renewing.waiting) renewing.max_sites r) same unready.2)
+      let all = leb-true (length begun.log) (length renewing.waiting)
+      (ap (λ (start : Start). nat_le start.seen.serial (length renewing.waiting)) (sym same) ∙ unready.2) in
+      unmade begun released core renewing way first all r
+      (subst (λ (start : Start). IsUnmade start (take start.seen.serial renewing.waiting) renewing.max_sites r) same unready.3)
   | inr second ↦ absurd (none-some unready.0 (sym second.start ∙ unready.1))
 ]

@@ -14,7 +14,7 @@ use Rattle.jl_types.specs.Events.Verdict.{verdict}
 use Rattle.jl_events.specs.Accepted.{Accepted}
 use Rattle.jl_relink.specs.Preparations.{Snapshot}
 use Rattle.jl_core.specs.State.{State, empty_core, world_of, IsAccepted, IsRefused}
-use Rattle.jl_core.specs.Logs.{Entry, shown, are_told}
+use Rattle.jl_core.specs.Logs.{Entry, shown, are_told, AreToldThen}
 use Rattle.jl_session.specs.Sessions.{snapshot_of}
 use Rattle.jl_renewal.specs.declared.released.Released.{Released}
 use Rattle.jl_renewal.specs.declared.entries.CarryFault.{CarryFault}
@@ -94,9 +94,10 @@ pub record AreTaken (core : State) (portion : List Entry) (old new : Renewing) :
   pub waiting : new.waiting ≡ old.waiting ++ portion
   pub defined : AreBrought (world_of core).classes old.defined new.defined
 
--- the entries of the core's log
+-- the entries of the core's log, each of which tells its event by the classes that there were then
 abbrev pub AreEntries : State → List Entry → Type 0
 AreEntries core entries = (are_told (world_of core).classes.rows entries ≡ true) × (shown (world_of core).classes.rows entries ≡ core.log)
+    × AreToldThen core entries
 
 -- the next entries were taken, at most so many
 abbrev pub IsTakenFrom : ℕ → State → Renewing → Renewing → Type 0
@@ -213,9 +214,10 @@ IsReadyFrom start old new = MatchBool (nat_le start.seen.serial (length old.wait
 abbrev pub IsReady : Renewing → Renewing → Type 0
 IsReady old new = MatchOption old.start (new ≡ old) (λ start. IsReadyFrom start old new)
 
--- none is made, for this
+-- none is made, for this, though all entries of the begin were taken
 abbrev pub IsUnready : Renewing → Refusal → Type 0
-IsUnready old r = (start : Start) × (old.start ≡ Some start) × IsUnmade start (take start.seen.serial old.waiting) old.max_sites r
+IsUnready old r = (start : Start) × (old.start ≡ Some start) × (nat_le start.seen.serial (length old.waiting) ≡ true)
+    × IsUnmade start (take start.seen.serial old.waiting) old.max_sites r
 
 -- all entries that wait are carried over, if the fresh core is there
 abbrev pub AreAllCarried : Renewing → Renewing → Type 0

@@ -1,11 +1,10 @@
 -- A renewal in steps that is under way, beside the one linker of which it was begun.
-use Rattle.std.specs.Prelude.{◌≡◌, ◌⊎◌, ◌+◌, ◌-◌, ◌<◌, ◌≤◌, ℕ, Bool, true, false, ⊤, slice_get, List, [], ◌∷◌, ◌++◌, length, Some, None, is_some}
+use Rattle.std.specs.Prelude.{◌≡◌, ◌⊎◌, ◌+◌, ◌-◌, ◌<◌, ◌≤◌, ℕ, Bool, true, false, slice_get, List, [], ◌∷◌, ◌++◌, length, Some, None, is_some}
 use Rattle.jl_types.specs.declared.event.EventOf.TheVariants as event
 use Rattle.jl_types.specs.declared.event.Reply.{Reply}
 use Rattle.jl_types.specs.declared.refusal.Refusal.{Refusal}
 use Rattle.jl_types.specs.Events.Event.{Event}
 use Rattle.jl_types.specs.Values.World.{Class}
-use Rattle.jl_events.specs.Accepted.{Accepted, event_of}
 use Rattle.jl_relink.specs.Laws.{AreAccepted, has_read_file}
 use Rattle.jl_core.specs.State.{State, events, world_of, IsAccepted}
 use Rattle.jl_core.specs.Logs.{Entry, told, are_told, shown}
@@ -30,16 +29,6 @@ HasAccepted old (entry ∷ entries) new =
 abbrev pub AreAmong : List Class → List Class → Type 0
 AreAmong rows more = (c : ℕ) (row : Class) → slice_get rows c ≡ Some row → slice_get more c ≡ Some row
 
--- the event defines no class file that one of these events defines
-abbrev pub IsOfNewFile : List Event → Event → Type 0
-IsOfNewFile es (event.Define loader file) = (n l : ℕ) → slice_get es n ≡ Some (event.Define l file) → ⊥
-IsOfNewFile es _ = ⊤
-
--- What tells an event of the begin by the classes of the core has told one by those of the begin.
-abbrev pub AreToldThen : State → State → Type 0
-AreToldThen begun core = (a : Accepted) (e : Event) (n : ℕ) → slice_get (events begun) n ≡ Some e
-    → event_of (world_of core).classes.rows a ≡ Some e → is_some (event_of (world_of begun).classes.rows a) ≡ true
-
 -- ---- before the fresh core is made
 
 -- what there was at the begin
@@ -63,7 +52,6 @@ pub record IsGathering (begun : State) (released : Released) (core : State) (had
   -- the entries of the begin tell events by the classes of the begin
   pub then_told : (n : ℕ) (entry : Entry) → n < length begun.log → slice_get renewing.waiting n ≡ Some entry
       → is_some (told (world_of begun).classes.rows entry) ≡ true
-  pub all_then : (length begun.log ≤ renewing.taken) ⊎ AreToldThen begun core
 
 -- ---- once it is made
 

@@ -6,9 +6,10 @@ ghost use Rattle.jl_types.specs.declared.answer.Unlinked.TheVariants.{NotReady};
 ghost use Rattle.jl_types.specs.declared.link.Link.{Link};
 ghost use Rattle.jl_types.specs.Events.Verdict.{Accepts};
 ghost use Rattle.jl_types.specs.Events.Event.{Event};
+ghost use Rattle.jl_types.specs.Events.History.{world_after};
 ghost use Rattle.jl_types.specs.declared.event.Reply.{Reply};
 ghost use Rattle.jl_types.specs.declared.refusal.Refusal.{Refusal};
-ghost use Rattle.jl_types.specs.declared.refusal.Refusal.TheVariants.{Memory, BatchSize};
+ghost use Rattle.jl_types.specs.declared.refusal.Refusal.TheVariants.{Memory};
 ghost use Rattle.jl_types.specs.Linkage.Links.{scratch};
 ghost use Rattle.jl_relink.specs.Preparations.{Snapshot};
 ghost use Rattle.jl_relink.specs.Laws.{AreAccepted, has_read_file};
@@ -32,7 +33,7 @@ ghost use Rattle.jl_host.specs.Linkers.{Opened};
 ghost use Rattle.jl_host.specs.Views.{given, IsViewPrepare, IsInstallLinks};
 ghost use Rattle.jl_host.specs.Renewals.{Arrays, with_numbers};
 ghost use Rattle.jl_host.specs.Renewing.{Renewing, begun_in, IsTakenFrom, IsUnready, IsFilled, IsFinished};
-ghost use Rattle.jl_host.specs.UnderWay.{IsOfNewFile, IsUnderWay, IsFillOrUnready};
+ghost use Rattle.jl_host.specs.UnderWay.{IsUnderWay, IsFillOrUnready};
 
 /// What is shown of a link is read as that link, where it has at most eight rows and each method that it runs is among the first 2^16
 /// of its class, as those of a class file are (JVMS SE 17 §4.1).
@@ -46,11 +47,14 @@ pub fn targets_are_read_from_parts()
 {}
 
 /// What a view prepared is installed while the world is the one that was seen, unless memory lacks; and whenever links are installed that
-/// are given, each of them is its site's link from scratch then.
+/// are given, each of them is its site's link from scratch then. After accepted events of files that were read, as those of each core are,
+/// each link from scratch runs methods that a class file may have (JVMS SE 17 §4.1).
 pub fn given_links_are_from_scratch()
+    ensures declarable { (max_sites : ℕ) (h : List Event) → AreAccepted max_sites h → (s : ℕ) (link : Link) → scratch (world_after h) s ≡ Ok link
+        → runs_declarable link ≡ true }
     ensures prepared { (seen : Snapshot) (old : Opened) (sites : List ℕ) (before links : List LinkShown) (told : Told) (view : Option Snapshot)
         → IsViewPrepare sites (Some seen) before done links told view → seen.world ≡ world_of old.session.core
-        → ((s : ℕ) (link : Link) → scratch seen.world s ≡ Ok link → runs_declarable link ≡ true)
+        → AreAccepted old.session.core.max_sites (events old.session.core)
         → (present after : LinkShown) (status : ℕ) (said : Told) (new : Option Opened)
         → IsInstallLinks (given sites links) (Some old) present status said after new → (status ≡ done) ⊎ (status ≡ memory) }
     ensures installed { (rows : List LinkRow) (old : Opened) (present after : LinkShown) (told : Told) (new : Option Opened)
@@ -69,16 +73,15 @@ pub fn awaited_classes_are_named()
 /// that were written, and has its links. So by [`linking_commutes_beside`](jl_renewal::linking_commutes_beside) links from scratch and calls are
 /// the same there.
 ///
-/// Until all entries of the begin were taken, no class file may be defined once more that was defined before the begin. As many places may be
-/// requested in the fresh linker as in the old one, so a fill is never refused for want of them: what it answers is want of memory, or that
-/// the next event is one of a call site and names what was released. An install of no links is never tried.
+/// As many places may be requested in the fresh linker as in the old one, so a fill is never refused for want of them: what it answers is want
+/// of memory, or that the next event is one of a call site and names what was released.
 pub fn renewals_in_steps_stay_beside()
     ensures begun { (opened : Opened) (released : Released) (max_sites : ℕ)
         → AreAccepted opened.session.core.max_sites (events opened.session.core) → opened.session.core.max_sites ≤ max_sites
         → IsUnderWay opened.session.core released opened.session.core (begun_in opened released max_sites) }
     ensures later { (begun core after : State) (released : Released) (renewing : Renewing) (e : Event) (reply : Reply)
         → IsUnderWay begun released core renewing → IsAccepted core after e reply → has_read_file e ≡ true
-        → (length begun.log ≤ renewing.taken) ⊎ IsOfNewFile (events begun) e → IsUnderWay begun released after renewing }
+        → IsUnderWay begun released after renewing }
     ensures taken { (begun core : State) (released : Released) (old new : Renewing) (most : ℕ) → IsUnderWay begun released core old
         → IsTakenFrom most core old new → IsUnderWay begun released core new }
     ensures filled { (begun core : State) (released : Released) (old new : Renewing) (status : ℕ) (told : Told) → IsUnderWay begun released core old
@@ -86,7 +89,7 @@ pub fn renewals_in_steps_stay_beside()
     ensures why { (begun core : State) (released : Released) (old new : Renewing) (status : ℕ) (told : Told) → IsUnderWay begun released core old
         → IsFilled old status told new → IsFillOrUnready core old status new }
     ensures unready { (begun core : State) (released : Released) (renewing : Renewing) (r : Refusal) → IsUnderWay begun released core renewing
-        → length begun.log ≤ renewing.taken → IsUnready renewing r → (r ≡ Memory) ⊎ (r ≡ BatchSize) }
+        → IsUnready renewing r → r ≡ Memory }
     ensures kept { (begun core : State) (released : Released) (old new : Renewing) (before after : Arrays) (status : ℕ) (told : Told)
         (fresh : Option Opened) → IsUnderWay begun released core old → IsFinished core old before status told (Some new) fresh after
         → IsUnderWay begun released core new }

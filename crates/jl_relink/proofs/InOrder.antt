@@ -1,5 +1,5 @@
 -- After accepted events classes came in order, and each guard has its switch point and each invoker its call site.
-use Rattle.std.specs.Prelude.{◌≡◌, ℕ, zero, suc, true, false, List, [], ◌∷◌, ◌++◌, fold, take, length, slice_get, Option, Some, None, IsOk}
+use Rattle.std.specs.Prelude.{◌≡◌, ℕ, zero, suc, nat_lt, true, false, List, [], ◌∷◌, ◌++◌, fold, take, length, slice_get, Option, Some, None, IsOk}
 use Rattle.std.specs.List.{list_all}
 use Rattle.std.specs.Option.{option_map_or}
 use Rattle.std.proofs.Common.{refl, ap, sym, subst, ◌∙◌}
@@ -80,7 +80,10 @@ module _ (max_sites : ℕ) (w : World) (order : IsInOrder w) where
     };
     points = order.points;
   }
-  in_order_after (event.Define loader file) accepted read = record { classes = of_define loader file accepted read; points = order.points }
+  in_order_after (event.Define loader file) accepted read = record {
+    classes = of_define loader file accepted (first_test (extends_object file.flags file.superclass) (nat_lt (length file.methods) 65536) read);
+    points = order.points;
+  }
   in_order_after (event.Delegate loader name to) accepted read = record {
     classes = of_delegate loader name to (closed_after w order.classes max_sites (event.Delegate loader name to) accepted);
     points = order.points;

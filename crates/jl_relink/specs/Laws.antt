@@ -1,5 +1,5 @@
 -- Which events change no link, and what a link rests on.
-use Rattle.std.specs.Prelude.{◌≡◌, ◌≢◌, ℕ, length, Bool, true, false, List, take, slice_get, Some, Ok, IsOk}
+use Rattle.std.specs.Prelude.{◌≡◌, ◌≢◌, ◌&&◌, ℕ, nat_lt, length, Bool, true, false, List, take, slice_get, Some, Ok, IsOk}
 use Rattle.std.specs.List.{list_all}
 use Rattle.jl_class.specs.Flags.{extends_object}
 use Rattle.jl_types.specs.Events.Event.{Event}
@@ -48,9 +48,9 @@ pub record OneMore (w : World) (loader : ℕ) (file : ClassFile) (s : ℕ) (l : 
 
 -- ---- lists of accepted events
 
--- a definition's file is one of those that are read: an interface extends java/lang/Object
+-- a definition's file is one of those that are read: an interface extends java/lang/Object, and there are at most 65,535 methods (JVMS 4.1)
 abbrev pub has_read_file : Event → Bool
-has_read_file (event.Define loader file) = extends_object file.flags file.superclass
+has_read_file (event.Define loader file) = extends_object file.flags file.superclass && nat_lt (length file.methods) 65536
 has_read_file _ = true
 
 -- Each event was accepted after those before it, where at most so many sites may be requested, and each file was read.

@@ -1,6 +1,6 @@
 //! What every receiver of an invocation comes to, where that is known without a look at each.
 
-ghost use Rattle.std.specs.Prelude.{◌≡◌, ◌<◌, ◌≤◌, ℕ, true, length};
+ghost use Rattle.std.specs.Prelude.{◌≡◌, ◌+◌, ◌^◌, ◌<◌, ◌≤◌, ℕ, true, length, if◌then◌else◌};
 ghost use Rattle.jl_types.specs.declared.answer.Outcome.TheVariants.{Run};
 ghost use Rattle.jl_types.specs.declared.link.Link.TheVariants.{Direct};
 ghost use Rattle.jl_types.specs.declared.link.TableKind.TheVariants.{Virtual};
@@ -10,7 +10,7 @@ ghost use Rattle.jl_relink.specs.ForProofs.Rows.{rows_of, outcome_of, link_by_ro
 use crate::selection::Selection;
 use jl_hierarchy::Classes;
 use jl_select::runs_below;
-use jl_types::{ClassId, TableKind};
+use jl_types::{TableKind, Work};
 
 /// Whether there is a receiver, and it is known that all of them run the method, since no subclass redeclares it. No receiver is
 /// looked at.
@@ -21,6 +21,22 @@ pub(crate) fn all_run(classes: &Classes, selection: &Selection) -> bool
         (rows_of classes.now selection.now (ancestry.receivers classes.now selection.now.named)) ≡ Direct (Run selection.now.method) }
 {
     !classes.receivers(selection.named).is_empty() && each_runs(classes, selection)
+}
+
+/// The same with one tick where it is so, as for the one selection that it stands for.
+pub(crate) fn all_run_counted(classes: &Classes, selection: &Selection, work: &mut Work) -> bool
+    requires named { selection.now.named < length classes.now.rows }
+    requires fits { work.old + length (ancestry.receivers classes.now selection.now.named) < 2 ^ 64 }
+    ensures link { result ≡ true → link_by_rows selection.now.kind
+        (rows_of classes.now selection.now (ancestry.receivers classes.now selection.now.named)) ≡ Direct (Run selection.now.method) }
+    ensures some { result ≡ true → 1 ≤ length (ancestry.receivers classes.now selection.now.named) }
+    ensures ticks { work.new ≡ work.old + (if result then 1 else 0) }
+{
+    if all_run(classes, selection) {
+        work.tick();
+        return true;
+    }
+    false
 }
 
 /// Whether it is known, without a look at each, that every class below the named one runs the method.

@@ -8,7 +8,7 @@ ghost use Rattle.jl_relink.specs.ForProofs.Counts.{most_of};
 ghost use Rattle.jl_relink.specs.ForProofs.Rows.{rows_of, selected_link};
 
 use crate::by_rows::{MOST_RECEIVERS, virtual_by_rows};
-use crate::known::all_run;
+use crate::known::all_run_counted;
 use crate::receivers::{common_run, table_of};
 use crate::selection::{Selection, outcome_counted};
 use jl_hierarchy::Classes;
@@ -29,8 +29,7 @@ pub(crate) fn selected_link(classes: &Classes, selection: &Selection, work: &mut
             if classes.is_private(&selection.method) {
                 return Link::Direct(outcome_counted(classes, selection, selection.named, work));
             }
-            if all_run(classes, selection) {
-                work.tick();
+            if all_run_counted(classes, selection, work) {
                 return Link::Direct(Outcome::Run(selection.method));
             }
             virtual_link(

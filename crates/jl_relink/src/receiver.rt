@@ -1,6 +1,6 @@
 //! Whether a link stays once there is one receiver more.
 
-ghost use Rattle.std.specs.Prelude.{◌≡◌, ◌+◌, ◌^◌, ◌<◌, ◌≤◌, true, length};
+ghost use Rattle.std.specs.Prelude.{◌≡◌, ◌+◌, ◌^◌, ◌<◌, ◌≤◌, true, length, if◌then◌else◌};
 ghost use Rattle.jl_types.specs.Linkage.Resolution as resolution;
 ghost use Rattle.jl_types.specs.Linkage.Stages as stages;
 ghost use Rattle.jl_types.specs.Linkage.Links as links;
@@ -77,23 +77,25 @@ fn receiver_runs(
     ensures runs { result ≡ links.runs method.now (outcome_of classes.now selection.now receiver) }
     ensures ticks { work.new ≤ work.old + 1 }
 {
-    if is_known_to_run(classes, selection, receiver, method) {
-        work.tick();
+    if is_known_to_run(classes, selection, receiver, method, work) {
         return true;
     }
     runs(outcome_counted(classes, selection, receiver, work), method)
 }
 
 /// Whether it is known, without a search, that the invocation runs this method on an object of this class: it is the method that is
-/// resolved, and no subclass of the named class redeclares that.
+/// resolved, and no subclass of the named class redeclares that. One tick where it is, as for the selection that it stands for.
 fn is_known_to_run(
     classes: &Classes,
     selection: &Selection,
     receiver: ClassId,
     method: &MethodId,
+    work: &mut Work,
 ) -> bool
-    requires { selection.now.named < length classes.now.rows }
-    ensures { result ≡ true → links.runs method.now (outcome_of classes.now selection.now receiver) ≡ true }
+    requires named { selection.now.named < length classes.now.rows }
+    requires fits { work.old + 1 < 2 ^ 64 }
+    ensures runs { result ≡ true → links.runs method.now (outcome_of classes.now selection.now receiver) ≡ true }
+    ensures ticks { work.new ≡ work.old + (if result then 1 else 0) }
 {
     if !runs(Outcome::Run(selection.method), method) {
         return false;
@@ -101,7 +103,11 @@ fn is_known_to_run(
     if !classes.is_ancestor(selection.named, receiver) {
         return false;
     }
-    each_runs(classes, selection)
+    if each_runs(classes, selection) {
+        work.tick();
+        return true;
+    }
+    false
 }
 
 /// Whether the outcome is that this method runs.

@@ -232,10 +232,11 @@ refused_in b e r (inl is) = inr is
 refused_in b e r (inr lacks) = inl lacks.0
 
 -- where the core refuses the next of them
-pub stops : (rows left batch : List Row) (a b c : State) (r : Refusal) → c ≡ b → batch ≡ take 256 left → InstallsFront rows left a b
+pub stops : (rows left batch : List Row) (a b c : State) (r : Refusal) → 1 ≤ length left → c ≡ b → batch ≡ take 256 left → InstallsFront rows left a b
     → IsRefused (verdict b.max_sites (world_of b) (event.Install batch)) r → StopsAt rows a c r
-stops rows left batch a b c r same first so_far refused = record {
+stops rows left batch a b c r some same first so_far refused = record {
   left = left;
+  some = some;
   front = subst (λ (core : State). InstallsFront rows left a core) (sym same) so_far;
   refused =
       subst (λ (core : State). IsRefusedIn core (event.Install (take 256 left)) r) (sym same)

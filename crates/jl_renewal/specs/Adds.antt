@@ -1,5 +1,5 @@
 -- What lists of events add to a core, and what a refusal of one of them leaves.
-use Rattle.std.specs.Prelude.{◌≡◌, ◌<◌, Some, Contains, ℕ, List, [], ◌∷◌, ◌++◌, map, take, Ok, IsOk, All, AllPairs, ⊤}
+use Rattle.std.specs.Prelude.{◌≡◌, ◌<◌, ◌≤◌, Some, Contains, ℕ, List, [], ◌∷◌, ◌++◌, map, take, length, Ok, IsOk, All, AllPairs, ⊤}
 use Rattle.jl_types.specs.declared.link.Link.{Link}
 use Rattle.jl_types.specs.declared.event.EventOf.TheVariants as event
 use Rattle.jl_types.specs.declared.refusal.Refusal.{Refusal}
@@ -67,6 +67,7 @@ pub record InstallsFront (rows left : List (ℕ × Link)) (old new : State) : Ty
 -- it has installed those before some that are left, and refuses the next of them for this, or memory lacks
 pub record StopsAt (rows : List (ℕ × Link)) (old new : State) (r : Refusal) : Type 0 where
   pub left : List (ℕ × Link)
+  pub some : 1 ≤ length left
   pub front : InstallsFront rows left old new
   pub refused : IsRefusedIn new (event.Install (take 256 left)) r
 

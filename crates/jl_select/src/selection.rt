@@ -1,7 +1,7 @@
 //! Selection (JVMS SE 17 §5.4.6), and what invokevirtual and invokeinterface make of it (§6.5).
 
-ghost use Rattle.std.specs.Prelude.{◌≡◌, ◌+◌, ◌^◌, ◌<◌, ◌≤◌, length};
-ghost use Rattle.jl_types.specs.Values.Ancestry.{superclasses};
+ghost use Rattle.std.specs.Prelude.{◌≡◌, ◌+◌, ◌^◌, ◌<◌, length, if◌then◌else◌};
+ghost use Rattle.jl_types.specs.Values.Ancestry.{superclasses, is_ancestor};
 ghost use Rattle.jl_types.specs.Linkage.Overriding as overriding;
 ghost use Rattle.jl_types.specs.Linkage.Selection as selection;
 ghost use Rattle.jl_select.specs.ForProofs.Walks.{own_passing, first_passing};
@@ -84,7 +84,8 @@ pub fn select_interface(
     interface_ending(classes, chosen(classes, receiver, resolved))
 }
 
-/// The same with one tick at most: a receiver that doesn't implement the interface is told without a walk. Takes no memory.
+/// The same with one tick, for its selection walk, where the receiver's class is or implements the interface. One that doesn't is told
+/// without a walk and without a tick. Takes no memory.
 pub fn select_interface_counted(
     classes: &Classes,
     receiver: ClassId,
@@ -95,7 +96,7 @@ pub fn select_interface_counted(
     requires there { receiver < length classes.now.rows }
     requires fits { work.old + 1 < 2 ^ 64 }
     ensures outcome { result ≡ selection.interface_outcome classes.now receiver named resolved.now }
-    ensures ticks { work.new ≤ work.old + 1 }
+    ensures ticks { work.new ≡ work.old + (if is_ancestor classes.now named receiver then 1 else 0) }
 {
     if classes.is_ancestor(named, receiver) {
         interface_ending(classes, chosen_counted(classes, receiver, resolved, work))

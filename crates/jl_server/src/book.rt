@@ -1,12 +1,14 @@
 //! What lies under the lock: a core, and the one writer of the published table.
 
 ghost use Rattle.std.specs.Prelude.{◌≡◌, ◌≤◌, [], ◌∷◌, ◌++◌, true, length, drop, None, IsOk, IfOk, IfErr, IfSome, IfNone, OnErr, if◌then◌else◌};
+ghost use Rattle.std.specs.List.{list_all};
 ghost use Rattle.jl_types.specs.declared.refusal.Refusal.TheVariants.{Memory};
 ghost use Rattle.jl_types.specs.Events.Verdict.{verdict};
 ghost use Rattle.jl_types.specs.Linkage.Calls.{dispatch};
 ghost use Rattle.jl_types.specs.Events.History.{world_after, installed, installed_links};
 ghost use Rattle.jl_types.specs.Events.Entries.{IsLegal, events_of};
 ghost use Rattle.jl_hierarchy.specs.Constancy.{AreInOrder};
+ghost use Rattle.jl_relink.specs.Laws.{has_read_file};
 ghost use Rattle.jl_core.specs.State.{AreAnswered, IsAccepted, IsRefused, empty_core};
 ghost use Rattle.jl_core.specs.Logs.{are_told, shown};
 ghost use Rattle.jl_core.specs.Plans.{IsPlanned, IsAsPlanned};
@@ -158,6 +160,7 @@ impl<K: Name, R: Wait + Drop> Book<K, R> {
         ensures told { IfOk result (λ r. are_told r.world.world.classes.rows r.entries.items ≡ true) }
         ensures entries { IfOk result (λ r. shown r.world.world.classes.rows r.entries.items ≡ drop from (logged_of self.now)) }
         ensures answered { IfOk result (λ r. AreAnswered (core_of K.max_sites r.seen)) }
+        ensures files { IfOk result (λ r. list_all has_read_file (events_of r.seen) ≡ true) }
     {
         let log = self.core.log();
         let entries = share_from(alloc, log, from)?;

@@ -1,9 +1,11 @@
 //! What a server has come to, from an entry on, in one hold of its lock: for a server that is to take over.
 
 ghost use Rattle.std.specs.Prelude.{◌≡◌, true, length, drop, IfOk, OnOk, OnErr};
+ghost use Rattle.std.specs.List.{list_all};
 ghost use mathlib.Core.List.{IsPrefix};
 ghost use Rattle.jl_types.specs.Events.History.{world_after};
 ghost use Rattle.jl_types.specs.Events.Entries.{IsLegal, events_of};
+ghost use Rattle.jl_relink.specs.Laws.{has_read_file};
 ghost use Rattle.jl_core.specs.State.{AreAnswered};
 ghost use Rattle.jl_core.specs.Logs.{are_told, shown};
 ghost use Rattle.jl_server.specs.History.{core_of, logged_of};
@@ -38,7 +40,7 @@ impl<K: Name> Drop for Past<K> {
 impl<K: Name> Caller<K> {
     /// What the server has come to after all that the caller has seen, with the entries behind the first so many, in one hold of the
     /// lock, for which it waits. Each entry tells one event; there are none where there are no more than so many. The entries aren't
-    /// copied. Want of memory is an error; the caller has then seen what it had.
+    /// copied, and each class file was read. Want of memory is an error; the caller has then seen what it had.
     pub fn entries<H: Wait, R: Wait + Drop>(
         &mut self,
         rt: &H,
@@ -53,6 +55,7 @@ impl<K: Name> Caller<K> {
         ensures told { IfOk result (λ r. are_told r.world.world.classes.rows r.entries.items ≡ true) }
         ensures entries { IfOk result (λ r. shown r.world.world.classes.rows r.entries.items ≡ drop from (logged_of self.new)) }
         ensures answered { OnOk result (AreAnswered (core_of K.max_sites self.new)) }
+        ensures files { OnOk result (list_all has_read_file (events_of self.new) ≡ true) }
         ensures unchanged { OnErr result (self.new ≡ self.old) }
     {
         // Shows that the list is legal.
@@ -77,6 +80,7 @@ fn past_after<K: Name, H: Wait, R: Wait + Drop>(
     ensures told { IfOk result (λ r. are_told r.world.world.classes.rows r.entries.items ≡ true) }
     ensures entries { IfOk result (λ r. shown r.world.world.classes.rows r.entries.items ≡ drop from (logged_of r.seen)) }
     ensures answered { IfOk result (λ r. AreAnswered (core_of K.max_sites r.seen)) }
+    ensures files { IfOk result (λ r. list_all has_read_file (events_of r.seen) ≡ true) }
 {
     let book = caught_up(rt, server, seen);
     book.past(alloc, from)

@@ -1,6 +1,6 @@
 //! A link server: its book under one lock.
 
-ghost use Rattle.std.specs.Prelude.{◌≡◌, ◌<◌, ◌≤◌, length, IsOk, IfOk, IfErr, IfSome, OnErr};
+ghost use Rattle.std.specs.Prelude.{◌≡◌, ◌<◌, ◌≤◌, [], ◌∷◌, ◌++◌, length, IsOk, IfOk, IfErr, IfSome, OnErr};
 ghost use Rattle.std.specs.Sync.Mutex.{mutex_guard_value};
 ghost use mathlib.Core.List.{IsPrefix};
 ghost use Rattle.jl_types.specs.Events.Verdict.{verdict};
@@ -10,7 +10,7 @@ ghost use Rattle.jl_types.specs.Events.Entries.{IsLegal, events_of};
 ghost use Rattle.jl_hierarchy.specs.Constancy.{AreInOrder};
 ghost use Rattle.jl_core.specs.State.{IsRefused};
 ghost use Rattle.jl_memo.specs.Answers.{told};
-ghost use Rattle.jl_server.specs.History.{EndsWith};
+ghost use Rattle.jl_server.specs.History.{EndsWith, entry_after};
 
 use crate::book::{Book, Denied, Receipt};
 use crate::caller::Caller;
@@ -308,6 +308,8 @@ fn step_after<K: Name, H: Wait, R: Wait + Drop>(
     ensures longer { IfOk result (λ r. length seen.now < length r.seen) }
     ensures denied { IfErr result (λ d. IsPrefix seen.now d.seen × IsLegal K.max_sites d.seen) }
     ensures refused { IfErr result (λ d. IsRefused (verdict K.max_sites (world_after (events_of d.seen)) event) d.refusal) }
+    ensures added { IfOk result (λ r. (book.new ≡ book.old ++ entry_after book.old event r.reply ∷ []) × (r.seen ≡ book.new)) }
+    ensures kept { IfErr result (λ d. (book.new ≡ book.old) × (d.seen ≡ book.old)) }
 {
     let _seen = seen;
     book.step_judged(rt, alloc, event, judged)

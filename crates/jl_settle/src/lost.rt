@@ -1,6 +1,6 @@
 //! Which links an event took.
 
-ghost use Rattle.std.specs.Prelude.{◌≡◌, ◌==◌, ◌&&◌, ◌||◌, ◌+◌, ◌^◌, ◌<◌, ◌≤◌, ℕ, length, sum_by, false, Some, is_some, IfOk, IfSome, OnOk};
+ghost use Rattle.std.specs.Prelude.{◌≡◌, ◌==◌, ◌&&◌, ◌||◌, ◌+◌, ◌^◌, ◌<◌, ◌≤◌, ℕ, length, sum_by, false, Some, is_some, IfOk, IfSome, OnOk, if◌then◌else◌};
 ghost use Rattle.std.specs.List.{AllByRecursion, list_any};
 ghost use Rattle.jl_types.specs.Linkage.Links.{scratch};
 ghost use Rattle.jl_types.specs.Events.History.{kept};
@@ -11,7 +11,7 @@ ghost use Rattle.jl_settle.specs.Settling.{goes, MayBeAsked, inherits_run, most_
 
 use jl_cache::{Cache, KeptLink};
 use jl_hierarchy::Classes;
-use jl_relink::{World, inherits, link_counted, stays_with_receiver};
+use jl_relink::{World, inherits_counted, link_counted, stays_with_receiver};
 use jl_types::{ClassId, Link, Outcome, SiteNo, Work};
 use std::alloc::{AllocError, Global};
 
@@ -69,9 +69,7 @@ fn is_lost(
     };
     match defined {
         Some(receiver) => {
-            if inherits_run(&world.classes, *receiver, kept) {
-                // The search upward counts as the selection in whose place it stands.
-                work.tick();
+            if inherits_run(&world.classes, *receiver, kept, work) {
                 return false;
             }
             !stays(world, site, kept, *receiver, work)
@@ -80,12 +78,15 @@ fn is_lost(
     }
 }
 
-/// Whether the link runs one method for each receiver, which the new class inherits: such a link stays, without a look at the site.
-fn inherits_run(classes: &Classes, receiver: ClassId, kept: &KeptLink) -> bool
-    ensures { result ≡ inherits_run classes.now receiver kept.now }
+/// Whether the link runs one method for each receiver, which the new class inherits: such a link stays, without a look at the site, and
+/// with one tick.
+fn inherits_run(classes: &Classes, receiver: ClassId, kept: &KeptLink, work: &mut Work) -> bool
+    requires fits { work.old + 1 < 2 ^ 64 }
+    ensures inherits { result ≡ inherits_run classes.now receiver kept.now }
+    ensures ticks { work.new ≡ work.old + (if inherits_run classes.now receiver kept.now then 1 else 0) }
 {
     match kept.get() {
-        Link::Direct(Outcome::Run(method)) => inherits(classes, receiver, &method),
+        Link::Direct(Outcome::Run(method)) => inherits_counted(classes, receiver, &method, work),
         Link::Direct(Outcome::Throws(_)) => false,
         Link::Fault(_) => false,
         Link::Plain(_) => false,

@@ -7,11 +7,11 @@
 //! line on the standard error, is an `Ending` of jl_cli.
 #![tactic(auto)]
 
-ghost use Rattle.std.specs.Prelude.{◌≡◌, ◌≤◌};
+ghost use Rattle.std.specs.Prelude.{◌≡◌};
 ghost use Rattle.std.specs.Process.{exit_status};
 ghost use Rattle.jl_cli.specs.Endings.{status_of};
 
-use jl_cli::{Counted, Ending, Mode, Words, WordsFault, read_words, run_farm, run_lines};
+use jl_cli::{Counted, Ending, WordsFault, obey_words};
 use jl_listing::{
     ReportFault, ReportWords, read_report_words, report_usage, run_report, wrong_in_report,
 };
@@ -33,23 +33,6 @@ fn own_words(rt: &HostRuntime) -> Result<Vec<String>, WordsFault> {
         Err(error) if error.kind() == ErrorKind::OutOfMemory => Err(WordsFault::Memory),
         Err(_) => Err(WordsFault::BadWords),
     }
-}
-
-/// Answers the lines of the standard input.
-fn answer_lines(rt: &HostRuntime, mode: Mode) -> Ending {
-    let mut input = Counted::new(rt.stdin());
-    let mut output = Counted::new(rt.stdout());
-    Ending::of_lines(run_lines(rt.alloc(), mode, &mut input, &mut output))
-}
-
-/// Answers them on a link server, and runs a farm.
-fn farm(rt: &HostRuntime, threads: &(impl Threads + Wait + Sync), workers: u8) -> Ending
-    requires { (1 ≤ workers) × (workers ≤ 16) }
-{
-    let mut input = Counted::new(rt.stdin());
-    let mut output = Counted::new(rt.stdout());
-    let outcome = run_farm(threads, rt.alloc(), workers, &mut input, &mut output);
-    Ending::of_farm(outcome)
 }
 
 /// Reports the class files that are asked for.
@@ -85,11 +68,12 @@ fn obey_report(rt: &HostRuntime, words: &[String]) -> Ending {
     }
 }
 
-/// Does what the words ask for, the program's name first.
+/// Does what the words ask for, the program's name first, over the lines of the standard input.
 fn obey(rt: &HostRuntime, threads: &(impl Threads + Wait + Sync), words: &[String]) -> Ending {
-    match read_words(rt.alloc(), words) {
-        Ok(Words::Lines(mode)) => answer_lines(rt, mode),
-        Ok(Words::Farm(workers)) => farm(rt, threads, workers),
+    let mut input = Counted::new(rt.stdin());
+    let mut output = Counted::new(rt.stdout());
+    match obey_words(threads, rt.alloc(), words, &mut input, &mut output) {
+        Ok(ending) => ending,
         Err(WordsFault::BadWords) => answer_bad_words(rt, words),
         Err(WordsFault::Memory) => Ending::OutOfMemory,
     }

@@ -2,13 +2,13 @@
 
 use crate::hosts::{A, OBJECT, StepRow, assert_rows};
 use crate::steps::Step::*;
-use jl_host::GONE;
+use jl_host::{GONE, NULL};
 
-/// Loader 1 with M, which calls A.f twice, stays; loader 2 with W, which calls A.f, is retired. The call site 0 and the switch point 0 are
-/// let go; the switch point 1 is invalid.
+/// Loader 1 with M, which calls A.f three times, and whose invokedynamics are bound later, stays; loader 2 with W, which calls A.f, is retired.
+/// The call site 0 and the switch point 0 are let go; the switch point 1 is invalid.
 const WORLD: &[StepRow] = &[
-    (Begin(4, &[], &[]), &[34]),
-    (Open(4), &[0]),
+    (Begin(6, &[], &[]), &[34]),
+    (Open(6), &[0]),
     (TakeNext(1), &[34, 99]),
     (Fill, &[34]),
     (Finish(6), &[34, 0, 0, 9, 9, 9, 9, 9]),
@@ -29,7 +29,7 @@ const WORLD: &[StepRow] = &[
     (Delegate(1, "A", 0), &[0]),
     (
         Says(
-            r#"{"do":"define","loader":1,"sketch":{"name":"M","super":"java/lang/Object","flags":33,"methods":[{"name":"run","type":"()V","flags":9,"calls":[{"kind":"invokevirtual","of":"A","name":"f","type":"()V"},{"kind":"invokevirtual","of":"A","name":"f","type":"()V"}]}]}}"#,
+            r#"{"do":"define","loader":1,"sketch":{"name":"M","super":"java/lang/Object","flags":33,"methods":[{"name":"run","type":"()V","flags":9,"calls":[{"kind":"invokevirtual","of":"A","name":"f","type":"()V"},{"kind":"invokevirtual","of":"A","name":"f","type":"()V"},{"kind":"invokedynamic","name":"d","type":"()V"},{"kind":"invokedynamic","name":"e","type":"()V"},{"kind":"invokevirtual","of":"A","name":"f","type":"()V"}]},{"name":"m","type":"()V","flags":9},{"name":"n","type":"()V","flags":9}]}}"#,
             r#"{"class":3,"dropped":[]}"#,
         ),
         &[0, 0, 1],
@@ -37,6 +37,8 @@ const WORLD: &[StepRow] = &[
     (Request(2, 0, 0), &[0, 0]),
     (Request(3, 0, 0), &[0, 1]),
     (Request(3, 0, 3), &[0, 2]),
+    (Request(3, 0, 6), &[0, 3]),
+    (Request(3, 0, 11), &[0, 4]),
     (Install(&[0, 1]), &[0]),
     (NewCallSite(1, "()V", r#"{"method":[3,0]}"#), &[0, 0]),
     (NewCallSite(2, "()V", r#"{"method":[3,0]}"#), &[0, 1]),
@@ -44,20 +46,20 @@ const WORLD: &[StepRow] = &[
     (NewSwitch, &[0, 1]),
     (Invalidate(&[1]), &[0]),
     (Retire(2), &[0]),
-    // Twenty events are there now.
+    // Twenty-two events are there now.
     (Begin(0, &[0], &[0]), &[33]),
     (Begin(1_048_577, &[0], &[0]), &[33]),
-    // Two sites stay.
-    (Begin(1, &[0], &[0]), &[0]),
-    (TakeNext(20), &[0, 0]),
+    // Four sites stay.
+    (Begin(3, &[0], &[0]), &[0]),
+    (TakeNext(22), &[0, 0]),
     (Fill, &[5]),
     (LeaveRenewal, &[0]),
-    (Begin(4, &[0], &[0]), &[0]),
-    (Begin(4, &[0], &[0]), &[35]),
-    (TakeNext(8), &[0, 12]),
+    (Begin(6, &[0], &[0]), &[0]),
+    (Begin(6, &[0], &[0]), &[35]),
+    (TakeNext(8), &[0, 14]),
     // Nothing is made before all are taken.
     (Fill, &[0]),
-    (TakeNext(12), &[0, 0]),
+    (TakeNext(14), &[0, 0]),
     (Fill, &[0]),
     // N, below A, has an f of its own: the direct link of site 1 goes.
     (
@@ -71,36 +73,68 @@ const WORLD: &[StepRow] = &[
     (NewCallSite(2, "()V", r#"{"method":[3,0]}"#), &[0, 2]),
     (NewLoader, &[0, 3]),
     (Retire(3), &[0]),
-    (TakeNext(2), &[0, 3]),
+    (NewLoader, &[0, 4]),
+    (Delegate(4, "A", 0), &[0]),
+    (Request(3, 0, 16), &[0, 5]),
+    (Install(&[5]), &[0]),
+    (SetTarget(1, r#"{"method":[3,1]}"#), &[0]),
+    (Bind(3, 1), &[0]),
+    (NewSwitch, &[0, 2]),
+    (
+        NewCallSite(
+            2,
+            "()V",
+            r#"{"guard":2,"target":{"method":[3,1]},"fallback":{"method":[3,2]}}"#,
+        ),
+        &[0, 3],
+    ),
+    (Bind(4, 3), &[0]),
+    (Invalidate(&[2]), &[0]),
+    (TakeNext(2), &[0, 13]),
     (Fill, &[0]),
     (Finish(3), &[36, 0, 0, 9, 9, 9, 9, 9]),
     (Finish(6), &[0, 0, 0, GONE, GONE, 0, GONE, GONE]),
     (Fill, &[34]),
-    // Loaders 0, 1 and 3, classes 0, 1, 3 and 4, sites 1 and 2, call sites 1 and 2, the switch point 1.
-    (Counts, &[0, 3, 4, 2, 2, 1]),
+    // Loaders 0, 1, 3 and 4, classes 0, 1, 3 and 4, sites 1 to 5, call sites 1 to 3, the switch points 1 and 2.
+    (Counts, &[0, 4, 4, 5, 3, 2]),
     (Lookup(1, "M"), &[0, 2]),
     (Lookup(1, "N"), &[0, 3]),
+    (Lookup(3, "A"), &[0, 1]),
     (LinkOf(0), &[0, 4, 2, 3, 0, 3, 0]),
     (LinkOf(1), &[0, 0, 0, 9, 9, 9, 9]),
+    (LinkOf(4), &[0, 4, 2, 3, 0, 3, 0]),
     (Call(0, 1), &[0, 0, 1, 0]),
     (Call(1, 3), &[0, 0, 3, 0]),
+    // M.m is the new target of the call site 1; the guard of the call site 3 fails.
+    (Call(2, NULL), &[0, 0, 2, 1]),
+    (Call(3, NULL), &[0, 0, 2, 2]),
     (Refresh, &[0]),
     (SeatCall(0, 3), &[0, 0, 3, 0]),
     (SeatCall(1, 3), &[0, 4]),
+    (SeatCall(4, 1), &[0, 0, 1, 0]),
     (Retire(2), &[19, 0, 1]),
-    // The fresh linker has accepted seventeen events: a loader, five of classes, a switch point and that it is invalid, a call site, two
-    // requests and an install, and then five that came meanwhile.
-    (Begin(4, &[1], &[]), &[0]),
+    // The old switch point 1 is invalid there, too.
+    (
+        SetTarget(
+            2,
+            r#"{"guard":0,"target":{"method":[2,2]},"fallback":{"method":[2,1]}}"#,
+        ),
+        &[0],
+    ),
+    (Call(3, NULL), &[0, 0, 2, 1]),
+    // The fresh linker has accepted thirty events: a loader, five of classes, a switch point and that it is invalid, a call site, four
+    // requests and an install, fifteen that came meanwhile, and then one.
+    (Begin(6, &[1], &[]), &[0]),
     (TakeNext(100), &[0, 0]),
     (Fill, &[0]),
     (SetTarget(1, r#"{"method":[2,0]}"#), &[0]),
     (TakeNext(100), &[0, 0]),
-    (Fill, &[37, 17, 0, 1]),
-    (Fill, &[37, 17, 0, 1]),
+    (Fill, &[37, 30, 0, 1]),
+    (Fill, &[37, 30, 0, 1]),
     (LeaveRenewal, &[0]),
     (TakeNext(1), &[34, 99]),
     (Close, &[0]),
-    (Begin(4, &[], &[]), &[34]),
+    (Begin(6, &[], &[]), &[34]),
 ];
 
 #[test]

@@ -9,8 +9,8 @@ pub returns-clause-begun : goal.returns-clause-begun
 returns-clause-begun c = begun_under_way
 
 pub returns-clause-later : goal.returns-clause-later
-returns-clause-later c begun core after released renewing e reply way accepted read free =
-    later_under_way begun released core after e reply renewing way accepted read free
+returns-clause-later c begun core after released renewing e reply way accepted read =
+    later_under_way begun released core after e reply renewing way accepted read
 
 pub returns-clause-taken : goal.returns-clause-taken
 returns-clause-taken c begun core released old new most way taking = taken_under_way begun released core most old new way taking
@@ -22,7 +22,7 @@ pub returns-clause-why : goal.returns-clause-why
 returns-clause-why c begun core released old new status told = why_answered begun released core old new status told
 
 pub returns-clause-unready : goal.returns-clause-unready
-returns-clause-unready c begun core released renewing r way all unready = why_unready begun released core renewing r way all unready
+returns-clause-unready c begun core released renewing r way unready = why_unready begun released core renewing r way unready
 
 pub returns-clause-kept : goal.returns-clause-kept
 returns-clause-kept c begun core released old new before after status told fresh way finished =

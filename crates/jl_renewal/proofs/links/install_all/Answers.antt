@@ -19,11 +19,12 @@ returns-in_err-accept-clause-memory g c fresh =
 
 pub returns-in_err-accept-clause-stops : goal.returns-in_err-accept-clause-stops
 returns-in_err-accept-clause-stops g c =
+    let some : 1 ≤ length c.loop-left.left.now = search rules in
     let copied : c.of.result ≡ c.split_at.result.0.now = search rules in
     let batch = front_is c.loop-left.left.now c.split_at.result.0.now c.of.result c.min.result c.min.ensures c.split_at.ensures.front copied in
     let p = err_from_is_err_and c.from_residual-in_err-accept.result c.from_residual-in_err-accept.ensures.1 in
     rw (p.1, p.2)
-    (stops c.args.rows.now c.loop-left.left.now c.of.result _ (g.M.EventMachine.state c.loop-left.fresh) _ _ c.in_err-accept.ensures.unchanged batch
+    (stops c.args.rows.now c.loop-left.left.now c.of.result _ (g.M.EventMachine.state c.loop-left.fresh) _ _ some c.in_err-accept.ensures.unchanged batch
     c.loop-left.invariant.front c.in_err-accept.ensures.refused)
 
 pub loop-left-preserved : goal.loop-left-preserved

@@ -18,7 +18,7 @@ pub catch_up-requires-clause-further : goal.catch_up-requires-clause-further
 catch_up-requires-clause-further c =
     is_further c.self.inside.max_sites c.self.inside.world.value c.self.inside.links c.self.inside.log.items
     c.ahead.inside.max_sites c.ahead.inside.world.value c.ahead.inside.log.items c.in-Some.entry.now
-    (record { world = c.self.invariant.0; links = c.self.invariant.1; told = c.self.invariant.2; answered = c.self.invariant.5 })
+    (record { world = c.self.invariant.0; links = c.self.invariant.1; told = c.self.invariant.2; answered = c.self.invariant.5; told_then = c.self.invariant.7; files = c.self.invariant.8 })
     c.ahead.invariant.0 c.ahead.invariant.2 c.ahead.invariant.5 (behind_inside c.self.view_is c.ahead.view_is c.requires)
     ((λ i. slice_get (sym c.as_slice.ensures.value i) (length (sym c.as_slice-place.ensures.value i))) ∙ sym c.in-Some.ensures)
     c.self.inside.index c.ahead.inside.index (subst IsInOrder c.deref.ensures c.note_order.ensures)
@@ -28,7 +28,7 @@ pub catch_up-requires-clause-gone : goal.catch_up-requires-clause-gone
 catch_up-requires-clause-gone c =
     are_gone c.self.inside.max_sites c.self.inside.world.value c.self.inside.links c.self.inside.log.items
     c.ahead.inside.max_sites c.ahead.inside.world.value c.ahead.inside.log.items c.in-Some.entry.now
-    (record { world = c.self.invariant.0; links = c.self.invariant.1; told = c.self.invariant.2; answered = c.self.invariant.5 })
+    (record { world = c.self.invariant.0; links = c.self.invariant.1; told = c.self.invariant.2; answered = c.self.invariant.5; told_then = c.self.invariant.7; files = c.self.invariant.8 })
     c.ahead.invariant.0 c.ahead.invariant.2 c.ahead.invariant.5 (behind_inside c.self.view_is c.ahead.view_is c.requires)
     ((λ i. slice_get (sym c.as_slice.ensures.value i) (length (sym c.as_slice-place.ensures.value i))) ∙ sym c.in-Some.ensures)
     c.self.inside.index c.ahead.inside.index (subst IsInOrder c.deref.ensures c.note_order.ensures)
@@ -39,11 +39,11 @@ invariant_of-result-2 c =
     let next =
     kept_so c.self.inside.max_sites c.self.inside.world.value c.self.inside.links c.self.inside.log.items
     c.ahead.inside.max_sites c.ahead.inside.world.value c.ahead.inside.log.items c.in-Some.entry.now
-    (record { world = c.self.invariant.0; links = c.self.invariant.1; told = c.self.invariant.2; answered = c.self.invariant.5 })
+    (record { world = c.self.invariant.0; links = c.self.invariant.1; told = c.self.invariant.2; answered = c.self.invariant.5; told_then = c.self.invariant.7; files = c.self.invariant.8 })
     c.ahead.invariant.0 c.ahead.invariant.2 c.ahead.invariant.5 (behind_inside c.self.view_is c.ahead.view_is c.requires)
     ((λ i. slice_get (sym c.as_slice.ensures.value i) (length (sym c.as_slice-place.ensures.value i))) ∙ sym c.in-Some.ensures)
     c.catch_up.new.world.value c.catch_up.new.links c.catch_up.new.log.items c.in_ok-catch_up.ensures.world
-    c.ahead.inside.links c.ahead.invariant.1 c.in_ok-catch_up.ensures.links c.in_ok-catch_up.ensures.log c.ahead.invariant.3
+    c.ahead.inside.links c.ahead.invariant.1 c.in_ok-catch_up.ensures.links c.in_ok-catch_up.ensures.log c.ahead.invariant.8 c.ahead.invariant.3
     in (
       next.0.world,
       next.0.links,
@@ -52,13 +52,15 @@ invariant_of-result-2 c =
       c.self.invariant.4,
       next.0.answered,
       subst (λ (w : World). IsIndex w (link_at c.catch_up.new.links) c.catch_up.new.index) (sym c.in_ok-catch_up.ensures.world) c.in_ok-catch_up.ensures.index,
+      next.0.told_then,
+      next.0.files,
     )
 
 pub returns : goal.returns
 returns c =
     same_core c.self.inside.max_sites c.self.inside.world.value c.self.inside.links c.self.inside.log.items
     c.ahead.inside.max_sites c.ahead.inside.world.value c.ahead.inside.log.items c.in-Some.entry.now
-    (record { world = c.self.invariant.0; links = c.self.invariant.1; told = c.self.invariant.2; answered = c.self.invariant.5 })
+    (record { world = c.self.invariant.0; links = c.self.invariant.1; told = c.self.invariant.2; answered = c.self.invariant.5; told_then = c.self.invariant.7; files = c.self.invariant.8 })
     c.ahead.invariant.0 c.ahead.invariant.2 c.ahead.invariant.5 (behind_inside c.self.view_is c.ahead.view_is c.requires)
     ((λ i. slice_get (sym c.as_slice.ensures.value i) (length (sym c.as_slice-place.ensures.value i))) ∙ sym c.in-Some.ensures)
     c.catch_up.new.world.value c.catch_up.new.links c.catch_up.new.log.items c.in_ok-catch_up.ensures.world

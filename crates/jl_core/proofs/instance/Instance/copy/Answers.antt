@@ -10,7 +10,7 @@ invariant_of-result c =
     let now =
     exact_same old.max_sites old.world.value c.in_ok-try_clone.field-0.value old.links c.in_ok-copy.field-0 old.log.items c.in_ok-share_log.field-0.items
     c.in_ok-try_clone.ensures c.in_ok-copy.ensures (c.in_ok-share_log.ensures ∙ c.as_slice.ensures.value)
-    (record { world = c.self.invariant.0; links = c.self.invariant.1; told = c.self.invariant.2; answered = c.self.invariant.5 })
+    (record { world = c.self.invariant.0; links = c.self.invariant.1; told = c.self.invariant.2; answered = c.self.invariant.5; told_then = c.self.invariant.7; files = c.self.invariant.8 })
     in (
       now.world,
       now.links,
@@ -20,4 +20,6 @@ invariant_of-result c =
       now.answered,
       index_same old.world.value c.in_ok-try_clone.field-0.value old.links c.in_ok-copy.field-0 old.index c.in_ok-copy-2.field-0
           c.in_ok-try_clone.ensures c.in_ok-copy.ensures c.in_ok-copy-2.ensures c.self.invariant.6,
+      now.told_then,
+      now.files,
     )

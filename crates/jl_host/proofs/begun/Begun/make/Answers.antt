@@ -17,6 +17,7 @@ returns-in_err-fresh-clause-unready c =
     (subst (λ (old : Renewing). IsUnready old r) c.self.view_is (
       start,
       c.in-Some.is,
+      sym (λ i. nat_le (c.serial.ensures i) (length (rest i))) ∙ c.in-Some-front.ensures.1,
       subst (λ past. IsUnmade start past most r)
           (c.in-Some-front.ensures.0 ∙ (λ i. take (c.serial.ensures i) (rest i)))
           c.in_err-fresh.ensures.refused,

@@ -1,6 +1,10 @@
 use Rattle.std.proofs.Common.{◌∙◌, ap, sym, subst}
-use Rattle.jl_core.specs.State.{State, AreAnswered}
+use Rattle.std.specs.List.{list_all}
+use Rattle.jl_types.specs.Events.Entries.{events_of}
+use Rattle.jl_relink.specs.Laws.{has_read_file}
+use Rattle.jl_core.specs.State.{State, events, AreAnswered}
 use Rattle.jl_server.specs.History.{core_of}
+use Rattle.jl_server.proofs.Logs.{events_logged}
 use Rattle.jl_server.proofs.PastLaws.{told_behind, shown_behind}
 use Rattle.jl_server.proofs.book.Book.past.Goals as goal
 
@@ -23,3 +27,12 @@ returns-clause-answered g c =
     let n = g.K.Name.max_sites in
     subst (λ (s : State). AreAnswered s) (c.self.invariant.0 ∙ ap (core_of n) (c.self.view_is ∙ sym c.in_ok-world.ensures.seen))
     c.log-log.ensures.answered
+
+pub returns-clause-files : goal.returns-clause-files
+returns-clause-files g c =
+    let n = g.K.Name.max_sites in
+    let list = c.self.view_is ∙ sym c.in_ok-world.ensures.seen in
+    ap (λ entries. list_all has_read_file (events_of entries)) (sym list)
+    ∙ (ap (list_all has_read_file) (sym (events_logged n c.self.inside.list))
+    ∙ (ap (λ (s : State). list_all has_read_file (events s)) (sym c.self.invariant.0)
+    ∙ c.log-log.ensures.files))

@@ -1,0 +1,19 @@
+-- What the program has done that was called with words, where it ends with the end of its input.
+use Rattle.std.specs.Prelude.{ℕ, List, Option, IfSome}
+use Rattle.std.specs.Io.KnownBytes.{IsAtEnd}
+use Rattle.core.specs.declared.marker.Brand.{Brand}
+use Rattle.jl_words.specs.declared.words.Words.{Words}
+use Rattle.jl_words.specs.declared.words.Words.TheVariants.{Lines, Farm}
+use Rattle.jl_session.specs.Sessions.{new_session}
+use Rattle.jl_lines.specs.Answers.{AnswersAll}
+use Rattle.jl_cli.specs.Modes.{IsAnswer}
+use Rattle.jl_cli.specs.Farms.{FarmsAll}
+
+-- each line of the input is answered, in the mode that the words ask for, or by a farm
+abbrev pub AnswersAsked : Words → List ℕ → Option (List ℕ) → Option (List ℕ) → Type 0
+AnswersAsked (Lines mode) input old new = AnswersAll (IsAnswer mode) new_session input old new
+AnswersAsked (Farm workers) input old new = FarmsAll Brand 65536 input old new
+
+-- the input was read to its end, and its lines were answered
+abbrev pub HasAnswered : Words → Option (List ℕ) → Option (List ℕ) → Option (List ℕ) → Option (List ℕ) → Type 0
+HasAnswered asked unread left old new = IsAtEnd left × IfSome unread (λ input. AnswersAsked asked input old new)
