@@ -24,4 +24,4 @@ returns-then-inherits_run-clause-lost c =
     let is : links c.args.site ≡ Some c.in-Some.kept.now = search rules in
     inherited_stays w c.in-Some-defined.receiver links c.args.site c.in-Some.kept.now told is
     (sym (ap (λ (w : World). inherits_run w.classes c.in-Some-defined.receiver c.in-Some.kept.now) c.world.view_is)
-    ∙ sym c.inherits_run.ensures ∙ c.if-inherits_run.true)
+    ∙ sym c.inherits_run.ensures.inherits ∙ c.if-inherits_run.true)
