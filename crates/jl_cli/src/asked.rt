@@ -41,8 +41,6 @@ pub fn obey_words<H: Threads + Wait + Sync, R: Source, W: Sink>(
 {
     match read_words(alloc, words)? {
         Words::Lines(mode) => Ok(Ending::of_lines(run_lines(alloc, mode, reader, writer))),
-        Words::Farm(workers) => Ok(Ending::of_farm(run_farm(
-            rt, alloc, workers, reader, writer,
-        ))),
+        Words::Farm(workers) => Ok(Ending::of_farm(run_farm(rt, alloc, workers, reader, writer))),
     }
 }

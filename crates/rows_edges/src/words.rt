@@ -82,7 +82,10 @@ fn does_what_words_ask_for(rt: HostRuntime) {
         };
         let written = writer.into_inner();
         assert!(rt; ending == *expected, "at {line:?} {failing}");
-        assert!(rt; written.as_slice() == text.as_bytes(), "at {line:?} {failing}");
+        assert!(rt;
+            written.as_slice() == text.as_bytes(),
+            "at {line:?} {failing}"
+        );
     }
 }
 
