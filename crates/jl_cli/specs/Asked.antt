@@ -1,11 +1,14 @@
 -- What the program has done that was called with words, where it ends with the end of its input.
-use Rattle.std.specs.Prelude.{ℕ, List, Option, IfSome}
+use Rattle.std.specs.Prelude.{◌≡◌, ℕ, List, Option, IfSome}
 use Rattle.std.specs.Io.KnownBytes.{IsAtEnd}
 use Rattle.core.specs.declared.marker.Brand.{Brand}
+use Rattle.jl_words.specs.Words.{AskFor}
 use Rattle.jl_words.specs.declared.words.Words.{Words}
 use Rattle.jl_words.specs.declared.words.Words.TheVariants.{Lines, Farm}
 use Rattle.jl_session.specs.Sessions.{new_session}
 use Rattle.jl_lines.specs.Answers.{AnswersAll}
+use Rattle.jl_cli.specs.declared.ending.Ending.{Ending}
+use Rattle.jl_cli.specs.declared.ending.Ending.TheVariants.{InputEnded}
 use Rattle.jl_cli.specs.Modes.{IsAnswer}
 use Rattle.jl_cli.specs.Farms.{FarmsAll}
 
@@ -17,3 +20,8 @@ AnswersAsked (Farm workers) input old new = FarmsAll Brand 65536 input old new
 -- the input was read to its end, and its lines were answered
 abbrev pub HasAnswered : Words → Option (List ℕ) → Option (List ℕ) → Option (List ℕ) → Option (List ℕ) → Type 0
 HasAnswered asked unread left old new = IsAtEnd left × IfSome unread (λ input. AnswersAsked asked input old new)
+
+-- the words ask for something, which was done where the program ends with the end of its input
+abbrev pub DoesAsked : List (List ℕ) → Ending → Option (List ℕ) → Option (List ℕ) → Option (List ℕ) → Option (List ℕ) → Type 0
+DoesAsked words ending unread left old new =
+    (asked : Words) × AskFor asked words × (ending ≡ InputEnded → HasAnswered asked unread left old new)

@@ -2,11 +2,10 @@
 
 ghost use Rattle.std.specs.Prelude.{◌≡◌, ◌≤◌, ◌^◌, ◌-◌, ◌⊎◌, map, string_bytes, IfOk, IfErr};
 ghost use Rattle.jl_lines.specs.Devices.{HasRisen};
-ghost use Rattle.jl_words.specs.declared.words.Words as words;
 ghost use Rattle.jl_words.specs.declared.words.WordsFault.TheVariants.{BadWords};
-ghost use Rattle.jl_words.specs.Words.{AskFor, AskForNothing};
-ghost use Rattle.jl_cli.specs.declared.ending.Ending.TheVariants.{InputEnded, DeviceFailed};
-ghost use Rattle.jl_cli.specs.Asked.{HasAnswered};
+ghost use Rattle.jl_words.specs.Words.{AskForNothing};
+ghost use Rattle.jl_cli.specs.declared.ending.Ending.TheVariants.{DeviceFailed};
+ghost use Rattle.jl_cli.specs.Asked.{DoesAsked};
 
 use crate::ending::Ending;
 use crate::farm_lines::run_farm;
@@ -30,8 +29,8 @@ pub fn obey_words<H: Threads + Wait + Sync, R: Source, W: Sink>(
     reader: &mut R,
     writer: &mut W,
 ) -> Result<Ending, WordsFault>
-    ensures answered { IfOk result (λ ending. (asked : words.Words) × AskFor asked (map string_bytes words.now)
-        × (ending ≡ InputEnded → HasAnswered asked (R.remaining reader.old) (R.remaining reader.new) (W.contents writer.old) (W.contents writer.new))) }
+    ensures answered { IfOk result (λ ending. DoesAsked (map string_bytes words.now) ending (R.remaining reader.old) (R.remaining reader.new)
+        (W.contents writer.old) (W.contents writer.new)) }
     ensures device { IfOk result (λ ending. ending ≡ DeviceFailed
         → HasRisen (R.failures reader.old) (R.failures reader.new)
         ⊎ (HasRisen (W.failures writer.old) (W.failures writer.new)
