@@ -115,7 +115,7 @@ takes_all : (begun : State) (released : Released) (core : State) (old new : Rene
 takes_all begun released core old new way few taking =
     let entries = taking.0 in
     let counted : length entries ≡ length core.log =
-    sym (length_told (world_of core).classes.rows entries taking.1.0) ∙ ap length taking.1.1 in
+    sym (length_told (world_of core).classes.rows entries taking.1.told) ∙ ap length taking.1.events in
     let parts = parts_length begun released core old way in
     let left = length-drop old.taken entries in
     let all : take all_that_are_left (drop old.taken entries) ≡ drop old.taken entries =

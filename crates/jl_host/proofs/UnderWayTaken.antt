@@ -164,7 +164,7 @@ module _ (begun : State) (released : Released) (core : State) (most : ℕ) (old 
   split = sym (ap (λ (xs : List Entry). take old.taken entries ++ xs) (take-append-drop most (drop old.taken entries)) ∙ take-append-drop old.taken entries)
 
   parts_told : (are_told now (take old.taken entries) ≡ true) × (are_told now (portion ++ rest) ≡ true)
-  parts_told = both_told now (take old.taken entries) (portion ++ rest) (ap (are_told now) (sym split) ∙ taking.1.0)
+  parts_told = both_told now (take old.taken entries) (portion ++ rest) (ap (are_told now) (sym split) ∙ taking.1.told)
 
   portion_told : are_told now portion ≡ true
   portion_told = (both_told now portion rest parts_told.1).0
@@ -178,7 +178,7 @@ module _ (begun : State) (released : Released) (core : State) (most : ℕ) (old 
   -- ---- how many there are
 
   all_entries : length entries ≡ length core.log
-  all_entries = sym (length_told now entries taking.1.0) ∙ ap length taking.1.1
+  all_entries = sym (length_told now entries taking.1.told) ∙ ap length taking.1.events
 
   front_length : length (take old.taken entries) ≡ old.taken
   front_length =
@@ -191,7 +191,7 @@ module _ (begun : State) (released : Released) (core : State) (most : ℕ) (old 
 
   in_parts : core.log ≡ shown now (take old.taken entries) ++ (shown now portion ++ shown now rest)
   in_parts =
-      sym taking.1.1
+      sym taking.1.events
       ∙ (ap (shown now) split
       ∙ (shown_both now (take old.taken entries) (portion ++ rest)
       ∙ ap (λ (log : List (Event × Reply)). shown now (take old.taken entries) ++ log) (shown_both now portion rest)))
@@ -227,9 +227,9 @@ module _ (begun : State) (released : Released) (core : State) (most : ℕ) (old 
     entry_then : (n : ℕ) (entry : Entry) → n < length begun.log → slice_get entries n ≡ Some entry
         → is_some (told (world_of begun).classes.rows entry) ≡ true
     entry_then n entry lt at =
-        let found = shown_at now entries n entry taking.1.0 at in
+        let found = shown_at now entries n entry taking.1.told at in
         let tells : told (world_after (take (suc n) (events core))).classes.rows entry ≡ Some found.0 =
-        taking.1.2 n entry at ∙ (ap (λ (log : List (Event × Reply)). slice_get log n) (sym taking.1.1) ∙ found.2) in
+        taking.1.told_then n entry at ∙ (ap (λ (log : List (Event × Reply)). slice_get log n) (sym taking.1.events) ∙ found.2) in
         let grown : events core ≡ events begun ++ map (λ (x : Event × Reply). x.0) first.since =
         ap (map (λ (x : Event × Reply). x.0)) (log_grows first.since begun core first.grown)
         ∙ map-append (λ (x : Event × Reply). x.0) begun.log first.since in

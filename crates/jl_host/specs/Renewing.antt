@@ -95,9 +95,10 @@ pub record AreTaken (core : State) (portion : List Entry) (old new : Renewing) :
   pub defined : AreBrought (world_of core).classes old.defined new.defined
 
 -- the entries of the core's log, each of which tells its event by the classes that there were then
-abbrev pub AreEntries : State → List Entry → Type 0
-AreEntries core entries = (are_told (world_of core).classes.rows entries ≡ true) × (shown (world_of core).classes.rows entries ≡ core.log)
-    × AreToldThen core entries
+pub record AreEntries (core : State) (entries : List Entry) : Type 0 where
+  pub told : are_told (world_of core).classes.rows entries ≡ true
+  pub events : shown (world_of core).classes.rows entries ≡ core.log
+  pub told_then : AreToldThen core entries
 
 -- the next entries were taken, at most so many
 abbrev pub IsTakenFrom : ℕ → State → Renewing → Renewing → Type 0

@@ -15,7 +15,7 @@ returns-clause-taken c =
     let added =
     c.push_all.ensures ∙ (λ i. c.reserve.ensures.items i ++ c.in_ok-shared.ensures i) in (
       entries,
-      (c.log-log.ensures.told, c.log-log.ensures.events, c.log-log.ensures.told_then),
+      record { told = c.log-log.ensures.told; events = c.log-log.ensures.events; told_then = c.log-log.ensures.told_then },
       record {
         start = ap (λ (r : Renewing). r.start) c.self.view_is;
         fresh = ap (λ (r : Renewing). r.fresh) c.self.view_is;
