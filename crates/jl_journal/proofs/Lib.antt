@@ -1,0 +1,4 @@
+pub mod Walks
+pub mod Crossing
+mod ListLaws
+mod PartLaws

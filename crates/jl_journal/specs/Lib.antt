@@ -1,0 +1,2 @@
+-- `ForProofs` is a means of proof.
+pub mod ForProofs
