@@ -1,7 +1,8 @@
 //! The program `linkd`, as a library: its modes, which answer the lines of an input, and how it ends.
 //!
 //! What one line is answered stands in `specs/Modes`, by jl_session, and in `specs/Farms`; what the program does for words, in `specs/Asked`,
-//! and how it ends, in `specs/Endings`. The lines of an input, and that each is answered once, in order, are those of jl_lines; the words are those of jl_words.
+//! and how it ends, in `specs/Endings`. The lines of an input, and that each is answered once, in order, are those of jl_lines; the words are
+//! those of jl_words.
 #![tactic(auto)]
 
 // The modes of lines.

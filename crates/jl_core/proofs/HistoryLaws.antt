@@ -1,5 +1,5 @@
 -- One event more, as the whole history says it.
-use Rattle.std.specs.Prelude.{◌≡◌, ◌≤◌, ℕ, ◌&&◌, true, List, [], ◌∷◌, ◌++◌, map, filter, length, slice_get, Some, option_map, Ok, IsOk, is_some, is_none}
+use Rattle.std.specs.Prelude.{◌≡◌, ◌<◌, ◌≤◌, ◌^◌, ℕ, ◌&&◌, true, List, [], ◌∷◌, ◌++◌, map, filter, length, slice_get, Some, option_map, Ok, IsOk, is_some, is_none}
 use Rattle.std.specs.List.{list_all, range_with_len}
 use Rattle.std.proofs.Common.{ap, sym, subst, ◌∙◌}
 use Rattle.std.proofs.lemmas.List.{map-append}
@@ -41,6 +41,15 @@ pub record IsExact (m : ℕ) (w : World) (cached : List (ℕ × Link)) (log : Li
   pub answered : AreAnswered (core_of m w log)
   pub told_then : AreToldThen (core_of m w log) log
   pub files : list_all has_read_file (events (core_of m w log)) ≡ true
+
+-- as an instance has it
+pub exact_inside : (m : ℕ) (w : World) (links : List (ℕ × Link)) (log : List Entry) (index : List (ℕ × List Key))
+    → ((w ≡ world_of (core_of m w log)) × ((s : ℕ) → link_at links s ≡ installed (events (core_of m w log)) s)
+    × (are_told w.classes.rows log ≡ true) × (length w.places ≤ m) × (m < 2 ^ 32) × AreAnswered (core_of m w log)
+    × IsIndex w (link_at links) index × AreToldThen (core_of m w log) log × (list_all has_read_file (events (core_of m w log)) ≡ true))
+    → IsExact m w links log
+exact_inside m w links log index is =
+    record { world = is.0; links = is.1; told = is.2; answered = is.5; told_then = is.7; files = is.8 }
 
 -- so each link is the one from scratch
 pub exact_links : (m : ℕ) (w : World) (links : List (ℕ × Link)) (log : List Entry) → IsExact m w links log → AreScratch w links

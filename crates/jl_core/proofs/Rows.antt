@@ -111,6 +111,9 @@ module _ (file : ClassFile) (loader : ℕ) where
       → has_read_file (event.Define loader file) ≡ true
   files_of_many_methods extends many = λ i. extends i && nat_lt (many i) 65536
 
+  interfaces_of_another_superclass : extends_object file.flags file.superclass ≡ false → has_read_file (event.Define loader file) ≡ false
+  interfaces_of_another_superclass other = λ i. other i && nat_lt (length file.methods) 65536
+
 other_events_have_no_file : has_read_file event.NewLoader ≡ true
 other_events_have_no_file = refl
 

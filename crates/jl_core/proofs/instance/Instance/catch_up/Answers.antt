@@ -4,6 +4,7 @@ use Rattle.jl_types.specs.Values.World.{World}
 use Rattle.jl_relink.specs.Laws.{IsInOrder}
 use Rattle.jl_cache.specs.Links.{link_at}
 use Rattle.jl_deps.specs.Indexes.{IsIndex}
+use Rattle.jl_core.proofs.HistoryLaws.{exact_inside}
 use Rattle.jl_core.proofs.CatchUpLaws.{behind_inside, none_behind, is_further, are_gone, kept_so, same_core}
 use Rattle.jl_core.proofs.instance.Instance.catch_up.Goals as goal
 
@@ -18,7 +19,7 @@ pub catch_up-requires-clause-further : goal.catch_up-requires-clause-further
 catch_up-requires-clause-further c =
     is_further c.self.inside.max_sites c.self.inside.world.value c.self.inside.links c.self.inside.log.items
     c.ahead.inside.max_sites c.ahead.inside.world.value c.ahead.inside.log.items c.in-Some.entry.now
-    (record { world = c.self.invariant.0; links = c.self.invariant.1; told = c.self.invariant.2; answered = c.self.invariant.5; told_then = c.self.invariant.7; files = c.self.invariant.8 })
+    (exact_inside _ _ _ _ _ c.self.invariant)
     c.ahead.invariant.0 c.ahead.invariant.2 c.ahead.invariant.5 (behind_inside c.self.view_is c.ahead.view_is c.requires)
     ((λ i. slice_get (sym c.as_slice.ensures.value i) (length (sym c.as_slice-place.ensures.value i))) ∙ sym c.in-Some.ensures)
     c.self.inside.index c.ahead.inside.index (subst IsInOrder c.deref.ensures c.note_order.ensures)
@@ -28,7 +29,7 @@ pub catch_up-requires-clause-gone : goal.catch_up-requires-clause-gone
 catch_up-requires-clause-gone c =
     are_gone c.self.inside.max_sites c.self.inside.world.value c.self.inside.links c.self.inside.log.items
     c.ahead.inside.max_sites c.ahead.inside.world.value c.ahead.inside.log.items c.in-Some.entry.now
-    (record { world = c.self.invariant.0; links = c.self.invariant.1; told = c.self.invariant.2; answered = c.self.invariant.5; told_then = c.self.invariant.7; files = c.self.invariant.8 })
+    (exact_inside _ _ _ _ _ c.self.invariant)
     c.ahead.invariant.0 c.ahead.invariant.2 c.ahead.invariant.5 (behind_inside c.self.view_is c.ahead.view_is c.requires)
     ((λ i. slice_get (sym c.as_slice.ensures.value i) (length (sym c.as_slice-place.ensures.value i))) ∙ sym c.in-Some.ensures)
     c.self.inside.index c.ahead.inside.index (subst IsInOrder c.deref.ensures c.note_order.ensures)
@@ -39,7 +40,7 @@ invariant_of-result-2 c =
     let next =
     kept_so c.self.inside.max_sites c.self.inside.world.value c.self.inside.links c.self.inside.log.items
     c.ahead.inside.max_sites c.ahead.inside.world.value c.ahead.inside.log.items c.in-Some.entry.now
-    (record { world = c.self.invariant.0; links = c.self.invariant.1; told = c.self.invariant.2; answered = c.self.invariant.5; told_then = c.self.invariant.7; files = c.self.invariant.8 })
+    (exact_inside _ _ _ _ _ c.self.invariant)
     c.ahead.invariant.0 c.ahead.invariant.2 c.ahead.invariant.5 (behind_inside c.self.view_is c.ahead.view_is c.requires)
     ((λ i. slice_get (sym c.as_slice.ensures.value i) (length (sym c.as_slice-place.ensures.value i))) ∙ sym c.in-Some.ensures)
     c.catch_up.new.world.value c.catch_up.new.links c.catch_up.new.log.items c.in_ok-catch_up.ensures.world
@@ -60,7 +61,7 @@ pub returns : goal.returns
 returns c =
     same_core c.self.inside.max_sites c.self.inside.world.value c.self.inside.links c.self.inside.log.items
     c.ahead.inside.max_sites c.ahead.inside.world.value c.ahead.inside.log.items c.in-Some.entry.now
-    (record { world = c.self.invariant.0; links = c.self.invariant.1; told = c.self.invariant.2; answered = c.self.invariant.5; told_then = c.self.invariant.7; files = c.self.invariant.8 })
+    (exact_inside _ _ _ _ _ c.self.invariant)
     c.ahead.invariant.0 c.ahead.invariant.2 c.ahead.invariant.5 (behind_inside c.self.view_is c.ahead.view_is c.requires)
     ((λ i. slice_get (sym c.as_slice.ensures.value i) (length (sym c.as_slice-place.ensures.value i))) ∙ sym c.in-Some.ensures)
     c.catch_up.new.world.value c.catch_up.new.links c.catch_up.new.log.items c.in_ok-catch_up.ensures.world

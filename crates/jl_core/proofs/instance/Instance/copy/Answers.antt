@@ -1,7 +1,7 @@
 use Rattle.std.specs.Prelude.{◌≤◌, length}
 use Rattle.std.proofs.Common.{sym, subst, ◌∙◌}
 use Rattle.jl_types.specs.Values.World.{World}
-use Rattle.jl_core.proofs.HistoryLaws.{exact_same, index_same}
+use Rattle.jl_core.proofs.HistoryLaws.{exact_inside, exact_same, index_same}
 use Rattle.jl_core.proofs.instance.Instance.copy.Goals as goal
 
 pub invariant_of-result : goal.invariant_of-result
@@ -10,7 +10,7 @@ invariant_of-result c =
     let now =
     exact_same old.max_sites old.world.value c.in_ok-try_clone.field-0.value old.links c.in_ok-copy.field-0 old.log.items c.in_ok-share_log.field-0.items
     c.in_ok-try_clone.ensures c.in_ok-copy.ensures (c.in_ok-share_log.ensures ∙ c.as_slice.ensures.value)
-    (record { world = c.self.invariant.0; links = c.self.invariant.1; told = c.self.invariant.2; answered = c.self.invariant.5; told_then = c.self.invariant.7; files = c.self.invariant.8 })
+    (exact_inside _ _ _ _ _ c.self.invariant)
     in (
       now.world,
       now.links,

@@ -6,7 +6,7 @@ use Rattle.jl_relink.specs.Laws.{IsInOrder}
 use Rattle.jl_cache.specs.Links.{link_at}
 use Rattle.jl_events.specs.Judging.{most_to_judge}
 use Rattle.jl_core.specs.State.{State, events, world_of, IsAccepted}
-use Rattle.jl_core.proofs.HistoryLaws.{core_of, exact_links, kept_after, accepted_after, accepted_inside}
+use Rattle.jl_core.proofs.HistoryLaws.{core_of, exact_inside, exact_links, kept_after, accepted_after, accepted_inside}
 use Rattle.jl_core.proofs.WorkLaws.{are_bounded}
 use Rattle.jl_core.proofs.instance.Instance.perform.Goals as goal
 
@@ -20,7 +20,7 @@ perform-requires-clause-accepted c = (
 pub perform-requires-clause-sound : goal.perform-requires-clause-sound
 perform-requires-clause-sound c = record {
   scratch = exact_links c.self.inside.max_sites c.self.inside.world.value c.self.inside.links c.self.inside.log.items
-      (record { world = c.self.invariant.0; links = c.self.invariant.1; told = c.self.invariant.2; answered = c.self.invariant.5; told_then = c.self.invariant.7; files = c.self.invariant.8 });
+      (exact_inside _ _ _ _ _ c.self.invariant);
   indexed = c.self.invariant.6;
   rising = c.len-sites.ensures.rising;
   order = subst IsInOrder c.deref.ensures c.note_order.ensures;
@@ -30,7 +30,7 @@ pub invariant_of-next : goal.invariant_of-next
 invariant_of-next c =
     let next = kept_after c.self.inside.max_sites c.self.inside.world.value c.perform.new.world.value
     c.self.inside.links c.perform.new.links c.self.inside.log.items c.perform.new.log.items c.args.event c.in_ok-reply.reply
-    (record { world = c.self.invariant.0; links = c.self.invariant.1; told = c.self.invariant.2; answered = c.self.invariant.5; told_then = c.self.invariant.7; files = c.self.invariant.8 })
+    (exact_inside _ _ _ _ _ c.self.invariant)
     (accepted_inside c.self.inside.max_sites c.self.inside.world.value c.self.inside.log.items c.args.self c.args.event c.self.invariant.0 c.self.view_is
     c.requires.accepted) c.in_ok-reply.ensures.done c.note_file.ensures c.self.invariant.3 in
     (next.0.world, next.0.links, next.0.told, next.1, c.self.invariant.4, next.0.answered, c.in_ok-reply.ensures.indexed, next.0.told_then, next.0.files)
@@ -41,7 +41,7 @@ returns-clause-accepted c =
     c.in_ok-reply.reply) c.self.view_is
     (accepted_after c.self.inside.max_sites c.self.inside.world.value c.perform.new.world.value
     c.self.inside.links c.perform.new.links c.self.inside.log.items c.perform.new.log.items c.args.event c.in_ok-reply.reply
-    (record { world = c.self.invariant.0; links = c.self.invariant.1; told = c.self.invariant.2; answered = c.self.invariant.5; told_then = c.self.invariant.7; files = c.self.invariant.8 })
+    (exact_inside _ _ _ _ _ c.self.invariant)
     (accepted_inside c.self.inside.max_sites c.self.inside.world.value c.self.inside.log.items c.args.self c.args.event c.self.invariant.0 c.self.view_is
     c.requires.accepted) c.in_ok-reply.ensures.done)
 
