@@ -1,12 +1,11 @@
 #!/usr/bin/env bash
 # Asks of a core what a server asks in a year, once with renewals and once without, and looks at the memory that is resident.
 #
-#     bench/year.sh [EVENTS [RENEW_AT]]
+#     bench/year.sh [EVENTS]
 #
 # EVENTS (13300000: ten million new targets, a million switch points that come, become invalid and go, as many call sites, and 20,000 loaders
-# of ten classes) is how many events are asked, RENEW_AT (1000000) how many entries the log may have before the core is renewed. It is renewed,
-# too, where the numbers of a kind are nearly used up, so the run without renewals ends early. The program is what `rt run` in crates/bench
-# leaves in out/; where there is none, it is built. A line is printed for each 100,000 events, with the MB that are resident with renewals and
+# of ten classes) is how many events are asked. The core forgets what is past. It is renewed where the numbers of a kind are nearly used up, so
+# the run without renewals ends early. The program is what `rt run` in crates/bench leaves in out/; where there is none, it is built. A line is printed for each 100,000 events, with the MB that are resident with renewals and
 # without; KEEP=DIR keeps these lines there, as year.txt, and what the program told. Behind them stands what is resident once the second
 # renewal is done, the most at a later line, and what renewals take. It ends with status 0 only where there were two renewals and with them
 # nothing was refused; needs python3 and Linux.
@@ -28,7 +27,7 @@ fi
 run() {
     "$here/resident.py" "$bench" year "$1" "$2" < /dev/null > "$data/$3.txt" 2> "$data/$3.told"
 }
-run "${1:-13300000}" "${2:-1000000}" renewed
+run "${1:-13300000}" 1 renewed
 run "${1:-13300000}" 0 alone
 if grep '^ended' "$data/renewed.txt" >&2; then
     exit 1

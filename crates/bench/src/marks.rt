@@ -79,7 +79,7 @@ pub(crate) fn add_core(text: &mut String, core: &Core) -> Result<(), AllocError>
     for number in 0..SITES {
         add(text, &core.links().get(SiteNo::new(number)))?;
     }
-    add(text, &core.log())?;
+    add(text, &core.log().kept())?;
     add(text, &core.links().len())?;
     add(text, &core.last_work())
 }

@@ -36,7 +36,7 @@ fn time_renewal(
     let start = Instant::now(rt)?;
     match &renew(rt.alloc(), core, released, max_sites) {
         Ok((fresh, _numbers)) => {
-            tell(rt, "events renewed", core.log().len() as u64, &start)?;
+            tell(rt, "events renewed", core.log().len(), &start)?;
             tell_core(rt, fresh)
         }
         Err(_) => Err(ErrorKind::OutOfMemory.into()),

@@ -1,9 +1,10 @@
-//! Asks of a core what a server asks in a year: so many events, the second word, in rounds. Whenever the log has so many entries, the third
-//! word, or the numbers of a kind are nearly used up, the core is renewed, with what its owner let go, and the owner takes the new numbers
-//! over. Where the third word is 0, it isn't, and this ends where a number lacks. Nothing of the input is asked.
+//! Asks of a core what a server asks in a year: so many events, the second word, in rounds. It forgets what is past. Whenever the numbers of a
+//! kind are nearly used up, the core is renewed, with what its owner let go, and the owner takes the new numbers over. Where the third word is
+//! 0, it isn't, and this ends where a number lacks. Nothing of the input is asked.
 
 use crate::rounds::{Owned, SITES, files};
 use crate::told::{number_or, tell};
+use jl_core::Core;
 use jl_renewal::renew;
 use jl_types::Refusal;
 use std::alloc::Global;
@@ -13,8 +14,8 @@ use std::time::Instant;
 /// How many events are asked where no word says it: those of 20,000 rounds.
 const EVENTS: u32 = 13_300_000;
 
-/// How many entries the log may have where no word says it.
-const ENTRIES: u32 = 1_000_000;
+/// How many entries that aren't past the core may keep.
+const PAST: u64 = 1024;
 
 /// How many events lie between two lines.
 const TOLD: u64 = 100_000;
@@ -35,10 +36,19 @@ fn tell_end(rt: &HostRuntime, owned: &Owned, refusal: &Refusal) -> io::Result<bo
     Ok(false)
 }
 
+/// Lets the core forget what is past where it keeps too much of that.
+fn forget_past(core: &mut Core) {
+    let Some(place) = core.log().len().checked_sub(PAST) else {
+        return;
+    };
+    if core.log().kept_from(place).is_some() {
+        core.forget();
+    }
+}
+
 /// Renews the core where that is due, and times it. Gives whether there is room for a round more.
-fn make_room(rt: &HostRuntime, owned: &mut Owned, entries: usize) -> io::Result<bool> {
-    let is_due = owned.is_used_up() || owned.core.log().len() >= entries;
-    if entries == 0 || !is_due {
+fn make_room(rt: &HostRuntime, owned: &mut Owned, renews: bool) -> io::Result<bool> {
+    if !renews || !owned.is_used_up() {
         return Ok(true);
     }
     let events = owned.events;
@@ -67,6 +77,7 @@ fn run_round(
     if let Err(refusal) = &owned.round(rt.alloc(), files) {
         return tell_end(rt, owned, refusal);
     }
+    forget_past(&mut owned.core);
     if owned.events / TOLD > lines {
         tell(rt, "events", owned.events, start)?;
     }
@@ -74,12 +85,12 @@ fn run_round(
 }
 
 /// Goes round until there were so many events.
-fn run(rt: &HostRuntime, owned: &mut Owned, most: u32, entries: usize) -> io::Result<()> {
+fn run(rt: &HostRuntime, owned: &mut Owned, most: u32, renews: bool) -> io::Result<()> {
     let files = files(rt.alloc())?;
     let start = Instant::now(rt)?;
     for _ in 0..most {
         if owned.events >= u64::from(most)
-            || !make_room(rt, owned, entries)?
+            || !make_room(rt, owned, renews)?
             || !run_round(rt, owned, files.as_slice(), &start)?
         {
             break;
@@ -96,5 +107,5 @@ pub(crate) fn measure(rt: &HostRuntime, words: &[String]) -> io::Result<()> {
         return Ok(());
     }
     let most = number_or(words, 1, EVENTS);
-    run(rt, &mut owned, most, number_or(words, 2, ENTRIES) as usize)
+    run(rt, &mut owned, most, number_or(words, 2, 1) != 0)
 }

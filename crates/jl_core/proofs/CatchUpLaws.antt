@@ -101,6 +101,16 @@ none_behind m k old ahead log entries told_old told_ahead behind none =
     let there = length_told ahead.classes.rows entries told_ahead in
     not_behind (core_of m old log) (core_of k ahead entries) behind (omega arith)
 
+-- the entry after those of the instance that is behind is the last one of the instance ahead, so it is there
+pub next_entry : (m k : ℕ) (old ahead : World) (log entries : List Entry) {place : ℕ} {o : Option Entry} → place ≡ length log
+    → are_told old.classes.rows log ≡ true → are_told ahead.classes.rows entries ≡ true → IsBehind (core_of m old log) (core_of k ahead entries)
+    → (length entries ≤ place + 1 → o ≡ slice_get entries place) → slice_get entries (length log) ≡ o
+next_entry m k old ahead log entries {place} {o} is told_old told_ahead behind there =
+    let here = length_told old.classes.rows log told_old in
+    let further = length_told ahead.classes.rows entries told_ahead in
+    let le = behind.1 in
+    (λ i. slice_get entries (sym is i)) ∙ sym (there (omega arith))
+
 -- ---- one event behind
 
 pub record HasNext (core ahead : State) (e : Event) (reply : Reply) : Type 0 where

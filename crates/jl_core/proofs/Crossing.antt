@@ -8,6 +8,7 @@ use Rattle.jl_relink.proofs.Crossing.{world_send, world_sync}
 use Rattle.jl_cache.proofs.cache.Cache.TheSendSync as of_caches
 use Rattle.jl_cache.proofs.kept.KeptLink.TheSendSync as of_kept
 use Rattle.jl_deps.proofs.index.Index.TheSendSync as of_indexes
+use Rattle.jl_journal.proofs.Crossing.{crosses as of_journals}
 use Rattle.jl_core.specs.contracts.log.Logged as Logged
 use Rattle.jl_core.specs.contracts.log.Entry as Entry
 use Rattle.jl_core.specs.contracts.instance.Instance as Instance
@@ -27,10 +28,10 @@ pub entry_sync : IsSync Entry.the_row
 entry_sync = search (logged_send, logged_sync, sendable, of_std) depth 20
 
 instance_send : IsSend Instance.the_row
-instance_send = search (world_send, world_sync, of_caches.the_send, of_indexes.the_send, entry_send, sendable, of_std) depth 20
+instance_send = search (world_send, world_sync, of_caches.the_send, of_indexes.the_send, of_journals, entry_send, sendable, of_std) depth 20
 
 instance_sync : IsSync Instance.the_row
-instance_sync = search (world_send, world_sync, of_caches.the_sync, of_indexes.the_sync, entry_sync, sendable, of_std) depth 20
+instance_sync = search (world_send, world_sync, of_caches.the_sync, of_indexes.the_sync, of_journals, entry_send, entry_sync, sendable, of_std) depth 20
 
 pub core_send : IsSend Core.the_row
 core_send = search (instance_send, sendable) depth 12

@@ -1,7 +1,7 @@
 -- The slots of an event that leads from one instance to another.
-use Rattle.std.specs.Prelude.{◌≡◌, ℕ, ◌==◌, ◌||◌, Bool, true, false, List, [], ◌∷◌, ◌++◌, map, filter_map, length, slice_get, Option, Some, None, option_map}
+use Rattle.std.specs.Prelude.{◌≡◌, ◌≤◌, ◌+◌, ℕ, ◌==◌, ◌||◌, Bool, true, false, List, [], ◌∷◌, ◌++◌, map, filter_map, length, slice_get, Option, Some, None, option_map}
 use Rattle.std.specs.List.{list_any}
-use Rattle.std.proofs.Common.{refl, ap, sym, ◌∙◌, arith}
+use Rattle.std.proofs.Common.{refl, ap, sym, ◌∙◌, arith, length-append}
 use Rattle.std.proofs.lemmas.List.{map-append}
 use Rattle.std.proofs.lemmas.Option.{same_Some, slice_get_within}
 use Rattle.jl_types.specs.declared.link.Link.{Link}
@@ -67,6 +67,13 @@ module _ (old new : State) (past rows : List Class) (before after : List Entry)
   at =
       (λ i. slice_get ((is_new ∙ ap (λ (s : State). s.log) led.logged) i) ((sym (length_told past before told_before) ∙ ap length is_old) i))
       ∙ at_end old.log (e, reply)
+
+  pub at_most_one : (place : ℕ) → place ≡ length before → length after ≤ place + 1
+  at_most_one place is =
+      let here : length before ≡ length old.log = sym (length_told past before told_before) ∙ ap length is_old in
+      let there : length after ≡ length old.log + 1 =
+      sym (length_told rows after told_after) ∙ ap length (is_new ∙ ap (λ (s : State). s.log) led.logged) ∙ length-append old.log ((e, reply) ∷ []) in
+      omega arith
 
   pub has_last : {A : Type 0} → slice_get after (length before) ≡ None → A
   has_last none =

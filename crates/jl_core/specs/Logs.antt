@@ -1,7 +1,8 @@
 -- What the entries of a log tell.
-use Rattle.std.specs.Prelude.{◌≡◌, ℕ, suc, take, slice_get, Bool, List, [], ◌∷◌, ◌++◌, filter_map, Option, Some, option_map, is_some}
+use Rattle.std.specs.Prelude.{◌≡◌, ℕ, suc, take, slice_get, Bool, true, false, List, [], ◌∷◌, ◌++◌, filter_map, Option, Some, option_map, is_some}
 use Rattle.std.specs.List.{list_all}
 use Rattle.jl_types.specs.Events.Event.{Event}
+use Rattle.jl_types.specs.declared.event.EventOf.TheVariants as event
 use Rattle.jl_types.specs.declared.event.Reply.{Reply}
 use Rattle.jl_types.specs.Values.World.{Class}
 use Rattle.jl_types.specs.Events.History.{world_after}
@@ -12,6 +13,16 @@ use Rattle.jl_core.specs.State.{State, events}
 pub record Entry : Type 0 where
   pub event : Accepted
   pub reply : Reply
+
+-- a definition or a delegation, by which a loader comes to know a class
+abbrev pub tells_classes : Accepted → Bool
+tells_classes (event.Define loader c) = true
+tells_classes (event.Delegate loader name to) = true
+tells_classes _ = false
+
+-- where a log forgets what is past, it keeps these: no world tells in which order they came
+abbrev pub is_kept : Entry → Bool
+is_kept entry = tells_classes entry.event
 
 abbrev pub told : List Class → Entry → Option (Event × Reply)
 told rows entry = option_map (λ e. (e, entry.reply)) (event_of rows entry.event)

@@ -19,6 +19,7 @@ use jl_deps::{
     Index, Keys, keys_of_definition, keys_of_points, keys_of_retirement, keys_of_target,
 };
 use jl_events::{Accepted, catch_up_world};
+use jl_journal::{Journal, Share};
 use jl_names::Seq;
 use jl_relink::World;
 use jl_settle::{forget, sites_of, take_over};
@@ -32,7 +33,7 @@ pub(crate) fn catch_up(
     world: &mut Arc<World>,
     links: &mut Cache,
     index: &mut Index,
-    log: &mut Vec<Entry>,
+    log: &mut Journal<Entry>,
     alloc: Global,
     world_ahead: &Arc<World>,
     links_ahead: &Cache,
@@ -45,7 +46,7 @@ pub(crate) fn catch_up(
     ensures world { OnOk result (world.new.value ≡ world_ahead.now.value) }
     ensures links { OnOk result ((s : ℕ) → link_at links.new s ≡ link_at links_ahead.now s) }
     ensures index { OnOk result (IsIndex world_ahead.now.value (link_at links.new) index.new) }
-    ensures log { OnOk result (log.new.items ≡ log.old.items ++ entry.now ∷ []) }
+    ensures log { OnOk result (log.new ≡ log.old ++ entry.now ∷ []) }
 {
     catch_up_links(
         alloc,

@@ -1,6 +1,6 @@
 //! One instance of all that a core keeps.
 
-ghost use Rattle.std.specs.Prelude.{◌≡◌, ◌≤◌, ℕ, true, length, option_copied, slice_get, IsOk, IfOk, OnOk};
+ghost use Rattle.std.specs.Prelude.{◌≡◌, ◌≤◌, ℕ, true, length, IsOk, IfOk, OnOk};
 ghost use Rattle.std.specs.List.{list_all};
 ghost use Rattle.jl_types.specs.Events.Verdict.{verdict};
 ghost use Rattle.jl_types.specs.Events.History.{installed};
@@ -13,11 +13,12 @@ ghost use Rattle.jl_core.specs.Logs.{shown, are_told, AreToldThen};
 ghost use Rattle.jl_core.specs.ForProofs.Replays.{IsBehind};
 
 use crate::catch_up::catch_up;
-use crate::log::{Entry, share_log};
+use crate::log::Entry;
 use crate::perform::perform;
 use jl_cache::Cache;
 use jl_deps::Index;
 use jl_events::judged;
+use jl_journal::Journal;
 use jl_relink::World;
 use jl_types::{Event, Refusal, Reply, Work};
 use std::alloc::{AllocError, Global};
@@ -31,7 +32,7 @@ pub(crate) struct Instance {
     world: Arc<World>,
     links: Cache,
     index: Index,
-    log: Vec<Entry>,
+    log: Journal<Entry>,
 }
 
 // Written out, since a derived drop is proved anew in each crate that lets one go.
@@ -63,18 +64,18 @@ impl Model for Instance {
 
     ghost coded = { Prim.hlevel (codes, target_code) };
 
-    ghost view = { λ c. record { max_sites = c.max_sites; log = shown c.world.value.classes.rows c.log.items } };
+    ghost view = { λ c. record { max_sites = c.max_sites; log = shown c.world.value.classes.rows c.log } };
 
     ghost invariant = { λ c.
-        (c.world.value ≡ world_of (record { max_sites = c.max_sites; log = shown c.world.value.classes.rows c.log.items }))
-        × ((s : ℕ) → link_at c.links s ≡ installed (events (record { max_sites = c.max_sites; log = shown c.world.value.classes.rows c.log.items })) s)
-        × (are_told c.world.value.classes.rows c.log.items ≡ true)
+        (c.world.value ≡ world_of (record { max_sites = c.max_sites; log = shown c.world.value.classes.rows c.log }))
+        × ((s : ℕ) → link_at c.links s ≡ installed (events (record { max_sites = c.max_sites; log = shown c.world.value.classes.rows c.log })) s)
+        × (are_told c.world.value.classes.rows c.log ≡ true)
         × (length c.world.value.places ≤ c.max_sites)
         × (c.max_sites < 2 ^ 32)
-        × AreAnswered (record { max_sites = c.max_sites; log = shown c.world.value.classes.rows c.log.items })
+        × AreAnswered (record { max_sites = c.max_sites; log = shown c.world.value.classes.rows c.log })
         × IsIndex c.world.value (link_at c.links) c.index
-        × AreToldThen (record { max_sites = c.max_sites; log = shown c.world.value.classes.rows c.log.items }) c.log.items
-        × (list_all has_read_file (events (record { max_sites = c.max_sites; log = shown c.world.value.classes.rows c.log.items })) ≡ true) };
+        × AreToldThen (record { max_sites = c.max_sites; log = shown c.world.value.classes.rows c.log }) c.log
+        × (list_all has_read_file (events (record { max_sites = c.max_sites; log = shown c.world.value.classes.rows c.log })) ≡ true) };
 }
 
 impl Instance {
@@ -87,7 +88,7 @@ impl Instance {
             world: Arc::new(alloc, World::new(alloc)?)?,
             links: Cache::new(alloc),
             index: Index::new(alloc),
-            log: Vec::new(alloc),
+            log: Journal::new(alloc),
         })
     }
 
@@ -100,7 +101,7 @@ impl Instance {
             world: Arc::try_clone(&self.world)?,
             links: self.links.copy()?,
             index: self.index.copy(alloc)?,
-            log: share_log(alloc, self.log.as_slice())?,
+            log: self.log.copy(alloc)?,
         })
     }
 
@@ -171,8 +172,8 @@ impl Instance {
         note_order(&world);
         // Shows that the sites of the index rise.
         let _sites = index.len();
-        let place = log.as_slice().len();
-        let Some(entry) = entry_at(ahead.log.as_slice(), place) else {
+        let place = log.len();
+        let Some(entry) = ahead.log.next_after(place) else {
             return Ok(Instance {
                 max_sites,
                 world,
@@ -201,6 +202,13 @@ impl Instance {
         })
     }
 
+    /// How many places may be requested.
+    pub(crate) fn max_sites(&self) -> u32
+        ensures { result ≡ self.now.max_sites }
+    {
+        self.max_sites
+    }
+
     /// What there is to link.
     pub(crate) fn world(&self) -> &World
         ensures world { result.now ≡ world_of self.now }
@@ -224,23 +232,23 @@ impl Instance {
         &self.links
     }
 
+    /// Forgets the entries of all events but the last one, definitions and delegations apart. A clause sees no change. Takes no memory.
+    pub(crate) fn forget(&mut self)
+        ensures { self.new ≡ self.old }
+    {
+        self.log.forget();
+    }
+
     /// The accepted events, each with its reply.
-    pub(crate) fn log(&self) -> &[Entry]
+    pub(crate) fn log(&self) -> &Journal<Entry>
         ensures told { are_told (world_of self.now).classes.rows result.now ≡ true }
         ensures events { shown (world_of self.now).classes.rows result.now ≡ self.now.log }
         ensures answered { AreAnswered self.now }
         ensures told_then { AreToldThen self.now result.now }
         ensures files { list_all has_read_file (events self.now) ≡ true }
     {
-        self.log.as_slice()
+        &self.log
     }
-}
-
-/// The entry at this place.
-pub(crate) fn entry_at<'a>(log: &'a [Entry], place: usize) -> Option<&'a Entry>
-    ensures { option_copied result ≡ slice_get log.now place }
-{
-    log.get(place)
 }
 
 /// The class file of a definition was read.

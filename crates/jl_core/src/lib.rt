@@ -18,6 +18,7 @@ mod slots;
 
 pub use event_machine::EventMachine;
 pub use jl_events::Accepted;
+pub use jl_journal::Journal;
 pub use laws::links_are_exact;
 pub use log::{Entry, share_log};
 pub use machine::Core;

@@ -1,8 +1,10 @@
 //! The accepted events, as a core keeps them.
 
 ghost use Rattle.std.specs.Prelude.{◌≡◌, IfOk};
+ghost use Rattle.jl_core.specs.Logs.{tells_classes};
 
 use jl_events::Accepted;
+use jl_journal::{Keep, Share};
 use jl_types::Reply;
 use std::alloc::{AllocError, Global};
 use std::fmt;
@@ -70,15 +72,6 @@ impl Entry {
         })
     }
 
-    /// The same entry once more, which is not copied. It is an error where it can count no more owners.
-    pub(crate) fn share(&self) -> Result<Entry, AllocError>
-        ensures { IfOk result (λ entry. entry ≡ self.now) }
-    {
-        Ok(Entry {
-            shared: Arc::try_clone(&self.shared)?,
-        })
-    }
-
     /// The event; a definition names the class that it made.
     pub fn event(&self) -> &Accepted
         ensures { result.now ≡ self.now.event }
@@ -91,6 +84,44 @@ impl Entry {
         ensures { result.now ≡ self.now.reply }
     {
         &self.shared.reply
+    }
+}
+
+/// Definitions and delegations are kept where a log forgets: no world tells in which order loaders came to know classes.
+impl Keep for Entry {
+    ghost use Rattle.jl_core.specs.Logs.{is_kept};
+
+    ghost keeps = { λ e. is_kept e };
+
+    fn is_kept(&self) -> bool {
+        tells_classes(self.event())
+    }
+}
+
+/// Whether the event is a definition or a delegation.
+fn tells_classes(event: &Accepted) -> bool
+    ensures { result ≡ tells_classes event.now }
+{
+    match event {
+        Accepted::Define(_, _) | Accepted::Delegate(_, _, _) => true,
+        Accepted::NewLoader
+        | Accepted::Request(_)
+        | Accepted::NewCallSite(_, _, _)
+        | Accepted::SetTarget(_, _)
+        | Accepted::NewSwitch
+        | Accepted::Invalidate(_)
+        | Accepted::Bind(_, _)
+        | Accepted::Install(_)
+        | Accepted::Retire(_) => false,
+    }
+}
+
+/// An entry is not copied. It is an error where it can count no more owners.
+impl Share for Entry {
+    fn share(&self) -> Result<Entry, AllocError> {
+        Ok(Entry {
+            shared: Arc::try_clone(&self.shared)?,
+        })
     }
 }
 

@@ -22,6 +22,7 @@ use crate::instance::Instance;
 use crate::log::Entry;
 use crate::plan::Planned;
 use jl_cache::Cache;
+use jl_journal::Journal;
 use jl_relink::{Prepared, Snapshot, World, dispatch, prepare_in};
 use jl_types::{Answer, Event, Link, PrepareFault, Recv, Refusal, Reply, SiteNo, Work};
 use std::alloc::{AllocError, Global};
@@ -81,6 +82,13 @@ impl Core {
             next: None,
             last_work: 0,
         })
+    }
+
+    /// How many places may be requested. Takes no memory.
+    pub fn max_sites(&self) -> u32
+        ensures { result ≡ self.now.max_sites }
+    {
+        self.present.max_sites()
     }
 
     /// Applies the event. The reply tells what it gave a number to, and by rising number the sites whose links went, since they
@@ -267,8 +275,9 @@ impl Core {
     }
 
     /// The accepted events in order, each with its reply, which is what the events before it say. An entry of a definition names its
-    /// class, which has the loader and the file: one that was there once the event was accepted. Each class file was read. Takes no memory.
-    pub fn log(&self) -> &[Entry]
+    /// class, which has the loader and the file: one that was there once the event was accepted. Each class file was read. A clause sees all
+    /// entries; those that are [forgotten](Core::forget) can't be read any more. Takes no memory.
+    pub fn log(&self) -> &Journal<Entry>
         ensures told { are_told (world_of self.now).classes.rows result.now ≡ true }
         ensures events { shown (world_of self.now).classes.rows result.now ≡ self.now.log }
         ensures answered { AreAnswered self.now }
@@ -276,6 +285,16 @@ impl Core {
         ensures files { list_all has_read_file (events self.now) ≡ true }
     {
         self.present.log()
+    }
+
+    /// Forgets the entries of all accepted events but the last one, so that they take no memory any more. Those of definitions and
+    /// delegations stay, since a renewal tells them again. No clause sees a change, and no later event is
+    /// answered otherwise. A core that never forgets lends all entries by [`log`](Core::log). Takes no memory.
+    pub fn forget(&mut self)
+        ensures { self.new ≡ self.old }
+    {
+        self.present.forget();
+        forget_in(&mut self.next);
     }
 
     /// Looks up the links of these sites from scratch, as a preparation in a snapshot does that is taken now, but without
@@ -310,6 +329,15 @@ impl Core {
     fn serial(&self) -> u64
         ensures { result ≡ length self.now.log }
     {
-        self.log().len() as u64
+        self.log().len()
+    }
+}
+
+/// The second instance forgets, too, if there is one: all but its last entry.
+fn forget_in(next: &mut Option<Instance>)
+    ensures { next.new ≡ next.old }
+{
+    if let Some(next) = next {
+        next.forget();
     }
 }

@@ -14,6 +14,7 @@ use crate::log::Entry;
 use jl_cache::{Cache, KeptLink};
 use jl_deps::{Index, keys_of};
 use jl_events::{Accepted, defined_class, step_world};
+use jl_journal::Journal;
 use jl_names::Seq;
 use jl_relink::World;
 use jl_settle::{forget, install_rows, settle, sites_of};
@@ -31,7 +32,7 @@ pub(crate) fn perform(
     world: &mut Arc<World>,
     links: &mut Cache,
     index: &mut Index,
-    log: &mut Vec<Entry>,
+    log: &mut Journal<Entry>,
     alloc: Global,
     event: Event,
     work: &mut Work,
@@ -40,7 +41,7 @@ pub(crate) fn perform(
     requires sound { IsSound world.old.value links.old index.old }
     requires few { length world.old.value.places < 2 ^ 32 }
     requires small { work.old ≤ 16777216 }
-    ensures { IfOk result (IsStep world.old.value world.new.value links.old links.new index.old index.new log.old.items log.new.items event work.old work.new) }
+    ensures { IfOk result (IsStep world.old.value world.new.value links.old links.new index.old index.new log.old log.new event work.old work.new) }
 {
     let keys = keys_of(alloc, world, &event)?;
     let retired = retired_sites(alloc, world, &event)?;
@@ -157,7 +158,7 @@ fn retire_links(
 /// Keeps an event in the log that drops the links of these sites, and answers it. Want of memory is an error; the log is of no use
 /// then.
 fn answered(
-    log: &mut Vec<Entry>,
+    log: &mut Journal<Entry>,
     alloc: Global,
     made: Made,
     event: Accepted,
@@ -165,7 +166,7 @@ fn answered(
 ) -> Result<Reply, AllocError>
     ensures made { IfOk result (λ reply. reply.made ≡ made) }
     ensures dropped { IfOk result (λ reply. AreTouched lost.items reply.dropped) }
-    ensures last { IfOk result (λ reply. log.new.items ≡ log.old.items ++ record { event = event; reply = reply } ∷ []) }
+    ensures last { IfOk result (λ reply. log.new ≡ log.old ++ record { event = event; reply = reply } ∷ []) }
 {
     let dropped = each_once(lost);
     let logged = dropped.as_slice().to_vec(alloc)?;

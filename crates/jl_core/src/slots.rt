@@ -8,7 +8,7 @@ ghost use Rattle.jl_types.specs.Events.Entries.{change, same_slot, slots_changed
 ghost use Rattle.jl_core.specs.State.{events, IsAccepted};
 ghost use Rattle.jl_core.specs.ForProofs.Touched.{touched_by, AreTouched, slot_at};
 
-use crate::instance::{Instance, entry_at};
+use crate::instance::Instance;
 use crate::log::Entry;
 use crate::perform::each_once;
 use jl_cache::{Cache, KeptLink};
@@ -25,7 +25,7 @@ pub(crate) fn changed(
 ) -> Result<Vec<(SiteNo, Option<Link>)>, AllocError>
     ensures { IfOk result (λ slots. (e : Event) (reply : Reply) → IsAccepted before.now after.now e reply → slots.items ≡ slots_changed (events before.now) e) }
 {
-    let Some(last) = entry_at(after.log(), before.log().len()) else {
+    let Some(last) = after.log().next_after(before.log().len()) else {
         return Ok(Vec::new(alloc));
     };
     let sites = touched(alloc, last)?;

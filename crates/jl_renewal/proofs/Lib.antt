@@ -15,6 +15,7 @@ pub mod FitClasses
 pub mod FitSites
 pub mod FitLaws
 -- the loaders and classes of the fresh core
+mod KeptLaws
 pub mod ClassLaws
 pub mod ClassSteps
 pub mod DefinedLaws

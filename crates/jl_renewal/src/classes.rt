@@ -10,7 +10,7 @@ ghost use Rattle.jl_renewal.specs.Told.{accepted_event, told_events};
 
 use crate::apply::add_if_any;
 use crate::numbers::Renumbering;
-use jl_core::{Accepted, Entry, EventMachine};
+use jl_core::{Accepted, Entry, EventMachine, Journal};
 use jl_hierarchy::Classes;
 use jl_names::Name;
 use jl_relink::World;
@@ -53,18 +53,33 @@ fn loader_event(number: Option<u32>) -> Option<Event>
     }
 }
 
-/// Defines the classes that stay, and lets their loaders delegate as the old ones did, in the log's order. A refusal is the error.
+/// Defines the classes that stay, and lets their loaders delegate as the old ones did, in the log's order. A log that has forgotten what
+/// is past has kept what tells this. A refusal is the error.
 pub(crate) fn add_classes<M: EventMachine>(
     alloc: Global,
     fresh: &mut M,
     old: &World,
     numbers: &Renumbering,
-    log: &[Entry],
+    log: &Journal<Entry>,
 ) -> Result<(), Refusal>
     ensures adds { OnOk result (Adds (told_events old.now numbers.now log.now) (M.state fresh.old) (M.state fresh.new)) }
     ensures stops { IfErr result (IsStoppedAt (told_events old.now numbers.now log.now) (M.state fresh.old) (M.state fresh.new)) }
 {
-    for entry in log {
+    add_told(alloc, fresh, old, numbers, log.kept())
+}
+
+/// The same by these entries. A refusal is the error.
+fn add_told<M: EventMachine>(
+    alloc: Global,
+    fresh: &mut M,
+    old: &World,
+    numbers: &Renumbering,
+    entries: &[Entry],
+) -> Result<(), Refusal>
+    ensures adds { OnOk result (Adds (told_events old.now numbers.now entries.now) (M.state fresh.old) (M.state fresh.new)) }
+    ensures stops { IfErr result (IsStoppedAt (told_events old.now numbers.now entries.now) (M.state fresh.old) (M.state fresh.new)) }
+{
+    for entry in entries {
         let event = class_event(alloc, old, numbers, entry.event())?;
         add_if_any(alloc, fresh, event)?;
     }

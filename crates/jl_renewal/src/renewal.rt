@@ -13,7 +13,7 @@ use crate::numbers::Renumbering;
 use crate::places::{add_bindings, add_requests};
 use crate::released::Released;
 use crate::stays::renumbering;
-use jl_core::{Core, Entry, EventMachine};
+use jl_core::{Core, Entry, EventMachine, Journal};
 use jl_relink::World;
 use jl_types::Refusal;
 use std::alloc::Global;
@@ -45,7 +45,7 @@ pub fn renew(
 }
 
 /// Gives an empty core, or what keeps one, what stays of an old one, whose world and log these are, but for its links: those that
-/// [`fresh_links`] tells are then to be installed by [`install_all`].
+/// [`fresh_links`] tells are then to be installed by [`install_all`]. The log may have [forgotten](Core::forget) what is past.
 ///
 /// # Errors
 ///
@@ -54,7 +54,7 @@ pub fn refill<M: EventMachine>(
     alloc: Global,
     fresh: &mut M,
     old: &World,
-    log: &[Entry],
+    log: &Journal<Entry>,
     released: &Released,
     max_sites: u32,
 ) -> Result<Renumbering, Refusal>
@@ -78,7 +78,7 @@ pub fn try_refill<M: EventMachine>(
     alloc: Global,
     fresh: &mut M,
     old: &World,
-    log: &[Entry],
+    log: &Journal<Entry>,
     released: &Released,
     max_sites: u32,
 ) -> Result<Renumbering, Refusal>
@@ -101,7 +101,7 @@ fn add_all<M: EventMachine>(
     alloc: Global,
     fresh: &mut M,
     old: &World,
-    log: &[Entry],
+    log: &Journal<Entry>,
     numbers: &Renumbering,
 ) -> Result<(), Refusal>
     ensures adds { OnOk result (Adds (told_renewal old.now numbers.now log.now) (M.state fresh.old) (M.state fresh.new)) }

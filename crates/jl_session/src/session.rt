@@ -109,6 +109,13 @@ impl Session {
         &self.core
     }
 
+    /// Lets the core [forget](Core::forget) what is past. No clause sees a change. Takes no memory.
+    pub fn forget(&mut self)
+        ensures { self.new ≡ self.old }
+    {
+        self.core.forget();
+    }
+
     /// Applies an event, as a command that asks for it does. The batches stay.
     ///
     /// # Errors

@@ -11,7 +11,7 @@ use jl_types::Event;
 use std::alloc::{AllocError, Global};
 use std::process::Abort;
 
-/// The entries of a first loader and the events below, as they print.
+/// The entries of a first loader, the events below and a second switch point, as they print.
 const LOG: &[&str] = &[
     "Entry { event: NewLoader, reply: Reply { made: Loader(LoaderId(1)), dropped: Seq { items: [] } } }",
     "Entry { event: Define(LoaderId(0), ClassId(0)), reply: Reply { made: Class(ClassId(0)), dropped: Seq { items: [] } } }",
@@ -24,6 +24,7 @@ const LOG: &[&str] = &[
     "Entry { event: Install(Seq { items: [(SiteNo(0), Plain(MethodId { class: ClassId(1), index: 1 }))] }), reply: Reply { made: Nothing, dropped: Seq { items: [] } } }",
     "Entry { event: SetTarget(CallSiteId(0), Target { part: Method(MethodId { class: ClassId(1), index: 2 }) }), reply: Reply { made: Nothing, dropped: Seq { items: [SiteNo(0)] } } }",
     "Entry { event: Invalidate(Seq { items: [SwitchId(0)] }), reply: Reply { made: Nothing, dropped: Seq { items: [] } } }",
+    "Entry { event: NewSwitch, reply: Reply { made: Switch(SwitchId(1)), dropped: Seq { items: [] } } }",
 ];
 
 /// Events, and whether they are accepted.
@@ -44,6 +45,9 @@ const EVENTS: &[(Step, bool)] = &[
     (Invalidate(&[0]), true),
 ];
 
+/// The places of the entries before the core forgets.
+const ALL: &[usize] = &[0, 1, 2, 3, 4, 5, 6, 7, 8, 9, 10];
+
 /// How the entry prints.
 fn printed(alloc: Global, entry: &Entry) -> Result<String, AllocError> {
     format!(in alloc; "{entry:?}")
@@ -51,7 +55,7 @@ fn printed(alloc: Global, entry: &Entry) -> Result<String, AllocError> {
 
 /// The name in the file of the class that the entry of a definition names.
 fn defined_name(core: &Core, entry: usize) -> Option<&[u8]> {
-    match core.log().get(entry)?.event() {
+    match core.log().kept().get(entry)?.event() {
         Accepted::Define(_, class) => {
             let class = core.world().classes.class_at(*class)?;
             Some(class.file().name().as_slice())
@@ -60,16 +64,41 @@ fn defined_name(core: &Core, entry: usize) -> Option<&[u8]> {
     }
 }
 
-/// Whether the events are accepted, or refused, as is said, and have entries that print so.
+/// Whether these are the entries at these places of the log.
+fn are_at(alloc: Global, entries: &[Entry], places: &[usize], log: &[&str]) -> bool {
+    let mut all = entries.len() == places.len();
+    for (entry, place) in entries.iter().zip(places) {
+        all = match log.get(*place) {
+            Some(want) => is_text(printed(alloc, entry), want) && all,
+            None => false,
+        };
+    }
+    all
+}
+
+/// Whether the entries from the place on are these; or, where none are named, one of them was forgotten.
+fn are_from(
+    alloc: Global,
+    core: &Core,
+    place: u64,
+    places: Option<&[usize]>,
+    log: &[&str],
+) -> bool {
+    match (core.log().kept_from(place), places) {
+        (Some(entries), Some(places)) => are_at(alloc, entries, places, log),
+        (None, None) => true,
+        _ => false,
+    }
+}
+
+/// Whether the events are accepted, or refused, as is said, and have entries that print so, all of which are there.
 fn are_kept(alloc: Global, core: &mut Core, events: &[(Step, bool)], log: &[&str]) -> bool {
     let mut all = true;
     for (step, is_accepted) in events {
         all = is_done(alloc, core, step) == *is_accepted && all;
     }
-    for (entry, want) in core.log().iter().zip(log) {
-        all = is_text(printed(alloc, entry), want) && all;
-    }
-    all && core.log().len() == log.len()
+    all && core.log().len() == 11
+        && are_from(alloc, core, 0, Some(ALL), log)
         && defined_name(core, 1) == Some(b"java/lang/Object".as_slice())
         && defined_name(core, 2) == Some(b"T".as_slice())
         && core.class_count() == 2
@@ -86,6 +115,33 @@ fn is_committed(alloc: Global, core: &mut Core, event: Event) -> bool {
     }
 }
 
+/// Whether the core forgets all entries but the definitions, the delegation and the last one, accepts one event more after a plan that is
+/// dropped, planned before or not, and then forgets what was the last one.
+fn forgets(alloc: Global, core: &mut Core, is_planned: bool, log: &[&str]) -> bool {
+    core.forget();
+    let has_forgotten = core.log().len() == 11
+        && are_at(alloc, core.log().kept(), &[1, 2, 3, 10], log)
+        && are_from(alloc, core, 9, None, log)
+        && are_from(alloc, core, 10, Some(&[10]), log);
+    // The next event is made in a copy then.
+    let is_dropped = core.plan(alloc, Event::NewSwitch).is_ok();
+    let is_accepted = if is_planned {
+        is_committed(alloc, core, Event::NewSwitch)
+    } else {
+        is_done(alloc, core, &Point)
+    };
+    let is_there = core.log().len() == 12
+        && are_from(alloc, core, 8, None, log)
+        && are_from(alloc, core, 10, Some(&[10, 11]), log);
+    core.forget();
+    has_forgotten
+        && is_dropped
+        && is_accepted
+        && is_there
+        && are_at(alloc, core.log().kept(), &[1, 2, 3, 11], log)
+        && defined_name(core, 1) == Some(b"T".as_slice())
+}
+
 /// Whether a first loader is accepted, planned before or not, and then all this is so, and a snapshot counts the accepted events.
 fn are_kept_behind(alloc: Global, core: &mut Core, is_planned: bool) -> bool {
     let first = if is_planned {
@@ -94,8 +150,9 @@ fn are_kept_behind(alloc: Global, core: &mut Core, is_planned: bool) -> bool {
         is_done(alloc, core, &Loader)
     };
     let is_kept = are_kept(alloc, core, EVENTS, LOG);
+    let has_forgotten = forgets(alloc, core, is_planned, LOG);
     match core.snapshot(alloc) {
-        Ok(snapshot) => snapshot.serial() == 11 && first && is_kept,
+        Ok(snapshot) => snapshot.serial() == 12 && first && is_kept && has_forgotten,
         Err(_) => false,
     }
 }

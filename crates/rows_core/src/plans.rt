@@ -26,7 +26,7 @@ const DEFINED: &str =
     "Reply { made: Class(ClassId(4)), dropped: Seq { items: [SiteNo(0)] } } [(SiteNo(0), None)]";
 
 /// Whether the plan of a step is committed, or dropped; the step; how its plan prints; and how many events and links there are then.
-type Row = (bool, Step, &'static str, usize, usize);
+type Row = (bool, Step, &'static str, u64, usize);
 
 /// The installs are the second site's link and the first one's: N.m, and A.f on each object. C overrides that.
 const PLANS: &[Row] = &[

@@ -183,17 +183,26 @@ fn is_renewed(alloc: Global, old: &Core, released: &Released) -> bool {
     }
 }
 
+/// The same once the old core has forgotten what is past.
+fn is_renewed_again(alloc: Global, old: &mut Core, released: &Released) -> bool {
+    let is_past_there = old.log().kept_from(0).is_some();
+    old.forget();
+    is_past_there && old.log().kept_from(0).is_none() && is_renewed(alloc, old, released)
+}
+
 /// All of it.
 fn renews(alloc: Global) -> bool {
     match (old_core(alloc), released(alloc)) {
-        (Ok(old), Ok(released)) => is_renewed(alloc, &old, &released),
+        (Ok(mut old), Ok(released)) => {
+            is_renewed(alloc, &old, &released) && is_renewed_again(alloc, &mut old, &released)
+        }
         _ => false,
     }
 }
 
 /// Whether the last entry of the old core names what is gone.
 fn names_gone(alloc: Global, fresh: &mut Core, numbers: &mut Renumbering, old: &Core) -> bool {
-    match old.log().last() {
+    match old.log().kept().last() {
         Some(entry) => matches!(
             carry(alloc, fresh, numbers, old.world(), entry),
             Err(CarryFault::Gone)
@@ -215,14 +224,30 @@ fn links_come(alloc: Global, fresh: &mut Core, numbers: &Renumbering, old: &Core
         && old.links().len() == 5
 }
 
+/// Whether the entries of the old core from the place on are there and are carried over.
+fn are_carried(
+    alloc: Global,
+    fresh: &mut Core,
+    numbers: &mut Renumbering,
+    old: &Core,
+    from: u64,
+) -> bool {
+    let Some(entries) = old.log().kept_from(from) else {
+        return false;
+    };
+    let mut all = true;
+    for entry in entries {
+        all = carry(alloc, fresh, numbers, old.world(), entry).is_ok() && all;
+    }
+    all
+}
+
 /// Whether what comes meanwhile is carried over, and then a retarget of a call site that was let go is not.
 fn carries_on(alloc: Global, fresh: &mut Core, numbers: &mut Renumbering, old: &mut Core) -> bool {
     let from = old.log().len();
-    let mut all = are_done(alloc, old, MEANWHILE);
-    for entry in old.log().iter().skip(from) {
-        all = carry(alloc, fresh, numbers, old.world(), entry).is_ok() && all;
-    }
-    all && are_numbers_after(numbers)
+    are_done(alloc, old, MEANWHILE)
+        && are_carried(alloc, fresh, numbers, old, from)
+        && are_numbers_after(numbers)
         && fresh.class_count() == 8
         && links_come(alloc, fresh, numbers, old)
         && run_so(fresh, CALLS_AFTER)
@@ -248,10 +273,15 @@ fn fills_fresh(alloc: Global, old: &mut Core, released: &Released) -> bool {
     }
 }
 
-/// The same on new cores.
-fn carries(alloc: Global) -> bool {
+/// The same on new cores, of which the old one has forgotten what is past, or has not.
+fn carries(alloc: Global, has_forgotten: bool) -> bool {
     match (old_core(alloc), released(alloc)) {
-        (Ok(mut old), Ok(released)) => fills_fresh(alloc, &mut old, &released),
+        (Ok(mut old), Ok(released)) => {
+            if has_forgotten {
+                old.forget();
+            }
+            fills_fresh(alloc, &mut old, &released)
+        }
         _ => false,
     }
 }
@@ -263,5 +293,6 @@ fn renews_what_stays(rt: HostRuntime) {
 
 #[test]
 fn carries_entries_over(rt: HostRuntime) {
-    assert!(rt; carries(rt.alloc()));
+    assert!(rt; carries(rt.alloc(), false));
+    assert!(rt; carries(rt.alloc(), true));
 }

@@ -52,7 +52,7 @@ const BY_CLASSES: &[Row] = &[
     (Applied, Define(0, M), DropsNone, 0, 0),
     (Applied, Request(3, 0), DropsNone, 0, 0),
     // A and B are the receivers. No subclass of A has an f of its own, and one selection tells of both.
-    (Applied, Install(&[0]), DropsNone, 1, 2),
+    (Applied, Install(&[0]), DropsNone, 1, 1),
     (Applied, Request(3, 3), DropsNone, 0, 0),
     // What a refused event took isn't told, but what the last accepted one did.
     (
@@ -163,7 +163,7 @@ const PLANNED: &[(Step, u64)] = &[
 /// M's first call, beside a thousand sites.
 const BESIDE_A_THOUSAND: &[Row] = &[
     (Applied, Request(3, 0), DropsNone, 0, 0),
-    (Applied, Install(&[1000]), DropsNone, 1, 2),
+    (Applied, Install(&[1000]), DropsNone, 1, 1),
     (Applied, Define(0, Alone), DropsNone, 0, 0),
     (Applied, Define(0, C), DropsLast, 1, 1),
     (Applied, Define(0, D), DropsNone, 0, 0),

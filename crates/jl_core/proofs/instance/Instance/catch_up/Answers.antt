@@ -1,49 +1,52 @@
-use Rattle.std.specs.Prelude.{slice_get, length}
 use Rattle.std.proofs.Common.{sym, subst, ◌∙◌}
 use Rattle.jl_types.specs.Values.World.{World}
 use Rattle.jl_relink.specs.Laws.{IsInOrder}
 use Rattle.jl_cache.specs.Links.{link_at}
 use Rattle.jl_deps.specs.Indexes.{IsIndex}
 use Rattle.jl_core.proofs.HistoryLaws.{exact_inside}
-use Rattle.jl_core.proofs.CatchUpLaws.{behind_inside, none_behind, is_further, are_gone, kept_so, same_core}
+use Rattle.jl_core.proofs.CatchUpLaws.{behind_inside, none_behind, next_entry, is_further, are_gone, kept_so, same_core}
 use Rattle.jl_core.proofs.instance.Instance.catch_up.Goals as goal
 
 pub returns-in_default : goal.returns-in_default
 returns-in_default c =
-    none_behind c.self.inside.max_sites c.ahead.inside.max_sites c.self.inside.world.value c.ahead.inside.world.value c.self.inside.log.items
-    c.ahead.inside.log.items c.self.invariant.2 c.ahead.invariant.2 (behind_inside c.self.view_is c.ahead.view_is c.requires)
-    ((λ i. slice_get (sym c.as_slice.ensures.value i) (length (sym c.as_slice-place.ensures.value i))) ∙ sym c.in_default.ensures)
+    none_behind c.self.inside.max_sites c.ahead.inside.max_sites c.self.inside.world.value c.ahead.inside.world.value c.self.inside.log
+    c.ahead.inside.log c.self.invariant.2 c.ahead.invariant.2 (behind_inside c.self.view_is c.ahead.view_is c.requires)
+    (next_entry c.self.inside.max_sites c.ahead.inside.max_sites c.self.inside.world.value c.ahead.inside.world.value c.self.inside.log c.ahead.inside.log
+    c.len-place.ensures c.self.invariant.2 c.ahead.invariant.2 (behind_inside c.self.view_is c.ahead.view_is c.requires) c.in_default.ensures)
     ∙ c.ahead.view_is
 
 pub catch_up-requires-clause-further : goal.catch_up-requires-clause-further
 catch_up-requires-clause-further c =
-    is_further c.self.inside.max_sites c.self.inside.world.value c.self.inside.links c.self.inside.log.items
-    c.ahead.inside.max_sites c.ahead.inside.world.value c.ahead.inside.log.items c.in-Some.entry.now
+    is_further c.self.inside.max_sites c.self.inside.world.value c.self.inside.links c.self.inside.log
+    c.ahead.inside.max_sites c.ahead.inside.world.value c.ahead.inside.log c.in-Some.entry.now
     (exact_inside _ _ _ _ _ c.self.invariant)
     c.ahead.invariant.0 c.ahead.invariant.2 c.ahead.invariant.5 (behind_inside c.self.view_is c.ahead.view_is c.requires)
-    ((λ i. slice_get (sym c.as_slice.ensures.value i) (length (sym c.as_slice-place.ensures.value i))) ∙ sym c.in-Some.ensures)
+    (next_entry c.self.inside.max_sites c.ahead.inside.max_sites c.self.inside.world.value c.ahead.inside.world.value c.self.inside.log c.ahead.inside.log
+    c.len-place.ensures c.self.invariant.2 c.ahead.invariant.2 (behind_inside c.self.view_is c.ahead.view_is c.requires) c.in-Some.ensures)
     c.self.inside.index c.ahead.inside.index (subst IsInOrder c.deref.ensures c.note_order.ensures)
     c.len-sites.ensures.rising c.self.invariant.6 c.ahead.inside.links c.ahead.invariant.1 c.ahead.invariant.6
 
 pub catch_up-requires-clause-gone : goal.catch_up-requires-clause-gone
 catch_up-requires-clause-gone c =
-    are_gone c.self.inside.max_sites c.self.inside.world.value c.self.inside.links c.self.inside.log.items
-    c.ahead.inside.max_sites c.ahead.inside.world.value c.ahead.inside.log.items c.in-Some.entry.now
+    are_gone c.self.inside.max_sites c.self.inside.world.value c.self.inside.links c.self.inside.log
+    c.ahead.inside.max_sites c.ahead.inside.world.value c.ahead.inside.log c.in-Some.entry.now
     (exact_inside _ _ _ _ _ c.self.invariant)
     c.ahead.invariant.0 c.ahead.invariant.2 c.ahead.invariant.5 (behind_inside c.self.view_is c.ahead.view_is c.requires)
-    ((λ i. slice_get (sym c.as_slice.ensures.value i) (length (sym c.as_slice-place.ensures.value i))) ∙ sym c.in-Some.ensures)
+    (next_entry c.self.inside.max_sites c.ahead.inside.max_sites c.self.inside.world.value c.ahead.inside.world.value c.self.inside.log c.ahead.inside.log
+    c.len-place.ensures c.self.invariant.2 c.ahead.invariant.2 (behind_inside c.self.view_is c.ahead.view_is c.requires) c.in-Some.ensures)
     c.self.inside.index c.ahead.inside.index (subst IsInOrder c.deref.ensures c.note_order.ensures)
     c.len-sites.ensures.rising c.self.invariant.6 c.ahead.inside.links c.ahead.invariant.1 c.ahead.invariant.6
 
 pub invariant_of-result-2 : goal.invariant_of-result-2
 invariant_of-result-2 c =
     let next =
-    kept_so c.self.inside.max_sites c.self.inside.world.value c.self.inside.links c.self.inside.log.items
-    c.ahead.inside.max_sites c.ahead.inside.world.value c.ahead.inside.log.items c.in-Some.entry.now
+    kept_so c.self.inside.max_sites c.self.inside.world.value c.self.inside.links c.self.inside.log
+    c.ahead.inside.max_sites c.ahead.inside.world.value c.ahead.inside.log c.in-Some.entry.now
     (exact_inside _ _ _ _ _ c.self.invariant)
     c.ahead.invariant.0 c.ahead.invariant.2 c.ahead.invariant.5 (behind_inside c.self.view_is c.ahead.view_is c.requires)
-    ((λ i. slice_get (sym c.as_slice.ensures.value i) (length (sym c.as_slice-place.ensures.value i))) ∙ sym c.in-Some.ensures)
-    c.catch_up.new.world.value c.catch_up.new.links c.catch_up.new.log.items c.in_ok-catch_up.ensures.world
+    (next_entry c.self.inside.max_sites c.ahead.inside.max_sites c.self.inside.world.value c.ahead.inside.world.value c.self.inside.log c.ahead.inside.log
+    c.len-place.ensures c.self.invariant.2 c.ahead.invariant.2 (behind_inside c.self.view_is c.ahead.view_is c.requires) c.in-Some.ensures)
+    c.catch_up.new.world.value c.catch_up.new.links c.catch_up.new.log c.in_ok-catch_up.ensures.world
     c.ahead.inside.links c.ahead.invariant.1 c.in_ok-catch_up.ensures.links c.in_ok-catch_up.ensures.log c.ahead.invariant.8 c.ahead.invariant.3
     in (
       next.0.world,
@@ -59,11 +62,12 @@ invariant_of-result-2 c =
 
 pub returns : goal.returns
 returns c =
-    same_core c.self.inside.max_sites c.self.inside.world.value c.self.inside.links c.self.inside.log.items
-    c.ahead.inside.max_sites c.ahead.inside.world.value c.ahead.inside.log.items c.in-Some.entry.now
+    same_core c.self.inside.max_sites c.self.inside.world.value c.self.inside.links c.self.inside.log
+    c.ahead.inside.max_sites c.ahead.inside.world.value c.ahead.inside.log c.in-Some.entry.now
     (exact_inside _ _ _ _ _ c.self.invariant)
     c.ahead.invariant.0 c.ahead.invariant.2 c.ahead.invariant.5 (behind_inside c.self.view_is c.ahead.view_is c.requires)
-    ((λ i. slice_get (sym c.as_slice.ensures.value i) (length (sym c.as_slice-place.ensures.value i))) ∙ sym c.in-Some.ensures)
-    c.catch_up.new.world.value c.catch_up.new.links c.catch_up.new.log.items c.in_ok-catch_up.ensures.world
+    (next_entry c.self.inside.max_sites c.ahead.inside.max_sites c.self.inside.world.value c.ahead.inside.world.value c.self.inside.log c.ahead.inside.log
+    c.len-place.ensures c.self.invariant.2 c.ahead.invariant.2 (behind_inside c.self.view_is c.ahead.view_is c.requires) c.in-Some.ensures)
+    c.catch_up.new.world.value c.catch_up.new.links c.catch_up.new.log c.in_ok-catch_up.ensures.world
     c.ahead.inside.links c.ahead.invariant.1 c.in_ok-catch_up.ensures.links c.in_ok-catch_up.ensures.log
     ∙ c.ahead.view_is

@@ -1,5 +1,5 @@
 use Rattle.std.specs.Prelude.{◌≤◌, length}
-use Rattle.std.proofs.Common.{sym, subst, ◌∙◌}
+use Rattle.std.proofs.Common.{sym, subst}
 use Rattle.jl_types.specs.Values.World.{World}
 use Rattle.jl_core.proofs.HistoryLaws.{exact_inside, exact_same, index_same}
 use Rattle.jl_core.proofs.instance.Instance.copy.Goals as goal
@@ -8,8 +8,8 @@ pub invariant_of-result : goal.invariant_of-result
 invariant_of-result c =
     let old = c.self.inside in
     let now =
-    exact_same old.max_sites old.world.value c.in_ok-try_clone.field-0.value old.links c.in_ok-copy.field-0 old.log.items c.in_ok-share_log.field-0.items
-    c.in_ok-try_clone.ensures c.in_ok-copy.ensures (c.in_ok-share_log.ensures ∙ c.as_slice.ensures.value)
+    exact_same old.max_sites old.world.value c.in_ok-try_clone.field-0.value old.links c.in_ok-copy.field-0 old.log c.in_ok-copy-3.field-0
+    c.in_ok-try_clone.ensures c.in_ok-copy.ensures c.in_ok-copy-3.ensures
     (exact_inside _ _ _ _ _ c.self.invariant)
     in (
       now.world,

@@ -6,4 +6,4 @@ use Rattle.jl_core.proofs.machine.Core.serial.Goals as goal
 
 pub returns : goal.returns
 returns c =
-    sym (length_told (world_of c.args.self.now).classes.rows c.log.result.now c.log.ensures.told) ∙ ap length c.log.ensures.events
+    c.len.ensures ∙ sym (length_told (world_of c.args.self.now).classes.rows c.log.result.now c.log.ensures.told) ∙ ap length c.log.ensures.events
