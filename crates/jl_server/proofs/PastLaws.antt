@@ -1,5 +1,5 @@
 -- What of a log is behind its first entries tells what of its events is behind the first.
-use Rattle.std.specs.Prelude.{◌≡◌, ℕ, zero, suc, ◌&&◌, true, List, [], ◌∷◌, drop, Option, Some, None, is_some}
+use Rattle.std.specs.Prelude.{◌≡◌, ℕ, zero, suc, ◌&&◌, true, List, [], ◌∷◌, drop, length, Option, Some, None, is_some}
 use Rattle.std.specs.List.{cons_option}
 use Rattle.std.proofs.Common.{refl, ap, sym, ◌∙◌}
 use Rattle.jl_types.specs.Events.Event.{Event}
@@ -10,8 +10,9 @@ use Rattle.jl_types.specs.Events.Entries as plain
 use Rattle.jl_types.specs.Events.Entries.{events_of}
 use Rattle.jl_core.specs.State.{State, world_of}
 use Rattle.jl_core.specs.Logs.{Entry, told, are_told, shown}
+use Rattle.jl_core.proofs.LogLaws.{length_told}
 use Rattle.jl_server.specs.History.{core_of, logged_of}
-use Rattle.jl_server.proofs.Logs.{world_logged}
+use Rattle.jl_server.proofs.Logs.{world_logged, serial_logged}
 
 module _ (rows : List Class) where
   -- the entries that are left tell their events, too, which are those that are left
@@ -41,3 +42,10 @@ module _ (n : ℕ) (entries : List plain.Entry) (core : State) (is : core ≡ co
       (λ i. shown (same i).classes.rows (left i))
       ∙ ((shown_drop (world_of core).classes.rows log all_told from).1
       ∙ ap (λ (xs : List (Event × Reply)). drop from xs) (events ∙ ap (λ (s : State). s.log) is))
+
+-- such a log is as long as the list
+pub as_long : (n : ℕ) (entries : List plain.Entry) (core : State) → core ≡ core_of n entries → (log : List Entry)
+    → are_told (world_of core).classes.rows log ≡ true → shown (world_of core).classes.rows log ≡ core.log → length log ≡ length entries
+as_long n entries core is log all_told events =
+    sym (length_told (world_of core).classes.rows log all_told)
+    ∙ (ap (λ (xs : List (Event × Reply)). length xs) events ∙ serial_logged n entries core is)

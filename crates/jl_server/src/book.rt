@@ -1,6 +1,7 @@
 //! What lies under the lock: a core, and the one writer of the published table.
 
-ghost use Rattle.std.specs.Prelude.{◌≡◌, ◌≤◌, [], ◌∷◌, ◌++◌, true, length, drop, None, IsOk, IfOk, IfErr, IfSome, IfNone, OnErr, if◌then◌else◌};
+ghost use Rattle.std.specs.Prelude.{◌≡◌, ◌≤◌, ◌+◌, [], ◌∷◌, ◌++◌, true, length, drop, None, IsOk, IfOk, IfErr, IfSome, IfNone, OnErr};
+ghost use Rattle.std.specs.Prelude.{if◌then◌else◌};
 ghost use Rattle.std.specs.List.{list_all};
 ghost use Rattle.jl_types.specs.declared.refusal.Refusal.TheVariants.{Memory};
 ghost use Rattle.jl_types.specs.Events.Verdict.{verdict};
@@ -13,10 +14,12 @@ ghost use Rattle.jl_core.specs.State.{AreAnswered, IsAccepted, IsRefused, empty_
 ghost use Rattle.jl_core.specs.Logs.{are_told, shown};
 ghost use Rattle.jl_core.specs.Plans.{IsPlanned, IsAsPlanned};
 ghost use Rattle.jl_server.specs.History.{core_of, logged_of, entry_after, installs_alone, is_install, planned_entry};
+ghost use Rattle.jl_server.specs.declared.fault.EntriesFault.TheVariants as fault;
 ghost use Rattle.jl_server.specs.ForProofs.Shown.{content, changed, IsShown, IsChangeOf};
 
+use crate::fault::EntriesFault;
 use crate::history::{Head, Name};
-use crate::past::{Past, share_from};
+use crate::past::{Past, Since, share_from};
 use crate::publish::{TableWriter, show_in};
 use crate::seen::Seen;
 use crate::table::Change;
@@ -153,23 +156,52 @@ impl<K: Name, R: Wait + Drop> Book<K, R> {
         }
     }
 
-    /// What the published list comes to, and that list, with what of its entries is behind the first so many. Want of memory is an error.
-    pub fn past(&self, alloc: Global, from: usize) -> Result<Past<K>, AllocError>
+    /// What the published list comes to, and that list, with the whole journal of its entries. Want of memory is an error.
+    pub fn past(&self, alloc: Global) -> Result<Past<K>, AllocError>
+        ensures seen { IfOk result (λ r. r.seen ≡ self.now) }
+        ensures world { IfOk result (λ r. r.world ≡ record { world = world_after (events_of self.now); serial = length self.now }) }
+        ensures told { IfOk result (λ r. are_told r.world.world.classes.rows r.log ≡ true) }
+        ensures entries { IfOk result (λ r. shown r.world.world.classes.rows r.log ≡ logged_of self.now) }
+        ensures answered { IfOk result (λ r. AreAnswered (core_of K.max_sites r.seen)) }
+        ensures files { IfOk result (λ r. list_all has_read_file (events_of r.seen) ≡ true) }
+    {
+        let whole = self.core.log();
+        let log = whole.copy(alloc)?;
+        let (world, seen) = self.snapshot(alloc)?;
+        Ok(Past { world, log, seen })
+    }
+
+    /// What the published list comes to, and that list, with what of its entries is behind the first so many.
+    ///
+    /// # Errors
+    ///
+    /// Forgotten, where one of these entries wasn't the last one when the book last [forgot](Book::forget); want of memory.
+    pub fn entries(&self, alloc: Global, from: u64) -> Result<Since<K>, EntriesFault>
         ensures seen { IfOk result (λ r. r.seen ≡ self.now) }
         ensures world { IfOk result (λ r. r.world ≡ record { world = world_after (events_of self.now); serial = length self.now }) }
         ensures told { IfOk result (λ r. are_told r.world.world.classes.rows r.entries.items ≡ true) }
         ensures entries { IfOk result (λ r. shown r.world.world.classes.rows r.entries.items ≡ drop from (logged_of self.now)) }
         ensures answered { IfOk result (λ r. AreAnswered (core_of K.max_sites r.seen)) }
         ensures files { IfOk result (λ r. list_all has_read_file (events_of r.seen) ≡ true) }
+        ensures last { length self.now ≤ from + 1 → IfErr result (λ f. f ≡ fault.Memory) }
     {
         let log = self.core.log();
         let entries = share_from(alloc, log, from)?;
         let (world, seen) = self.snapshot(alloc)?;
-        Ok(Past {
+        Ok(Since {
             world,
             entries,
             seen,
         })
+    }
+
+    /// Forgets the entries of all events but the last one, so that they take no memory any more. Those of definitions and delegations stay,
+    /// since a renewal tells them again. No clause sees a change: the published list stays what it is, and so do the published table, and
+    /// what is answered from now on. [`entries`](Book::entries) refuses what was forgotten. Takes no memory.
+    pub fn forget(&mut self)
+        ensures { self.new ≡ self.old }
+    {
+        self.core.forget();
     }
 
     /// What a call comes to after the published list, and the site's installed link, if there is one. Takes no memory.

@@ -9,6 +9,7 @@
 mod book;
 mod caller;
 mod entry;
+mod fault;
 mod history;
 mod laws;
 mod links;
@@ -23,10 +24,11 @@ mod table;
 
 pub use book::{Book, Denied, Receipt};
 pub use caller::Caller;
+pub use fault::EntriesFault;
 pub use history::Name;
 pub use laws::fast_answers_are_the_calls;
 pub use memo::Memo;
 pub use parts::{Parts, Unmade};
-pub use past::Past;
+pub use past::{Past, Since};
 pub use seen::Seen;
 pub use server::{LinkList, LinkServer};

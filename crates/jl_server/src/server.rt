@@ -79,6 +79,15 @@ impl<K: Name, R: Wait + Drop> LinkServer<K, R> {
     }
 }
 
+impl<K: Name, R: Wait + Drop> LinkServer<K, R> {
+    /// Forgets the entries of all events but the last one, as [`Book::forget`] does. It waits for the lock. What a caller has seen stays
+    /// a legal list, and no call, link, snapshot or receipt is another one than before. It takes no memory.
+    pub fn forget<H: Wait>(&self, rt: &H) {
+        let mut book = self.book.lock(rt);
+        book.forget();
+    }
+}
+
 impl<K: Name> Caller<K> {
     /// Applies the event after all that the caller has seen. It waits for the lock.
     ///

@@ -4,7 +4,8 @@ use crate::deeds::{Deed, method};
 use crate::scripts::Says::*;
 use crate::scripts::{Act, Says};
 use crate::workers::{Shared, Worker, receiver};
-use jl_server::{Caller, Name};
+use jl_core::Entry;
+use jl_server::{Caller, EntriesFault, Name};
 use jl_types::{
     Answer, Fast, Link, Made, Outcome, Recv, Refusal, SiteNo, SwitchId, Throwable, Unlinked,
 };
@@ -49,6 +50,57 @@ fn is_refused<K: Name, R: Wait, S: Wait + Drop>(
     }
 }
 
+/// Whether the entries behind the first so many are refused, since one of them is forgotten, and the caller has then seen what it had.
+pub(crate) fn is_forgotten<K: Name, R: Wait, S: Wait + Drop>(
+    shared: &Shared<'_, K, R, S>,
+    caller: &mut Caller<K>,
+    from: u64,
+) -> bool {
+    let before = caller.seen().serial();
+    let refused = match &caller.entries(shared.rt, shared.alloc, shared.server, from) {
+        Ok(_since) => false,
+        Err(fault) => *fault == EntriesFault::Forgotten,
+    };
+    refused && caller.seen().serial() == before
+}
+
+/// Whether the entries made the switch points of these numbers.
+fn make_switches(entries: &[Entry], numbers: &[u32]) -> bool {
+    let mut all = entries.len() == numbers.len();
+    for (entry, number) in entries.iter().zip(numbers) {
+        all = entry.reply().made == Made::Switch(SwitchId::new(*number)) && all;
+    }
+    all
+}
+
+/// Whether the caller is told the entries behind the first so many, which made the switch points of these numbers.
+fn is_told<K: Name, R: Wait, S: Wait + Drop>(
+    shared: &Shared<'_, K, R, S>,
+    caller: &mut Caller<K>,
+    from: u64,
+    numbers: &[u32],
+) -> bool {
+    match &caller.entries(shared.rt, shared.alloc, shared.server, from) {
+        Ok(since) => {
+            since.seen.serial() == from.saturating_add(numbers.len() as u64)
+                && make_switches(since.entries.as_slice(), numbers)
+        }
+        Err(_) => false,
+    }
+}
+
+/// Whether the caller is told the whole log, with so many entries.
+fn has_log<K: Name, R: Wait, S: Wait + Drop>(
+    shared: &Shared<'_, K, R, S>,
+    caller: &mut Caller<K>,
+    count: u64,
+) -> bool {
+    match &caller.past(shared.rt, shared.alloc, shared.server) {
+        Ok(past) => past.seen.serial() == count && past.log.len() == count,
+        Err(_) => false,
+    }
+}
+
 /// The caller learns what is told. It waits until there is something.
 fn hears<K: Name, R: Wait, S: Wait + Drop>(shared: &Shared<'_, K, R, S>, caller: &mut Caller<K>) {
     for _ in shared.rt.forever() {
@@ -88,6 +140,13 @@ pub(crate) fn acts<K: Name, R: Wait, S: Wait + Drop>(
             let link = Link::Direct(Outcome::Run(method(1, 0)));
             shared.are_linked(&mut worker.caller, sites, &link)
         }
+        Act::Forgets => {
+            shared.server.forget(shared.rt);
+            true
+        }
+        Act::IsForgotten(from) => is_forgotten(shared, &mut worker.caller, *from),
+        Act::HasLog(count) => has_log(shared, &mut worker.caller, *count),
+        Act::IsTold(from, numbers) => is_told(shared, &mut worker.caller, *from, numbers),
         Act::Tells => {
             *shared.told.lock(shared.rt) = Some(worker.caller.seen().again());
             true

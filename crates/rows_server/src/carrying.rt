@@ -1,8 +1,10 @@
-//! What a fresh server takes over from an old one, in which threads go on: what stays, its links, and the entries that come meanwhile.
+//! What a fresh server takes over from an old one, in which threads go on: what stays, its links, and the entries that come meanwhile. The old
+//! server has forgotten what was past by then.
 
 ghost use Rattle.std.specs.Prelude.{◌≡◌, []};
 ghost use Rattle.jl_renewal.specs.Renewal.{IsPast};
 
+use crate::acts::is_forgotten;
 use crate::carrying::Comes::*;
 use crate::deeds::Deed::Request;
 use crate::deeds::{Deed, method};
@@ -98,22 +100,15 @@ fn refilled<K: Name, L: Name, S: Wait + Drop>(
     gone: &[u32],
     sites: u32,
 ) -> Result<Renumbering, Refusal>
-    requires past { IsPast past.now.world.world past.now.entries.items }
+    requires past { IsPast past.now.world.world past.now.log }
     requires book { book.old ≡ [] }
     requires sites { sites ≡ L.max_sites }
 {
     let released = released(alloc, gone)?;
-    refill(
-        alloc,
-        book,
-        past.world.world(),
-        past.entries.as_slice(),
-        &released,
-        sites,
-    )
+    refill(alloc, book, past.world.world(), &past.log, &released, sites)
 }
 
-/// The same of what the old server has come to, with how many events that is.
+/// The same of what the old server has come to, which has forgotten what is past, with how many events that is.
 pub(crate) fn begin<K: Name, L: Name, R: Wait, S: Wait + Drop>(
     old: &Shared<'_, K, R, S>,
     caller: &mut Caller<K>,
@@ -124,7 +119,11 @@ pub(crate) fn begin<K: Name, L: Name, R: Wait, S: Wait + Drop>(
     requires book { book.old ≡ [] }
     requires sites { sites ≡ L.max_sites }
 {
-    match &caller.entries(old.rt, old.alloc, old.server, 0) {
+    old.server.forget(old.rt);
+    if !is_forgotten(old, caller, 0) {
+        return None;
+    }
+    match &caller.past(old.rt, old.alloc, old.server) {
         Ok(past) => match refilled(old.alloc, book, past, gone, sites) {
             Ok(numbers) => Some((past.seen.serial(), numbers)),
             Err(_) => None,
@@ -221,15 +220,15 @@ pub(crate) fn carries<K: Name, L: Name, R: Wait, S: Wait + Drop>(
     numbers: &mut Renumbering,
     from: &mut u64,
 ) -> bool {
-    match &caller.entries(old.rt, old.alloc, old.server, *from as usize) {
-        Ok(past) => {
-            *from = past.seen.serial();
+    match &caller.entries(old.rt, old.alloc, old.server, *from) {
+        Ok(since) => {
+            *from = since.seen.serial();
             are_carried(
                 old.alloc,
                 book,
                 numbers,
-                past.world.world(),
-                past.entries.as_slice(),
+                since.world.world(),
+                since.entries.as_slice(),
             )
         }
         Err(_) => false,

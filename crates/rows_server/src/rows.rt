@@ -187,6 +187,47 @@ const RETIRED: &[Line] = &[
     IsRemembered(false, 4, 4),
 ];
 
+/// A server that has no entries forgets, then one whose last entry made switch point 0, and then one that has two more switch points, of
+/// which the last one is 2. All but the last entry are forgotten each time. Links, calls, snapshots and receipts are as if it had forgotten
+/// nothing. The definition of C 4 drops the link, and the site is installed again.
+const FORGOTTEN: &[Line] = &[
+    First(Forgets),
+    First(IsTold(0, &[])),
+    First(DoesAll(ONE_SITE)),
+    First(MakesSwitch(7, 0)),
+    First(IsTold(6, &[0])),
+    First(Forgets),
+    Second(IsForgotten(0)),
+    Second(IsForgotten(5)),
+    Second(HasSeen(0)),
+    Second(IsTold(6, &[0])),
+    Second(HasSeen(7)),
+    First(IsTold(7, &[])),
+    First(Calls(0, Some(2), Runs(1))),
+    Asks(0, 2, Runs(1)),
+    First(Lists(&[0])),
+    First(TakesSnapshot(7)),
+    First(HasLog(7)),
+    Second(MakesSwitch(8, 1)),
+    First(MakesSwitch(9, 2)),
+    First(IsTold(7, &[1, 2])),
+    First(IsTold(6, &[0, 1, 2])),
+    First(IsForgotten(5)),
+    First(Forgets),
+    First(Forgets),
+    First(IsForgotten(0)),
+    First(IsForgotten(7)),
+    First(IsTold(8, &[2])),
+    First(Does(Define(0, C))),
+    Second(Lists(&[])),
+    Second(HasSeen(10)),
+    First(IsRefused(Request(5, 0), 10)),
+    First(Does(Install(1))),
+    Second(Calls(0, Some(2), Runs(1))),
+    Second(Calls(0, Some(4), Runs(4))),
+    Second(TakesSnapshot(11)),
+];
+
 /// The server goes.
 const GONE: &[Line] = &[First(Calls(0, None, Misses))];
 
@@ -201,6 +242,7 @@ pub(crate) const ROWS: &[Row] = &[
     Row(4, LISTED),
     Row(4, REMEMBERED),
     Row(64, RETIRED),
+    Row(4, FORGOTTEN),
     Row(4, GONE),
 ];
 

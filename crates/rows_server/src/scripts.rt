@@ -37,6 +37,14 @@ pub(crate) enum Act {
     TakesSnapshot(u64),
     /// It is told that just these sites have a link, which runs A's method on each object.
     Lists(&'static [u32]),
+    /// The server forgets what is past.
+    Forgets,
+    /// The entries behind the first so many are refused, since the server has forgotten one of them. It has then seen what it had.
+    IsForgotten(u64),
+    /// It is told the whole log, which has so many entries.
+    HasLog(u64),
+    /// It is told the entries behind the first so many, which made the switch points of these numbers.
+    IsTold(u64, &'static [u32]),
     /// It tells what it has seen.
     Tells,
     /// It learns what is told, and waits until there is something.

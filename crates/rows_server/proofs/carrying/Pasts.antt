@@ -12,13 +12,13 @@ use Rattle.jl_server.specs.History.{core_of, logged_of}
 use Rattle.jl_server.proofs.Logs.{world_logged}
 use Rattle.jl_renewal.specs.Renewal.{IsPast, logged}
 
--- a world and entries, as they come to be after a list, are a past
-pub is_past : (n : ℕ) (w : World) (entries : List core.Entry) (seen : List Entry) → w ≡ world_after (events_of seen)
-    → core.shown w.classes.rows entries ≡ logged_of seen → AreAnswered (core_of n seen) → IsPast w entries
-is_past n w entries seen is told answered =
-    let same : logged n w entries ≡ core_of n seen = ap (λ (log : List (Event × Reply)). record { max_sites = n; log = log }) told in
+-- a world and a log, as they come to be after a list, are a past
+pub is_past : (n : ℕ) (w : World) (log : List core.Entry) (seen : List Entry) → w ≡ world_after (events_of seen)
+    → core.shown w.classes.rows log ≡ logged_of seen → AreAnswered (core_of n seen) → IsPast w log
+is_past n w log seen is told answered =
+    let same : logged n w log ≡ core_of n seen = ap (λ (events : List (Event × Reply)). record { max_sites = n; log = events }) told in
     record {
       max_sites = n;
-      world = is ∙ sym (world_logged n seen (logged n w entries) same);
+      world = is ∙ sym (world_logged n seen (logged n w log) same);
       answered = subst (λ (s : State). AreAnswered s) (sym same) answered;
     }

@@ -16,12 +16,12 @@ holds_on P r is h = subst (λ q. OnOk q P) is h
 
 pub refilled-requires-clause-past : goal.refilled-requires-clause-past
 refilled-requires-clause-past g c =
-    let result = c.entries.result in
+    let result = c.past.result in
     let is = c.in-Ok.is in
     let past = c.in-Ok.past in
-    let list = c.entries.new.self in
-    is_past g.K.Name.max_sites past.world.world past.entries.items list
+    let list = c.past.new.self in
+    is_past g.K.Name.max_sites past.world.world past.log list
     (ap (λ s. s.world)
-    (holds (λ s. s.world ≡ record { world = world_after (events_of list); serial = length list }) result is c.entries.ensures.world))
-    (holds (λ s. shown s.world.world.classes.rows s.entries.items ≡ logged_of list) result is c.entries.ensures.entries)
-    (holds_on (AreAnswered (core_of g.K.Name.max_sites list)) result is c.entries.ensures.answered)
+    (holds (λ s. s.world ≡ record { world = world_after (events_of list); serial = length list }) result is c.past.ensures.world))
+    (holds (λ s. shown s.world.world.classes.rows s.log ≡ logged_of list) result is c.past.ensures.entries)
+    (holds_on (AreAnswered (core_of g.K.Name.max_sites list)) result is c.past.ensures.answered)
