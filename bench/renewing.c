@@ -203,7 +203,7 @@ static void *write_all(void *of) {
     return NULL;
 }
 
-/* A seat's first refresh goes over all events, so it is done before anything is measured. */
+/* A seat's first refresh writes all links, so it is done before anything is measured. */
 static void start_writers(void) {
     for (unsigned i = 0; i < WRITERS; i++) {
         writers[i].seed = i + 1;

@@ -16,6 +16,10 @@
  *  - a linker and a memo are closed, and a seat, a view and a renewal left, before its block goes; each may be done more than once;
  *  - no call is made from a signal handler, or in the forked child of a process with threads;
  *  - malloc, realloc and free come from one allocator.
+ *
+ * A linker's memory grows with the loaders, classes, delegations, sites, call sites and switch points that were ever given, and with nothing
+ * else. Of its other events, as are targets, invalidations and installs, it keeps a thousand of the last ones, and forgets those before them.
+ * While a renewal in steps is under way it forgets none, so the events since the begin are kept until the renewal ends or is left.
  */
 #ifndef LINKD_H
 #define LINKD_H
@@ -28,7 +32,7 @@ extern "C" {
 #endif
 
 /* Grows with each change of this header; linkd_version() tells it of the library. */
-#define LINKD_VERSION 4
+#define LINKD_VERSION 5
 
 typedef struct linkd linkd;
 typedef struct linkd_seat linkd_seat;
@@ -60,7 +64,7 @@ enum linkd_status {
     LINKD_LOADERS_FULL = 17,
     LINKD_RETIRE = 19,         /* fault is a linkd_retire_fault */
     LINKD_NO_CLASS_FILE = 32,  /* the bytes are no class file: fault is a linkd_class_fault */
-    LINKD_MALFORMED = 33,      /* a kind, type, target or link that is none, or a number that is too large */
+    LINKD_MALFORMED = 33,      /* a kind, type, target or link that is none, a number that is too large, or another linker than a renewal's */
     LINKD_CLOSED = 34,         /* the linker or the memo isn't open, the seat was never refreshed, the view never taken, or no renewal begun */
     LINKD_OPEN_ALREADY = 35,   /* of a renewal, that it has begun */
     LINKD_TOO_SHORT = 36,      /* the array is too short; the length that is wanted was written, where there is a place for it */
@@ -393,8 +397,9 @@ uint32_t linkd_take(linkd *at, uint8_t *out, size_t capacity, size_t *length);
 
 /* ---- a renewal */
 
-/* Opens the linker `fresh`, which isn't open, over what stays of the linker `at`, which is left as it is: what a linker has of events only
- * grows, so a process that runs for long goes over to a fresh one from time to time. What stays are the loaders that aren't retired, with
+/* Opens the linker `fresh`, which isn't open, over what stays of the linker `at`, which is left as it is: of what is retired or not used any
+ * more something stays in a linker, so a process in which loaders come and go, or call sites and switch points are made over and over, goes
+ * over to a fresh one from time to time. What stays are the loaders that aren't retired, with
  * their classes and the sites in these, and of the call sites and switch points those that aren't released, a call site also where a site
  * that stays is bound to it or the target of a later one that stays invokes it, and a switch point also where the target of a call site
  * that stays guards by it. They keep their order and get new numbers, from 0 on; a site that stays has its link there, too, if it had one.
@@ -432,7 +437,7 @@ static inline uint32_t linkd_renew(linkd *at, linkd *fresh, uint32_t max_sites, 
  *     linkd_renewal_finish(renewal, linker, fresh, &told, &numbers);   under the lock: it does what is left
  *
  * What is owed beside what stands at the head:
- *  - all these calls are given one linker, which isn't closed in between;
+ *  - all these calls are given one linker, which isn't closed in between (some others are refused, not all: see at linkd_renewal_take);
  *  - from the begin on the host asks the linker for nothing that it has released: no new target names it, and no site is bound to it;
  *  - after the finish events go to `fresh` alone: what the linker accepts then the fresh one never has.
  * No other event is refused for what is released, retirements and invalidations among them.
@@ -445,9 +450,10 @@ void linkd_renewal_blank(linkd_renewal *at);
 
 /* Begins a renewal of the linker as it is now: what stays is said at linkd_renew_into. At most max_sites sites may be requested in the fresh
  * linker; give as many as the linker was opened with, or a request that is still to come may be LINKD_SITES_FULL there. What the linker has
- * is shared and not copied, but for the pages of links that events have touched since a seat was last refreshed. So this call takes as long as
- * a seat's refresh would, and the second event after it copies the list of requested sites, as after a view. Counts as a call on the renewal
- * and on the linker.
+ * is shared and not copied, but for the pages of links that events have touched since a seat was last refreshed; each event that it keeps is
+ * shared, those of all classes and delegations among them. So this call takes as long as a seat's refresh and these would, and the second event
+ * after it copies the list of requested sites, as after a view. From here on the linker forgets no event until the renewal is finished or left.
+ * Counts as a call on the renewal and on the linker.
  * In this order: LINKD_CLOSED, where the linker isn't open; LINKD_OPEN_ALREADY, where the renewal has begun and wasn't left;
  * LINKD_MALFORMED, where max_sites is 0 or above 1,048,576; LINKD_MEMORY. Where it isn't done the renewal is as before. */
 uint32_t linkd_renewal_begin_with(linkd_renewal *at, linkd *from, uint32_t max_sites, const uint32_t *released_call_sites,
@@ -459,17 +465,18 @@ static inline uint32_t linkd_renewal_begin(linkd_renewal *at, linkd *from, uint3
                                     released->switch_count);
 }
 
-/* Takes the next events that the linker has accepted, at most so many of them: first those that it had at the begin, and then those since.
- * An event is shared and not copied. Where the linker has more classes than at the take before, the table of all classes is copied. *left is
- * how many events are left then. Counts as a call on the renewal and on the linker.
- * LINKD_CLOSED, where the renewal has not begun or the linker isn't open: *left is not written. LINKD_MEMORY: none of these events was taken,
- * and *left tells how many are left; the call may be made again. */
+/* Takes the next events that the linker has accepted since the begin, at most so many of them. An event is shared and not copied. Where the
+ * linker has more classes than at the take before, or at the first one any, the table of all classes is copied. *left is how many events are
+ * left then. Counts as a call on the renewal and on the linker.
+ * LINKD_CLOSED, where the renewal has not begun or the linker isn't open: *left is not written. In what follows none of these events was
+ * taken, and *left tells how many are left. LINKD_MEMORY: the call may be made again. LINKD_MALFORMED, where the linker isn't the one of the
+ * begin, as far as that shows: it has accepted fewer events than were taken, or has forgotten the next of them. */
 uint32_t linkd_renewal_take(linkd_renewal *at, linkd *from, size_t most, size_t *left);
 
-/* Makes of the fresh linker what the taken events tell. Before all events of the begin are taken this does nothing, and is LINKD_DONE. The
- * first call after that defines the classes that stay, requests their sites, makes the call sites and switch points, and installs the links
- * of the begin: for as many classes as a JDK has that takes seconds. From then on each event that was taken since is carried over under the
- * new numbers, installs among them. So the fresh linker has the links of the old one after that event.
+/* Makes the fresh linker. The first call defines the classes that stay of those that there were at the begin, requests their sites, makes the
+ * call sites and switch points, and installs the links of the begin: for as many classes as a JDK has that takes seconds. Then, and in each
+ * later call, each event that was taken is carried over under the new numbers, installs among them. So the fresh linker has the links of the
+ * old one after that event.
  * Takes no lock. Counts as a call on the renewal alone: the linker may be asked anything meanwhile.
  * LINKD_CLOSED, where the renewal has not begun. LINKD_SITES_FULL, where more sites stay than max_sites, or more are requested later.
  * LINKD_RELEASED, where an event since the begin names a call site or a switch point that was released and is gone: place is its number, and
@@ -483,10 +490,9 @@ uint32_t linkd_renewal_fill(linkd_renewal *at, linkd_told *told);
  * looks up no link but those of the installs among these events. The first seat that is refreshed from `fresh` copies only what events have
  * touched since. Counts as a call on the renewal and on the two linkers, which are not one.
  * In this order: LINKD_CLOSED, where the renewal has not begun or the linker isn't open; LINKD_OPEN_ALREADY, where `fresh` is;
- * LINKD_TOO_SHORT, where an array is shorter than linkd_counts says that there are numbers for it: nothing was taken then; LINKD_MEMORY;
- * then as linkd_renewal_fill. LINKD_MALFORMED, where the linker isn't the one of the begin and has accepted fewer events than that had. Where
- * it isn't done `fresh` and the arrays are as before, and the renewal has not ended: after LINKD_OPEN_ALREADY, LINKD_TOO_SHORT and
- * LINKD_MEMORY it may be finished later. */
+ * LINKD_TOO_SHORT, where an array is shorter than linkd_counts says that there are numbers for it: nothing was taken then; LINKD_MEMORY and
+ * LINKD_MALFORMED, as linkd_renewal_take; then as linkd_renewal_fill. Where it isn't done `fresh` and the arrays are as before, and the
+ * renewal has not ended: after LINKD_OPEN_ALREADY, LINKD_TOO_SHORT, LINKD_MALFORMED and LINKD_MEMORY it may be finished later. */
 uint32_t linkd_renewal_finish_into(linkd_renewal *at, linkd *from, linkd *fresh, linkd_told *told, uint32_t *loaders, size_t loader_capacity,
                                    uint32_t *classes, size_t class_capacity, uint32_t *sites, size_t site_capacity, uint32_t *call_sites,
                                    size_t call_site_capacity, uint32_t *switches, size_t switch_capacity);

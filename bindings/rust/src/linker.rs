@@ -321,10 +321,10 @@ impl Linker {
         Ok(String::from_utf8_lossy(&text).into_owned())
     }
 
-    /// A fresh linker that has what stays of this one, which is left as it is, and the ids there: what a linker has of events only grows, so
-    /// a program that runs for long goes over to a fresh one from time to time. What stays are the loaders that aren't retired, their classes
-    /// and the sites in these, and call sites and switch points as [`Released`] says; a site that stays has its link. So many sites may be
-    /// requested there, 1 to 1,048,576, or else [`Error::Malformed`].
+    /// A fresh linker that has what stays of this one, which is left as it is, and the ids there: of what is retired or not used any more
+    /// something stays in a linker, so a program that runs for long goes over to a fresh one from time to time. What stays are the loaders
+    /// that aren't retired, their classes and the sites in these, and call sites and switch points as [`Released`] says; a site that stays has
+    /// its link. So many sites may be requested there, 1 to 1,048,576, or else [`Error::Malformed`].
     ///
     /// A seat goes over by its next [`refresh`](Seat::refresh) from the fresh linker, and a view by its next [`take`](View::take); a memo is
     /// one of the old linker.

@@ -169,8 +169,8 @@ impl Renewal {
         }
     }
 
-    /// Takes the next events that the linker has accepted, at most so many: first those from before the begin, then those since. How many
-    /// are left then. An event is shared, and not copied. On [`Error::Memory`] none was taken, and it may be tried again.
+    /// Takes the next events that the linker has accepted since the begin, at most so many. How many are left then. An event is shared, and
+    /// not copied. On [`Error::Memory`] none was taken, and it may be tried again.
     pub fn take(&mut self, from: &mut Linker, most: usize) -> Result<usize, Error> {
         self.check(from)?;
         let mut left = 0;
@@ -179,8 +179,8 @@ impl Renewal {
         Ok(left)
     }
 
-    /// Makes of the fresh linker what the taken events tell: nothing before all from before the begin are taken, then what there was at the
-    /// begin, which takes the most time, and then each event since. On [`Error::Memory`] it may be tried again.
+    /// Makes the fresh linker: at first of what there was at the begin, which takes the most time, and then of each event that was taken. On
+    /// [`Error::Memory`] it may be tried again.
     ///
     /// [`Error::SitesFull`], where more sites stay than `max_sites`, or are requested later; [`Error::Released`]. After either the renewal can
     /// only be dropped.

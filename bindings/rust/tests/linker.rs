@@ -282,7 +282,7 @@ fn a_renewal_goes_on_beside_its_linker() -> Result<(), Error> {
     let plain = linker.new_call_site(CallSiteKind::Mutable, b"()V", &Target::Method(m, 1))?;
 
     let mut renewal = linker.begin_renewal(50, &Released { call_sites: &[plain], switches: &[] })?;
-    assert_eq!(renewal.take(&mut linker, 2)?, 11);
+    assert_eq!(renewal.take(&mut linker, 2)?, 0);
     renewal.fill()?;
     let d = linker.define(&with_f("D", "A"))?;
     assert_eq!(renewal.take(&mut linker, usize::MAX)?, 0);

@@ -1,14 +1,15 @@
 -- That the links stay behind the core as it takes events, and are its links once the touched sites were written.
 use Rattle.std.specs.Prelude.{◌≡◌, ◌||◌, ◌<◌, ℕ, zero, suc, Bool, true, false, List, [], ◌∷◌, ◌++◌, map, drop, length, replicate, slice_get, Option}
-use Rattle.std.specs.Prelude.{Some, None, option_map, is_some, Result, Ok, Err, ◌-◌, ◌+◌, ◌^◌, nat_le, if◌then◌else◌}
+use Rattle.std.specs.Prelude.{Some, None, option_map, is_some, Result, Ok, Err, ◌-◌, ◌+◌, ◌^◌, ◌==◌, get_or, nat_le, if◌then◌else◌}
 use Rattle.std.specs.Option.{option_map_or}
 use Rattle.std.specs.Prelude.{◌&&◌}
-use Rattle.std.specs.List.{list_any, range_with_len, cons_option}
+use Rattle.std.specs.List.{Contains, list_any, range_with_len, cons_option}
 use Rattle.std.proofs.Common.{refl, sym, ap, ◌∙◌, subst, arith, length-append, inl, inr, ◌⊎◌}
 use Rattle.std.proofs.lemmas.List.{drop-append-le, ext_get_or, length-replicate, get_or-replicate, map-append}
-use Rattle.std.proofs.lemmas.List.Folds.{list_any-append}
+use Rattle.std.proofs.lemmas.Bool.Decides.{Decides-eqb}
+use Rattle.std.proofs.lemmas.List.Folds.{list_any-append, list_any_at}
 use Rattle.std.proofs.lemmas.List.FromFn.{get_or-map-range_with_len, length-map-range_with_len}
-use Rattle.std.proofs.lemmas.Option.{same_Some}
+use Rattle.std.proofs.lemmas.Option.{none-some, same_Some}
 use Rattle.jl_types.specs.declared.answer.Unlinked.{Unlinked}
 use Rattle.jl_types.specs.declared.link.Link.{Link}
 use Rattle.jl_types.specs.Events.Event.{Event}
@@ -20,9 +21,11 @@ use Rattle.jl_types.specs.Events.Verdict.{verdict}
 use Rattle.jl_types.specs.Events.History.{world_after, installed, installs, dropped, installed_at, installed_of, settled_since, scratch_after, is_link}
 use Rattle.jl_types.specs.Events.History.{all_below, any_below}
 use Rattle.jl_types.specs.Linkage.Links.{scratch}
+use Rattle.jl_types.proofs.InstalledLinks.{links_are}
+use Rattle.jl_types.proofs.Lists.{element_at}
 use Rattle.jl_types.proofs.Places.{accepted_of}
 use Rattle.jl_events.specs.Accepted.{Accepted, event_of}
-use Rattle.jl_core.specs.State.{State, events, world_of, IsAccepted, IsApplied}
+use Rattle.jl_core.specs.State.{State, events, world_of, links_of, IsAccepted, IsApplied}
 use Rattle.jl_core.specs.Logs.{Entry, told, are_told, shown}
 use Rattle.jl_core.specs.ForProofs.Touched.{has}
 use Rattle.jl_core.proofs.SlotLaws.{untouched}
@@ -156,6 +159,38 @@ all_links core links all now =
     (λ i low. let few : i < room_for core.max_sites = omega (arith, low, all) in
     now i few ∙ sym (get_or-map-range_with_len (installed (events core)) 0 (room_for core.max_sites) i i None few (omega arith)))
 
+-- ---- all links, written anew
+
+-- a site without a row has no link
+unlisted : (core : State) (s : ℕ) → list_any (λ row. row.0 == s) (links_of core) ≡ false → installed (events core) s ≡ None
+unlisted core s none = by_link (installed (events core) s) refl
+  where
+    by_link : (o : Option Link) → installed (events core) s ≡ o → o ≡ None
+    by_link None is = refl
+    by_link (Some l) is = absurd (apart (sym (listed_at (links_of core) ((links_are (events core) s l).0 is)) ∙ none))
+      where
+        apart : true ≡ false → ⊥
+        apart e = cc
+
+        listed_at : (rows : List (ℕ × Link)) → Contains rows (s, l) → list_any (λ row. row.0 == s) rows ≡ true
+        listed_at rows c =
+            list_any_at (λ (row : ℕ × Link). row.0 == s) rows c.0 (s, l) c.1 (ap (λ (row : ℕ × Link). row.0 == s) c.2 ∙ (Decides-eqb s s).1 refl)
+
+-- of no links, once those of the listed sites were written
+pub written_anew : (core : State) (blank new : List (Option Link)) → blank ≡ replicate (room_for core.max_sites) None
+    → ((s : ℕ) → IsNow core blank s → IsNow core new s)
+    → ((s : ℕ) → s < room_for core.max_sites → list_any (λ row. row.0 == s) (links_of core) ≡ true → IsNow core new s)
+    → (s : ℕ) → s < room_for core.max_sites → IsNow core new s
+written_anew core blank new none kept written s low = by_test (list_any (λ row. row.0 == s) (links_of core)) refl
+  where
+    by_test : (b : Bool) → list_any (λ row. row.0 == s) (links_of core) ≡ b → IsNow core new s
+    by_test true e = written s low e
+    by_test false e =
+        kept s (ap (λ links. get_or links s nothing) none ∙ (get_or-replicate (room_for core.max_sites) s nothing nothing low ∙ sym (unlisted core s e)))
+      where
+        nothing : Option Link
+        nothing = None
+
 -- ---- the last entry
 
 module _ (rows : List Class) where
@@ -190,6 +225,14 @@ module _ (rows : List Class) where
       ap (λ log. option_map_or (λ e. e.1.dropped) (slice_get log (length log - 1)) []) (sym shown_is)
       ∙ ap (λ n. option_map_or (λ e. e.1.dropped) (slice_get (shown rows entries) (n - 1)) []) (length_told rows entries all_told)
       ∙ dropped_at entries (length entries - 1) entry all_told at
+
+  -- where there is none
+  pub none_is : (core : State) (entries : List Entry) → shown rows entries ≡ core.log → slice_get entries (length entries - 1) ≡ None
+      → [] ≡ last_dropped core
+  none_is core [] shown_is at = ap (λ log. option_map_or (λ e. e.1.dropped) (slice_get log (length log - 1)) []) shown_is
+  none_is core (entry ∷ entries) shown_is at =
+      let found = element_at (entry ∷ entries) (length (entry ∷ entries) - 1) (omega arith) in
+      absurd (none-some found.0 (sym at ∙ found.1))
 
 -- ---- a linker that was opened just now
 

@@ -1,9 +1,8 @@
--- A fresh core that is made, and entries that are carried over one after another.
-use Rattle.std.specs.Prelude.{◌≡◌, ◌+◌, ◌-◌, ℕ, nat_le, List, [], ◌∷◌, ◌++◌, drop, take, length, Option, Some, None}
+-- Entries that are carried over one after another.
+use Rattle.std.specs.Prelude.{◌≡◌, ◌⊎◌, ◌+◌, ◌<◌, ℕ, List, [], ◌∷◌, ◌++◌, drop, length, Option, Some, None}
 use Rattle.std.specs.Prelude.{true, Result, Ok, Err, OnOk, OnErr, IfErr}
 use Rattle.std.proofs.Common.{refl, sym, ap, ◌∙◌, subst, arith, inl, inr}
-use Rattle.std.proofs.lemmas.Bool.{leb-true}
-use Rattle.std.proofs.lemmas.List.{append_assoc, append-nil, drop-drop, drop_all, length-drop, length-take-le, take_all}
+use Rattle.std.proofs.lemmas.List.{append_assoc, append-nil, drop_all}
 use Rattle.jl_types.specs.Values.World.{World}
 use Rattle.jl_types.specs.declared.link.Link.{Link}
 use Rattle.jl_types.specs.declared.event.EventOf.TheVariants as event
@@ -14,7 +13,7 @@ use Rattle.jl_renewal.specs.declared.entries.CarryFault.{CarryFault}
 use Rattle.jl_renewal.specs.Numbers.{Numbers}
 use Rattle.jl_renewal.specs.Carries.{is_install, IsCarried, IsUncarried, IsAdded, AreLeft}
 use Rattle.jl_host.specs.ForProofs.Behind.{IsBehind}
-use Rattle.jl_host.specs.Renewing.{Start, Fresh, Renewing, IsMade, IsReady}
+use Rattle.jl_host.specs.Renewing.{Start, Fresh, Renewing, IsOther, IsMade, IsReady}
 use Rattle.jl_host.specs.Renewing.{IsCarriedOn, IsUncarriedOn, AreCarried, AreAllCarried, HasCarried, installs_of}
 use Rattle.jl_host.proofs.CaughtUp.{accepted_behind}
 
@@ -71,27 +70,18 @@ carried_behind links k old new w entry n m (Ok u) is (inr is_added) same =
     accepted_behind links k old new is_added.event is_added.made.reply is is_added.made.accepted
 carried_behind links k old new w entry n m (Err f) is carried same = subst (IsBehind links k) (sym same) is
 
+-- ---- a core that shows to be another one
+
+pub is_other : (core : State) (old : Renewing) (all place : ℕ) → all ≡ length core.log → place ≡ old.taken → (all < place) ⊎ (place + 1 < all)
+    → IsOther core old
+is_other core old all place same at (inl few) = inl (omega (arith, few, same, at))
+is_other core old all place same at (inr past) = inr (omega (arith, past, same, at))
+
 -- ---- the fresh core is made
 
-pub drop_past : {X : Type 0} (xs past : List X) (k n : ℕ) → past ≡ take n (drop k xs) → nat_le n (length (drop k xs)) ≡ true
-    → drop (k + length past) xs ≡ drop n (drop k xs)
-drop_past xs past k n is few =
-    ap (λ m. drop (k + m) xs) (ap length is ∙ length-take-le n (drop k xs) (leb-true n (length (drop k xs)) few)) ∙ sym (drop-drop n k xs)
-
--- a list from a place on
-pub from_place : {X : Type 0} (xs ys : List X) (k : ℕ) → xs ≡ ys → take (length xs - k) (drop k xs) ≡ drop k ys
-from_place xs ys k same =
-    take_all (length xs - k) (drop k xs) (omega (arith, length-drop k xs)) ∙ ap (drop k) same
-
-pub ready_from : (old : Renewing) (start : Start) (past waiting : List Entry) (made : Fresh) → old.start ≡ Some start
-    → past ≡ take start.seen.serial old.waiting → nat_le start.seen.serial (length old.waiting) ≡ true → IsMade start past old.max_sites made
-    → waiting ≡ drop start.seen.serial old.waiting → IsReady old (record old { start = None; fresh = Some made; waiting = waiting })
-ready_from old start past waiting made is are few is_made left =
-    rw is (rw few (
-      made,
-      subst (λ entries. IsMade start entries old.max_sites made) are is_made,
-      λ i. record old { start = None; fresh = Some made; waiting = left i },
-    ))
+pub ready_from : (old : Renewing) (start : Start) (made : Fresh) → old.start ≡ Some start → IsMade start old.max_sites made
+    → IsReady old (record old { start = None; fresh = Some made })
+ready_from old start made is is_made = rw is (made, is_made, refl)
 
 -- ---- how it ends
 

@@ -1,6 +1,6 @@
 -- What a renewal that was under way hands over at its end.
 use Rattle.std.specs.Prelude.{◌≡◌, ◌⊎◌, ◌+◌, ◌^◌, ◌<◌, ◌==◌, ℕ, Bool, true, false, List, [], ◌∷◌, ◌++◌, length, take, drop, Option, Some, None}
-use Rattle.std.specs.Prelude.{nat_le, MatchBool, MatchOption}
+use Rattle.std.specs.Prelude.{MatchBool, MatchOption}
 use Rattle.std.proofs.Common.{refl, sym, ap, subst, ◌∙◌, arith, inl, inr}
 use Rattle.std.proofs.lemmas.List.{length-drop, take_all}
 use Rattle.std.proofs.lemmas.Option.{none-some, same_Some}
@@ -20,7 +20,7 @@ use Rattle.jl_host.specs.declared.told.Told.{Told}
 use Rattle.jl_host.specs.Numbers.{done, malformed, too_short, status_of_refusal}
 use Rattle.jl_host.specs.Linkers.{Opened, opened_over}
 use Rattle.jl_host.specs.Renewals.{Arrays, have_room, counts_in, with_numbers}
-use Rattle.jl_host.specs.Renewing.{Start, Fresh, Renewing, IsMade, AreCarried, IsReadyFrom, IsReady, IsTakenFrom, IsToldOf, IsFilledOn, IsFilled}
+use Rattle.jl_host.specs.Renewing.{Start, Fresh, Renewing, IsMade, AreCarried, IsReady, IsTakenFrom, IsUntaken, IsToldOf, IsFilledOn, IsFilled}
 use Rattle.jl_host.specs.Renewing.{all_that_are_left, IsFilledAll, IsKept, IsHandedOver, IsFinished}
 use Rattle.jl_host.specs.UnderWay.{HasAccepted, IsHeldUp, HasFresh, IsUnderWay}
 use Rattle.jl_host.proofs.UnderWayLists.{none_behind}
@@ -56,6 +56,16 @@ fault_is_not_done renewing Gone status told is e = apart (ap (λ (n : ℕ). n ==
     apart e = cc
 fault_is_not_done renewing (Refused r) status told is e = refused_is_not_done r (ap (λ (n : ℕ). n == done) (sym is.0) ∙ e)
 
+untaken_is_not_done : (core : State) (old : Renewing) (status : ℕ) → IsUntaken core old status → (status == done) ≡ true → ⊥
+untaken_is_not_done core old status (inl lacks) e = apart (ap (λ (n : ℕ). n == done) (sym lacks) ∙ e)
+  where
+    apart : false ≡ true → ⊥
+    apart e = cc
+untaken_is_not_done core old status (inr other) e = apart (ap (λ (n : ℕ). n == done) (sym other.0) ∙ e)
+  where
+    apart : false ≡ true → ⊥
+    apart e = cc
+
 -- ---- all is carried over
 
 -- A fill that is done leaves nothing that waits where the fresh core is there.
@@ -81,18 +91,12 @@ none_waits old new status told made (inr unready) e there =
 ready_takes_none : (old new : Renewing) → IsReady old new → new.taken ≡ old.taken
 ready_takes_none old new is = by_start old.start is
   where
-    by_count : (b : Bool) (start : Start)
-        → MatchBool b
-        ((made : Fresh) × IsMade start (take start.seen.serial old.waiting) old.max_sites made
-        × (new ≡ record old { start = None; fresh = Some made; waiting = drop start.seen.serial old.waiting }))
-        (new ≡ old)
+    by_start : (o : Option Start)
+        → MatchOption o (new ≡ old)
+        (λ start. (made : Fresh) × IsMade start old.max_sites made × (new ≡ record old { start = None; fresh = Some made }))
         → new.taken ≡ old.taken
-    by_count true start made = ap (λ (renewing : Renewing). renewing.taken) made.2
-    by_count false start same = ap (λ (renewing : Renewing). renewing.taken) same
-
-    by_start : (o : Option Start) → MatchOption o (new ≡ old) (λ start. IsReadyFrom start old new) → new.taken ≡ old.taken
     by_start None same = ap (λ (renewing : Renewing). renewing.taken) same
-    by_start (Some start) is = by_count (nat_le start.seen.serial (length old.waiting)) start is
+    by_start (Some start) made = ap (λ (renewing : Renewing). renewing.taken) made.2
 
 fill_takes_none : (old new : Renewing) (status : ℕ) (told : Told) → IsFilled old status told new → new.taken ≡ old.taken
 fill_takes_none old new status told (inl filled) = by_way filled.2 ∙ ready_takes_none old filled.0 filled.1
@@ -129,7 +133,7 @@ takes_all begun released core old new way few taking =
 module _ (begun : State) (released : Released) (core : State) (old : Renewing) (way : IsUnderWay begun released core old) (before after : Arrays)
     (status : ℕ) (told : Told) where
   filled_all : (filling : ℕ) (filled : Renewing) → IsFilledAll core old filling told filled → IsUnderWay begun released core filled
-  filled_all filling filled (inl lacks) = subst (λ (renewing : Renewing). IsUnderWay begun released core renewing) (sym lacks.2) way
+  filled_all filling filled (inl untaken) = subst (λ (renewing : Renewing). IsUnderWay begun released core renewing) (sym untaken.2) way
   filled_all filling filled (inr is) =
       filled_under_way begun released core is.0 filled filling told
       (taken_under_way begun released core all_that_are_left old is.0 way is.1) is.2
@@ -199,10 +203,7 @@ module _ (begun : State) (released : Released) (core : State) (old : Renewing) (
     module _ (is_done : (filling == done) ≡ true) (made : Fresh) (there : filled.fresh ≡ Some made) (open_over : Some opened ≡ Some (opened_over made.core))
         (written : after ≡ with_numbers made.numbers before) where
       none_left : IsFilledAll core old filling told filled → (filled.waiting ≡ []) × (filled.taken ≡ length core.log)
-      none_left (inl lacks) = absurd (apart (ap (λ (n : ℕ). n == done) (sym lacks.0) ∙ is_done))
-        where
-          apart : false ≡ true → ⊥
-          apart e = cc
+      none_left (inl untaken) = absurd (untaken_is_not_done core old filling untaken.0 is_done)
       none_left (inr is) = (
         none_waits is.0 filled filling told made is.2 is_done there,
         fill_takes_none is.0 filled filling told is.2 ∙ takes_all begun released core old is.0 way few is.1,

@@ -39,36 +39,11 @@ pub none_behind : {A : Type 0} (xs : List A) → length xs ≡ 0 → xs ≡ []
 none_behind [] e = refl
 none_behind (x ∷ xs) e = absurd (omega (arith, e))
 
-pub got_in_front : {A : Type 0} (front rest : List A) (n : ℕ) → n < length front → slice_get (front ++ rest) n ≡ slice_get front n
-got_in_front [] rest n lt = absurd (omega (arith, lt))
-got_in_front (x ∷ front) rest zero lt = refl
-got_in_front (x ∷ front) rest (suc n) lt = got_in_front front rest n (omega (arith, lt))
-
--- behind fronts that are equally long
-pub got_behind : {A : Type 0} (xs ys rest : List A) (n : ℕ) → length xs ≡ length ys → length xs ≤ n → slice_get (xs ++ rest) n ≡ slice_get (ys ++ rest) n
-got_behind [] [] rest n e le = refl
-got_behind [] (y ∷ ys) rest n e le = absurd (omega (arith, e))
-got_behind (x ∷ xs) [] rest n e le = absurd (omega (arith, e))
-got_behind (x ∷ xs) (y ∷ ys) rest zero e le = absurd (omega (arith, le))
-got_behind (x ∷ xs) (y ∷ ys) rest (suc n) e le = got_behind xs ys rest n (omega (arith, e)) (omega (arith, le))
-
--- an element of a front is one of the list
-pub got_of_take : {A : Type 0} (k : ℕ) (xs : List A) (n : ℕ) (x : A) → slice_get (take k xs) n ≡ Some x → slice_get xs n ≡ Some x
-got_of_take zero [] n x at = cc
-got_of_take zero (y ∷ xs) n x at = cc
-got_of_take (suc k) [] n x at = cc
-got_of_take (suc k) (y ∷ xs) zero x at = at
-got_of_take (suc k) (y ∷ xs) (suc n) x at = got_of_take k xs n x at
-
 -- ---- what entries tell
 
 pub some_of : {A B : Type 0} (f : A → B) (o : Option A) → is_some (option_map f o) ≡ true → is_some o ≡ true
 some_of f None e = cc
 some_of f (Some x) e = refl
-
-pub some_map : {A B : Type 0} (f : A → B) (o : Option A) → is_some o ≡ true → is_some (option_map f o) ≡ true
-some_map f None e = cc
-some_map f (Some x) e = refl
 
 pub some_value : {A : Type 0} (o : Option A) → is_some o ≡ true → (x : A) × (o ≡ Some x)
 some_value None e = cc
@@ -93,30 +68,6 @@ module _ (rows : List Class) where
       → shown rows (entry ∷ entries) ≡ x ∷ shown rows entries
   shown_first entry entries x is = ap (λ (o : Option (Event × Reply)). cons_option o (shown rows entries)) is
 
-  -- what stands at the entry's place in the log
-  pub shown_at : (entries : List Entry) (n : ℕ) (entry : Entry) → are_told rows entries ≡ true → slice_get entries n ≡ Some entry
-      → (x : Event × Reply) × (told rows entry ≡ Some x) × (slice_get (shown rows entries) n ≡ Some x)
-  shown_at [] n entry e at = cc
-  shown_at (first ∷ entries) zero entry e at =
-      let parts = first_told first entries e in
-      let value = some_value (told rows first) parts.0 in
-      let same : first ≡ entry = cc in
-      (value.0, ap (told rows) (sym same) ∙ value.1, ap (λ (log : List (Event × Reply)). slice_get log 0) (shown_first first entries value.0 value.1))
-  shown_at (first ∷ entries) (suc n) entry e at =
-      let parts = first_told first entries e in
-      let value = some_value (told rows first) parts.0 in
-      let rest = shown_at entries n entry parts.1 at in
-      (rest.0, rest.1, ap (λ (log : List (Event × Reply)). slice_get log (suc n)) (shown_first first entries value.0 value.1) ∙ rest.2)
-
-  -- where each of them tells an event all do
-  pub told_each : (entries : List Entry) → ((n : ℕ) (entry : Entry) → slice_get entries n ≡ Some entry → is_some (told rows entry) ≡ true)
-      → are_told rows entries ≡ true
-  told_each [] each = refl
-  told_each (entry ∷ entries) each =
-      let first = each zero entry refl in
-      let rest = told_each entries (λ n x at. each (suc n) x at) in
-      λ i. first i && rest i
-
 -- ---- what a core accepts
 
 pub log_grows : (xs : List (Event × Reply)) (old new : State) → HasAccepted old xs new → new.log ≡ old.log ++ xs
@@ -139,23 +90,3 @@ pub classes_next : (old new : State) (e : Event) (reply : Reply) → IsAccepted 
     → AreAmong (world_of old).classes.rows (world_of new).classes.rows
 classes_next old new e reply accepted c row at =
     ap (λ w. slice_get w.classes.rows c) (world_next old new e reply accepted) ∙ rows_stay (world_of old) e c row at
-
-stay_on : (es : List Event) (w : World) → AreAmong w.classes.rows (fold step w es).classes.rows
-stay_on [] w c row at = at
-stay_on (e ∷ es) w c row at = stay_on es (step w e) c row (rows_stay w e c row at)
-
--- what an entry tells after a front of the events it tells after all of them
-pub told_later : (entry : Entry) (n : ℕ) (es : List Event) → is_some (told (world_after (take n es)).classes.rows entry) ≡ true
-    → is_some (told (world_after es).classes.rows entry) ≡ true
-told_later entry n es e = ap is_some (told_still (world_after (take n es)).classes.rows (world_after es).classes.rows stay entry e) ∙ e
-  where
-    whole : world_after es ≡ fold step (world_after (take n es)) (drop n es)
-    whole = ap world_after (sym (take-append-drop n es)) ∙ fold-append step nothing_yet (take n es) (drop n es)
-
-    stay : AreAmong (world_after (take n es)).classes.rows (world_after es).classes.rows
-    stay c row at = ap (λ (w : World). slice_get w.classes.rows c) whole ∙ stay_on (drop n es) (world_after (take n es)) c row at
-
-pub classes_grow : (xs : List (Event × Reply)) (old new : State) → HasAccepted old xs new
-    → AreAmong (world_of old).classes.rows (world_of new).classes.rows
-classes_grow [] old new is c row at = ap (λ (core : State). slice_get (world_of core).classes.rows c) is ∙ at
-classes_grow (x ∷ xs) old new is c row at = classes_grow xs is.0 new is.3 c row (classes_next old is.0 x.0 x.1 is.1 c row at)

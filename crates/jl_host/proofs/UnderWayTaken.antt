@@ -1,57 +1,56 @@
 -- A renewal that begins is under way. It stays so while the linker accepts events, and as entries are taken.
-use Rattle.std.specs.Prelude.{◌≡◌, ◌⊎◌, ◌+◌, ◌<◌, ◌≤◌, ℕ, suc, true, slice_get, List, [], ◌∷◌, ◌++◌, map, length, take, drop, Some}
-use Rattle.std.specs.Prelude.{option_and_then, is_some}
+use Rattle.std.specs.Prelude.{◌≡◌, ◌≤◌, ◌+◌, ℕ, true, slice_get, List, [], ◌∷◌, ◌++◌, length, take, drop, Some, option_and_then}
 use Rattle.std.proofs.Common.{refl, sym, ap, subst, ◌∙◌, arith, inl, inr, length-append, append_assoc}
-use Rattle.std.proofs.lemmas.Bool.{cases_lt}
-use Rattle.std.proofs.lemmas.List.{length-map, length-take-le, map-append, take-append-drop, take-append-le}
+use Rattle.std.proofs.lemmas.List.{append-nil, length-take-le, take-append-drop}
 use Rattle.std.proofs.lemmas.Option.{same_Some, slice_get_within}
 use Rattle.jl_types.specs.declared.event.Reply.{Reply}
 use Rattle.jl_types.specs.Values.World.{World, Class, Classes}
 use Rattle.jl_types.specs.Events.Event.{Event}
-use Rattle.jl_types.specs.Events.History.{world_after}
 use Rattle.jl_types.proofs.Lists.{element_at}
 use Rattle.jl_events.specs.Accepted.{event_of}
 use Rattle.jl_events.proofs.AcceptedLaws.{event_still}
 use Rattle.jl_relink.specs.Laws.{AreAccepted, has_read_file}
 use Rattle.jl_core.specs.State.{State, events, world_of, IsAccepted}
-use Rattle.jl_core.specs.Logs.{Entry, told, are_told, shown}
+use Rattle.jl_core.specs.Logs.{Entry, are_told, shown}
 use Rattle.jl_core.proofs.LogLaws.{all_still, length_told}
 use Rattle.jl_renewal.specs.declared.released.Released.{Released}
 use Rattle.jl_renewal.specs.Numbers.{Numbers}
 use Rattle.jl_renewal.specs.Carries.{carried}
-use Rattle.jl_renewal.proofs.StayLaws.{in_front}
 use Rattle.jl_host.specs.Linkers.{Opened}
-use Rattle.jl_host.specs.Renewing.{Renewing, begun_in, AreBrought, IsTakenFrom}
+use Rattle.jl_host.specs.Renewing.{Renewing, HasBegun, AreBrought, IsTakenFrom}
 use Rattle.jl_host.specs.UnderWay.{HasAccepted, AreAmong, IsGathering, IsHeldUp, HasFresh, IsUnderWay}
-use Rattle.jl_host.proofs.UnderWayLists.{same_fronts, got_in_front, got_behind, some_of, both_told, told_both, first_told, shown_both, shown_at}
-use Rattle.jl_host.proofs.UnderWayLists.{log_grows, accepted_more, classes_next, told_later}
+use Rattle.jl_host.proofs.UnderWayLists.{same_fronts, some_of, both_told, told_both, first_told, shown_both, accepted_more, classes_next}
 
 -- ---- the begin
 
-pub begun_under_way : (opened : Opened) (released : Released) (max_sites : ℕ)
+pub begun_under_way : (opened : Opened) (released : Released) (max_sites : ℕ) (renewing : Renewing)
     → AreAccepted opened.session.core.max_sites (events opened.session.core) → opened.session.core.max_sites ≤ max_sites
-    → IsUnderWay opened.session.core released opened.session.core (begun_in opened released max_sites)
-begun_under_way opened released max_sites accepted limit = record {
-  had = [];
-  later = opened.session.core.log;
-  all_told = refl;
-  log = refl;
-  taken = refl;
-  classes = λ c row at. absurd (nothing c row at);
-  phase = inl (record {
-    accepted = accepted;
-    limit = limit;
-    since = [];
-    grown = refl;
-    start = refl;
-    fresh = refl;
-    none = refl;
-    then_told = λ n entry lt at. absurd (nothing n entry at);
-  });
-}
+    → HasBegun opened released max_sites renewing → IsUnderWay opened.session.core released opened.session.core renewing
+begun_under_way opened released max_sites renewing accepted limit (past, entries, is) =
+    subst (λ (renewing : Renewing). IsUnderWay opened.session.core released opened.session.core renewing) (sym is) (record {
+      had = opened.session.core.log;
+      later = [];
+      all_told = refl;
+      log = sym (append-nil opened.session.core.log);
+      taken = none_more (length opened.session.core.log);
+      classes = λ c row at. absurd (nothing c row at);
+      phase = inl (record {
+        accepted = accepted;
+        limit = limit;
+        log = refl;
+        grown = refl;
+        past = past;
+        entries = entries;
+        start = refl;
+        fresh = refl;
+      });
+    })
   where
     nothing : {A : Type 0} (n : ℕ) (x : A) → slice_get [] n ≡ Some x → ⊥
     nothing n x e = cc
+
+    none_more : (n : ℕ) → n ≡ n + 0
+    none_more n = omega arith
 
 -- ---- the linker accepts an event
 
@@ -79,12 +78,14 @@ module _ (begun : State) (released : Released) (core after : State) (e : Event) 
       | inl first ↦ inl (record {
         accepted = first.accepted;
         limit = first.limit;
-        since = first.since ++ (e, reply) ∷ [];
-        grown = accepted_more first.since begun core after e reply first.grown accepted read;
+        log = first.log;
+        grown =
+            subst (λ (xs : List (Event × Reply)). HasAccepted begun xs after) (append_assoc waits way.later ((e, reply) ∷ []))
+            (accepted_more (waits ++ way.later) begun core after e reply first.grown accepted read);
+        past = first.past;
+        entries = first.entries;
         start = first.start;
         fresh = first.fresh;
-        none = first.none;
-        then_told = first.then_told;
       })
       | inr second ↦ inr (record {
         old = second.old;
@@ -222,54 +223,18 @@ module _ (begun : State) (released : Released) (core : State) (most : ℕ) (old 
 
   -- ---- before the fresh core is made
 
-  module _ (first : IsGathering begun released core way.had old) where
-    -- an entry of the begin that is taken
-    entry_then : (n : ℕ) (entry : Entry) → n < length begun.log → slice_get entries n ≡ Some entry
-        → is_some (told (world_of begun).classes.rows entry) ≡ true
-    entry_then n entry lt at =
-        let found = shown_at now entries n entry taking.1.told at in
-        let tells : told (world_after (take (suc n) (events core))).classes.rows entry ≡ Some found.0 =
-        taking.1.told_then n entry at ∙ (ap (λ (log : List (Event × Reply)). slice_get log n) (sym taking.1.events) ∙ found.2) in
-        let grown : events core ≡ events begun ++ map (λ (x : Event × Reply). x.0) first.since =
-        ap (map (λ (x : Event × Reply). x.0)) (log_grows first.since begun core first.grown)
-        ∙ map-append (λ (x : Event × Reply). x.0) begun.log first.since in
-        let front : take (suc n) (events core) ≡ take (suc n) (events begun) =
-        ap (take (suc n)) grown
-        ∙ take-append-le (suc n) (events begun) (map (λ (x : Event × Reply). x.0) first.since)
-        (omega (arith, lt, length-map begun.log (λ (x : Event × Reply). x.0))) in
-        told_later entry (suc n) (events begun)
-        (ap (λ (es : List Event). is_some (told (world_after es).classes.rows entry)) (sym front) ∙ ap is_some tells)
-
-    count : old.taken ≡ length old.waiting
-    count = let none = ap length first.none in let g = way.taken in omega (arith, none, g)
-
-    by_then : (n : ℕ) (entry : Entry) → n < length begun.log → length old.waiting ≤ n → slice_get (old.waiting ++ portion) n ≡ Some entry
-        → is_some (told (world_of begun).classes.rows entry) ≡ true
-    by_then n entry lt le at =
-        entry_then n entry lt
-        (ap (λ (xs : List Entry). slice_get xs n) split
-        ∙ (ap (λ (xs : List Entry). slice_get xs n) (sym (append_assoc (take old.taken entries) portion rest))
-        ∙ in_front (take old.taken entries ++ portion) rest n entry
-        (got_behind (take old.taken entries) old.waiting portion n (front_length ∙ count) (let c = count in let d = front_length in omega (arith, c, d, le))
-        ∙ at)))
-
-    by_place : (n : ℕ) (entry : Entry) → n < length begun.log → (n < length old.waiting) ⊎ (length old.waiting ≤ n)
-        → slice_get (old.waiting ++ portion) n ≡ Some entry → is_some (told (world_of begun).classes.rows entry) ≡ true
-    by_place n entry lt (inl few) at = first.then_told n entry lt (sym (got_in_front old.waiting portion n few) ∙ at)
-    by_place n entry lt (inr many) at = by_then n entry lt many at
-
-    gathering_next : IsGathering begun released core way.had new
-    gathering_next = record {
-      accepted = first.accepted;
-      limit = subst (λ (m : ℕ). begun.max_sites ≤ m) (sym taking.2.max_sites) first.limit;
-      since = first.since;
-      grown = first.grown;
-      start = taking.2.start ∙ first.start;
-      fresh = taking.2.fresh ∙ first.fresh;
-      none = first.none;
-      then_told = λ n entry lt at.
-          by_place n entry lt (cases_lt n (length old.waiting)) (ap (λ (xs : List Entry). slice_get xs n) (sym taking.2.waiting) ∙ at);
-    }
+  gathering_next : IsGathering begun released core way.had (shown before old.waiting ++ way.later) old
+      → IsGathering begun released core way.had (shown rows new.waiting ++ shown now rest) new
+  gathering_next first = record {
+    accepted = first.accepted;
+    limit = subst (λ (m : ℕ). begun.max_sites ≤ m) (sym taking.2.max_sites) first.limit;
+    log = first.log;
+    grown = subst (λ (xs : List (Event × Reply)). HasAccepted begun xs core) left_is first.grown;
+    past = first.past;
+    entries = first.entries;
+    start = taking.2.start ∙ first.start;
+    fresh = taking.2.fresh ∙ first.fresh;
+  }
 
   -- ---- once it is made
 

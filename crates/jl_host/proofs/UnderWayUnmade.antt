@@ -1,7 +1,6 @@
--- Why no fresh core is made, once all entries of the begin were taken.
-use Rattle.std.specs.Prelude.{◌≡◌, ◌≤◌, ℕ, zero, suc, nat_le, List, [], ◌∷◌, ◌++◌, take, drop, length}
+-- Why no fresh core is made.
+use Rattle.std.specs.Prelude.{◌≡◌, ◌≤◌, ℕ, zero, suc, List, [], ◌∷◌, ◌++◌, take, drop, length}
 use Rattle.std.proofs.Common.{refl, sym, ap, subst, ◌∙◌, arith, inl, inr}
-use Rattle.std.proofs.lemmas.Bool.{leb-true}
 use Rattle.std.proofs.lemmas.List.{length-drop, length-map, take-append-drop}
 use Rattle.std.proofs.lemmas.Option.{none-some, same_Some}
 use Rattle.jl_types.specs.declared.event.EventOf.TheVariants as event
@@ -14,9 +13,10 @@ use Rattle.jl_types.specs.Events.Event.{Event}
 use Rattle.jl_types.specs.Events.Verdict.{verdict}
 use Rattle.jl_types.specs.Events.History.{world_after}
 use Rattle.jl_types.proofs.InstalledLinks.{links_rise}
+use Rattle.jl_relink.specs.Laws.{AreAccepted}
 use Rattle.jl_relink.proofs.InOrder.{accepted_in_order}
 use Rattle.jl_core.specs.State.{State, empty_core, events, world_of, links_of}
-use Rattle.jl_core.specs.Logs.{Entry}
+use Rattle.jl_core.specs.Logs.{Entry, shown}
 use Rattle.jl_renewal.specs.declared.released.Released.{Released}
 use Rattle.jl_renewal.specs.Numbers.{Numbers, how_many}
 use Rattle.jl_renewal.specs.Staying.{numbers_of, staying_sites}
@@ -30,9 +30,9 @@ use Rattle.jl_renewal.proofs.NumberLaws.{many_fewer}
 use Rattle.jl_renewal.proofs.RenewalPhases.{renewal_leads}
 use Rattle.jl_renewal.proofs.StopLaws.{not_both, lacks_memory}
 use Rattle.jl_host.specs.Renewing.{Start, Renewing, IsUnmade, IsUnready}
-use Rattle.jl_host.specs.UnderWay.{start_of, IsGathering, IsUnderWay}
+use Rattle.jl_host.specs.UnderWay.{start_of, IsUnderWay}
 use Rattle.jl_host.proofs.UnderWayLinks.{few_places, listed_links}
-use Rattle.jl_host.proofs.UnderWayMade.{told_is, past_logged}
+use Rattle.jl_host.proofs.UnderWayMade.{told_is}
 
 abbrev Row : Type 0
 Row = ℕ × Link
@@ -86,55 +86,50 @@ install_stops rows between after r fresh stops =
 
 -- ---- no fresh core
 
-module _ (begun : State) (released : Released) (core : State) (renewing : Renewing) (way : IsUnderWay begun released core renewing)
-    (first : IsGathering begun released core way.had renewing) (all : length begun.log ≤ length renewing.waiting) where
+module _ (begun : State) (released : Released) (past : List Entry) (max_sites : ℕ) (accepted : AreAccepted begun.max_sites (events begun))
+    (limit : begun.max_sites ≤ max_sites) (logged : shown (world_of begun).classes.rows past ≡ begun.log) where
   abbrev w : World
   w = world_of begun
 
   abbrev n : Numbers
   n = numbers_of w released
 
-  abbrev past : List Entry
-  past = take (length begun.log) renewing.waiting
-
-  few : how_many (staying_sites w.classes w.places) ≤ renewing.max_sites
+  few : how_many (staying_sites w.classes w.places) ≤ max_sites
   few =
       let a = many_fewer (staying_sites w.classes w.places) in
       let b = length-map w.places (λ place. is_present w.classes place.class) in
-      let c = few_places begun first.accepted in
-      let d = first.limit in
+      let c = few_places begun accepted in
+      let d = limit in
       omega (arith, a, b, c, d)
 
-  may_add : MayAdd (told_renewal w n past) (empty_core renewing.max_sites)
+  may_add : MayAdd (told_renewal w n past) (empty_core max_sites)
   may_add =
-      subst (λ (es : List Event). MayAdd es (empty_core renewing.max_sites))
-      (sym (told_is begun released past (past_logged begun released core renewing way first all)))
-      (renewal_leads begun released first.accepted.each (accepted_in_order begun.max_sites (events begun) first.accepted).classes.closed
-      renewing.max_sites few).follow
+      subst (λ (es : List Event). MayAdd es (empty_core max_sites))
+      (sym (told_is begun released past logged))
+      (renewal_leads begun released accepted.each (accepted_in_order begun.max_sites (events begun) accepted).classes.closed
+      max_sites few).follow
 
   rows_made : (between : State) (m : Numbers) → m ≡ n → AreFresh (world_of between) (fresh_rows (world_of between) m (links_of begun))
   rows_made between m same =
       rows_fresh (world_of between) m (staying_sites w.classes w.places) (ap (λ (numbers : Numbers). numbers.sites) same) (links_of begun)
       (links_rise (events begun))
 
-  unmade : (r : Refusal) → IsUnmade (start_of begun released) past renewing.max_sites r → r ≡ Memory
+  unmade : (r : Refusal) → IsUnmade (start_of begun past released) max_sites r → r ≡ Memory
   unmade r (inl (after, inl (inl full, same))) = let over = full.1 in let le = few in absurd (omega (arith, over, le))
   unmade r (inl (after, inl (inr lacks, same))) = lacks
-  unmade r (inl (after, inr stopped)) = lacks_memory (told_renewal w n past) (empty_core renewing.max_sites) after r may_add stopped
+  unmade r (inl (after, inr stopped)) = lacks_memory (told_renewal w n past) (empty_core max_sites) after r may_add stopped
   unmade r (inr (inl lacks)) = lacks
   unmade r (inr (inr stopped)) =
       install_stops (fresh_rows (world_of stopped.1) stopped.0 (links_of begun)) stopped.1 stopped.2 r (rows_made stopped.1 stopped.0 stopped.3.numbers)
       (subst (λ (rows : List Row). StopsAt (fresh_rows (world_of stopped.1) stopped.0 rows) stopped.1 stopped.2 r)
-      (listed_links begun first.accepted) stopped.4)
+      (listed_links begun accepted) stopped.4)
 
 pub why_unready : (begun : State) (released : Released) (core : State) (renewing : Renewing) (r : Refusal) → IsUnderWay begun released core renewing
     → IsUnready renewing r → r ≡ Memory
 why_unready begun released core renewing r way unready = elim way.phase [
   | inl first ↦
-      let same = same_Some unready.0 (start_of begun released) (sym unready.1 ∙ first.start) in
-      let all = leb-true (length begun.log) (length renewing.waiting)
-      (ap (λ (start : Start). nat_le start.seen.serial (length renewing.waiting)) (sym same) ∙ unready.2) in
-      unmade begun released core renewing way first all r
-      (subst (λ (start : Start). IsUnmade start (take start.seen.serial renewing.waiting) renewing.max_sites r) same unready.3)
+      unmade begun released first.past renewing.max_sites first.accepted first.limit first.entries.events r
+      (subst (λ (start : Start). IsUnmade start renewing.max_sites r)
+      (same_Some unready.0 (start_of begun first.past released) (sym unready.1 ∙ first.start)) unready.2)
   | inr second ↦ absurd (none-some unready.0 (sym second.start ∙ unready.1))
 ]

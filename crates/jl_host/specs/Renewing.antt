@@ -1,5 +1,5 @@
 -- A renewal in steps, beside a linker that goes on: what it has, and what each of its calls leaves.
-use Rattle.std.specs.Prelude.{◌≡◌, ◌⊎◌, ◌+◌, ◌-◌, ◌^◌, ◌==◌, ℕ, true, nat_le, slice_get, List, [], ◌∷◌, ◌++◌, filter_map, take, drop, length}
+use Rattle.std.specs.Prelude.{◌≡◌, ◌⊎◌, ◌+◌, ◌-◌, ◌^◌, ◌==◌, ◌<◌, ◌≤◌, ℕ, true, slice_get, List, [], ◌∷◌, ◌++◌, filter_map, take, drop, length}
 use Rattle.std.specs.Prelude.{Option, Some, None, option_map, option_and_then, MatchBool, MatchOption}
 use Rattle.std.specs.Option.{unwrap_or, option_map_or, option_or}
 use Rattle.std.specs.List.{range_with_len}
@@ -36,6 +36,7 @@ use Rattle.jl_host.specs.Renewals.{Arrays, have_room, counts_of, counts_in, with
 -- what there was at the begin
 pub record Start : Type 0 where
   pub seen : Snapshot  -- what there was to link, and how many events there were
+  pub past : List Entry  -- their entries
   pub sites : ℕ  -- how many sites were requested
   pub links : List (Option Link)  -- the installed link of each site
   pub released : Released
@@ -49,25 +50,42 @@ pub record Renewing : Type 0 where
   pub start : Option Start  -- until the fresh core is made
   pub fresh : Option Fresh  -- from then on
   pub max_sites : ℕ  -- how many places may be requested there
-  pub taken : ℕ  -- how many entries were taken
-  pub waiting : List Entry  -- those of them that the fresh core doesn't have yet
+  pub taken : ℕ  -- up to which of the linker's events entries were taken
+  pub waiting : List Entry  -- those taken since the begin that the fresh core doesn't have yet
   pub defined : World  -- the classes as they were when entries were taken
 
 -- ---- the begin
 
+-- the entries of the core's log, each of which tells its event by the classes that there were then
+pub record AreEntries (core : State) (entries : List Entry) : Type 0 where
+  pub told : are_told (world_of core).classes.rows entries ≡ true
+  pub events : shown (world_of core).classes.rows entries ≡ core.log
+  pub told_then : AreToldThen core entries
+
 abbrev pub begun_from : Start → ℕ → Renewing
 begun_from start max_sites =
-    record { start = Some start; fresh = None; max_sites = max_sites; taken = 0; waiting = []; defined = nothing_yet }
+    record { start = Some start; fresh = None; max_sites = max_sites; taken = start.seen.serial; waiting = []; defined = nothing_yet }
 
--- of this linker, of which its host has released these
-abbrev pub begun_in : Opened → Released → ℕ → Renewing
-begun_in opened released max_sites =
+-- of this linker with these entries, of which its host has released these
+abbrev pub begun_in : Opened → List Entry → Released → ℕ → Renewing
+begun_in opened past released max_sites =
     begun_from (record {
       seen = snapshot_of opened.session;
+      past = past;
       sites = length (world_of opened.session.core).places;
       links = (seen_of opened.session.core).links;
       released = released;
     }) max_sites
+
+-- a renewal of it that begins
+abbrev pub HasBegun : Opened → Released → ℕ → Renewing → Type 0
+HasBegun opened released max_sites renewing =
+    (past : List Entry) × AreEntries opened.session.core past × (renewing ≡ begun_in opened past released max_sites)
+
+-- the linker isn't open, and none begins; or one begins
+abbrev pub IsBegunOf : Option Opened → Released → ℕ → Option Renewing → Type 0
+IsBegunOf None gone max_sites begun = begun ≡ None
+IsBegunOf (Some opened) gone max_sites begun = (renewing : Renewing) × HasBegun opened gone max_sites renewing × (begun ≡ Some renewing)
 
 -- The linker isn't open; or the renewal has begun; or no such number may be; or it begins, or memory lacked. The linker stays.
 abbrev pub IsBegin : Released → ℕ → Option Renewing → Option Opened → ℕ → Option Renewing → Option Opened → Type 0
@@ -75,7 +93,7 @@ IsBegin gone max_sites before None status after new = (status ≡ closed) × (af
 IsBegin gone max_sites (Some begun) (Some old) status after new = (status ≡ open_already) × (after ≡ Some begun) × (new ≡ Some old)
 IsBegin gone max_sites None (Some old) status after new =
     MatchBool (may_be max_sites)
-    (((status ≡ done) × (after ≡ Some (begun_in old gone max_sites))) ⊎ ((status ≡ memory) × (after ≡ None)))
+    (((status ≡ done) × IsBegunOf (Some old) gone max_sites after) ⊎ ((status ≡ memory) × (after ≡ None)))
     ((status ≡ malformed) × (after ≡ None))
     × (new ≡ Some old)
 
@@ -94,23 +112,26 @@ pub record AreTaken (core : State) (portion : List Entry) (old new : Renewing) :
   pub waiting : new.waiting ≡ old.waiting ++ portion
   pub defined : AreBrought (world_of core).classes old.defined new.defined
 
--- the entries of the core's log, each of which tells its event by the classes that there were then
-pub record AreEntries (core : State) (entries : List Entry) : Type 0 where
-  pub told : are_told (world_of core).classes.rows entries ≡ true
-  pub events : shown (world_of core).classes.rows entries ≡ core.log
-  pub told_then : AreToldThen core entries
-
--- the next entries were taken, at most so many
+-- the next entries were taken, at most so many; the core has accepted as many events as were taken before
 abbrev pub IsTakenFrom : ℕ → State → Renewing → Renewing → Type 0
 IsTakenFrom most core old new =
-    (entries : List Entry) × AreEntries core entries × AreTaken core (take most (drop old.taken entries)) old new
+    (entries : List Entry) × AreEntries core entries × AreTaken core (take most (drop old.taken entries)) old new × (old.taken ≤ length core.log)
 
--- The renewal hasn't begun, or the linker isn't open; or entries were taken, and the count of those that are left is told.
+-- The core shows to be another one than that of the begin, which forgets none of what is left: it has accepted fewer events than were taken;
+-- or it has forgotten the next one, so that is not the last.
+abbrev pub IsOther : State → Renewing → Type 0
+IsOther core renewing = (length core.log < renewing.taken) ⊎ (renewing.taken + 1 < length core.log)
+
+-- no entry was taken, for this reason
+abbrev pub IsUntaken : State → Renewing → ℕ → Type 0
+IsUntaken core old status = (status ≡ memory) ⊎ ((status ≡ malformed) × IsOther core old)
+
+-- The renewal hasn't begun, or the linker isn't open; or entries were taken, or none was, and the count of those that are left is told.
 abbrev pub IsTake : ℕ → Option Renewing → Option Opened → ℕ → ℕ → ℕ → Option Renewing → Option Opened → Type 0
 IsTake most None from before status left after new = (status ≡ closed) × (left ≡ before) × (after ≡ None) × (new ≡ from)
 IsTake most (Some old) None before status left after new = (status ≡ closed) × (left ≡ before) × (after ≡ Some old) × (new ≡ None)
 IsTake most (Some old) (Some opened) before status left after new = (next : Renewing) × (after ≡ Some next) × (new ≡ Some opened)
-    × (((status ≡ done) × IsTakenFrom most opened.session.core old next) ⊎ ((status ≡ memory) × (next ≡ old)))
+    × (((status ≡ done) × IsTakenFrom most opened.session.core old next) ⊎ (IsUntaken opened.session.core old status × (next ≡ old)))
     × (left ≡ length opened.session.core.log - next.taken)
 
 -- ---- the fresh core is made
@@ -124,17 +145,17 @@ abbrev pub listed : List (Option Link) → ℕ → List (ℕ × Link)
 listed links sites = filter_map (row_at links) (range_with_len 0 sites)
 
 -- The fresh core has accepted the events of a renewal of what there was at the begin, and installed the links of the sites that had one.
-pub record IsMade (start : Start) (past : List Entry) (max_sites : ℕ) (made : Fresh) : Type 0 where
+pub record IsMade (start : Start) (max_sites : ℕ) (made : Fresh) : Type 0 where
   pub between : State
-  pub refilled : IsFilledFrom start.seen.world past start.released made.numbers (empty_core max_sites) between
+  pub refilled : IsFilledFrom start.seen.world start.past start.released made.numbers (empty_core max_sites) between
   pub linked : Installs (fresh_rows (world_of between) made.numbers (listed start.links start.sites)) between made.core
 
 -- none is made: more sites stay than may be requested there; or memory lacked; or an event was refused
-abbrev pub IsUnmade : Start → List Entry → ℕ → Refusal → Type 0
-IsUnmade start past max_sites r =
-    ((after : State) × IsPartlyFilled start.seen.world past start.released max_sites (empty_core max_sites) after r)
+abbrev pub IsUnmade : Start → ℕ → Refusal → Type 0
+IsUnmade start max_sites r =
+    ((after : State) × IsPartlyFilled start.seen.world start.past start.released max_sites (empty_core max_sites) after r)
     ⊎ (r ≡ Memory)
-    ⊎ ((n : Numbers) × (between after : State) × IsFilledFrom start.seen.world past start.released n (empty_core max_sites) between
+    ⊎ ((n : Numbers) × (between after : State) × IsFilledFrom start.seen.world start.past start.released n (empty_core max_sites) between
     × StopsAt (fresh_rows (world_of between) n (listed start.links start.sites)) between after r)
 
 -- ---- an entry is carried over
@@ -205,20 +226,14 @@ pub record StopsBefore (w : World) (entries left : List Entry) (old : Fresh) (fa
 
 -- ---- a fill
 
--- the fresh core is made once all entries of the begin were taken
-abbrev pub IsReadyFrom : Start → Renewing → Renewing → Type 0
-IsReadyFrom start old new = MatchBool (nat_le start.seen.serial (length old.waiting))
-    ((made : Fresh) × IsMade start (take start.seen.serial old.waiting) old.max_sites made
-    × (new ≡ record old { start = None; fresh = Some made; waiting = drop start.seen.serial old.waiting }))
-    (new ≡ old)
-
+-- the fresh core is made, if it wasn't
 abbrev pub IsReady : Renewing → Renewing → Type 0
-IsReady old new = MatchOption old.start (new ≡ old) (λ start. IsReadyFrom start old new)
+IsReady old new = MatchOption old.start (new ≡ old)
+    (λ start. (made : Fresh) × IsMade start old.max_sites made × (new ≡ record old { start = None; fresh = Some made }))
 
--- none is made, for this, though all entries of the begin were taken
+-- none is made, for this
 abbrev pub IsUnready : Renewing → Refusal → Type 0
-IsUnready old r = (start : Start) × (old.start ≡ Some start) × (nat_le start.seen.serial (length old.waiting) ≡ true)
-    × IsUnmade start (take start.seen.serial old.waiting) old.max_sites r
+IsUnready old r = (start : Start) × (old.start ≡ Some start) × IsUnmade start old.max_sites r
 
 -- all entries that wait are carried over, if the fresh core is there
 abbrev pub AreAllCarried : Renewing → Renewing → Type 0
@@ -247,7 +262,7 @@ IsFilledOn old status told new =
     ((status ≡ done) × (told ≡ nothing) × AreAllCarried old new)
     ⊎ ((fault : CarryFault) × HasStopped old fault new × IsToldOf new fault status told)
 
--- the fresh core is made, if it wasn't and can be, and what waits is carried over; or the core isn't made, and nothing has changed
+-- the fresh core is made, if it wasn't, and what waits is carried over; or the core isn't made, and nothing has changed
 abbrev pub IsFilled : Renewing → ℕ → Told → Renewing → Type 0
 IsFilled old status told new =
     ((ready : Renewing) × IsReady old ready × IsFilledOn ready status told new)
@@ -263,10 +278,10 @@ IsFill (Some old) status told after = (next : Renewing) × (after ≡ Some next)
 abbrev pub all_that_are_left : ℕ
 all_that_are_left = 2 ^ 64 - 1
 
--- all that is left is taken and carried over, or memory lacked to take it
+-- all that is left is taken and carried over, or none was taken
 abbrev pub IsFilledAll : State → Renewing → ℕ → Told → Renewing → Type 0
 IsFilledAll core old status told new =
-    ((status ≡ memory) × (told ≡ nothing) × (new ≡ old))
+    (IsUntaken core old status × (told ≡ nothing) × (new ≡ old))
     ⊎ ((taken : Renewing) × IsTakenFrom all_that_are_left core old taken × IsFilled taken status told new)
 
 -- nothing was handed over, for this reason

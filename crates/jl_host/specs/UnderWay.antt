@@ -1,5 +1,5 @@
 -- A renewal in steps that is under way, beside the one linker of which it was begun.
-use Rattle.std.specs.Prelude.{◌≡◌, ◌⊎◌, ◌+◌, ◌-◌, ◌<◌, ◌≤◌, ℕ, Bool, true, false, slice_get, List, [], ◌∷◌, ◌++◌, length, Some, None, is_some}
+use Rattle.std.specs.Prelude.{◌≡◌, ◌⊎◌, ◌+◌, ◌-◌, ◌≤◌, ℕ, Bool, true, false, slice_get, List, [], ◌∷◌, ◌++◌, length, Some, None}
 use Rattle.jl_types.specs.declared.event.EventOf.TheVariants as event
 use Rattle.jl_types.specs.declared.event.Reply.{Reply}
 use Rattle.jl_types.specs.declared.refusal.Refusal.{Refusal}
@@ -7,7 +7,7 @@ use Rattle.jl_types.specs.Events.Event.{Event}
 use Rattle.jl_types.specs.Values.World.{Class}
 use Rattle.jl_relink.specs.Laws.{AreAccepted, has_read_file}
 use Rattle.jl_core.specs.State.{State, events, world_of, IsAccepted}
-use Rattle.jl_core.specs.Logs.{Entry, told, are_told, shown}
+use Rattle.jl_core.specs.Logs.{Entry, are_told, shown}
 use Rattle.jl_renewal.specs.declared.released.Released.{Released}
 use Rattle.jl_renewal.specs.Numbers.{Numbers}
 use Rattle.jl_renewal.specs.Carries.{carried_event, with_made}
@@ -15,7 +15,7 @@ use Rattle.jl_renewal.specs.Moved.{flags_of, IsBeside, HaveSameLinks}
 use Rattle.jl_host.specs.Numbers.{done, memory, status_of_refusal}
 use Rattle.jl_host.specs.Numbers as host
 use Rattle.jl_host.specs.Seats.{seen_of}
-use Rattle.jl_host.specs.Renewing.{Start, Fresh, Renewing, installs_of, IsUnready}
+use Rattle.jl_host.specs.Renewing.{Start, Fresh, Renewing, AreEntries, installs_of, IsUnready}
 
 -- ---- what the linker accepts meanwhile
 
@@ -31,27 +31,26 @@ AreAmong rows more = (c : ℕ) (row : Class) → slice_get rows c ≡ Some row �
 
 -- ---- before the fresh core is made
 
--- what there was at the begin
-abbrev pub start_of : State → Released → Start
-start_of begun released = record {
+-- what there was at the begin, with its entries
+abbrev pub start_of : State → List Entry → Released → Start
+start_of begun past released = record {
   seen = record { world = world_of begun; serial = length begun.log };
+  past = past;
   sites = length (world_of begun).places;
   links = (seen_of begun).links;
   released = released;
 }
 
--- All that was taken waits. The core is what it was at the begin, and what it has accepted since.
-pub record IsGathering (begun : State) (released : Released) (core : State) (had : List (Event × Reply)) (renewing : Renewing) : Type 0 where
+-- What was had at the begin isn't carried over yet. What is left came since.
+pub record IsGathering (begun : State) (released : Released) (core : State) (had left : List (Event × Reply)) (renewing : Renewing) : Type 0 where
   pub accepted : AreAccepted begun.max_sites (events begun)
   pub limit : begun.max_sites ≤ renewing.max_sites
-  pub since : List (Event × Reply)
-  pub grown : HasAccepted begun since core
-  pub start : renewing.start ≡ Some (start_of begun released)
+  pub log : begun.log ≡ had
+  pub grown : HasAccepted begun left core
+  pub past : List Entry
+  pub entries : AreEntries begun past
+  pub start : renewing.start ≡ Some (start_of begun past released)
   pub fresh : renewing.fresh ≡ None
-  pub none : had ≡ []
-  -- the entries of the begin tell events by the classes of the begin
-  pub then_told : (n : ℕ) (entry : Entry) → n < length begun.log → slice_get renewing.waiting n ≡ Some entry
-      → is_some (told (world_of begun).classes.rows entry) ≡ true
 
 -- ---- once it is made
 
@@ -81,7 +80,7 @@ pub record HasFresh (begun : State) (released : Released) (core : State) (had le
 
 -- The renewal was begun of a core with these released, and that core is this one now. Nothing else was given to the renewal.
 pub record IsUnderWay (begun : State) (released : Released) (core : State) (renewing : Renewing) : Type 0 where
-  -- what was carried over, and what wasn't taken yet
+  -- what the fresh core has or will be made of, and what wasn't taken yet
   pub had : List (Event × Reply)
   pub later : List (Event × Reply)
   -- what waits stands between them in the core's log
@@ -90,7 +89,7 @@ pub record IsUnderWay (begun : State) (released : Released) (core : State) (rene
   pub taken : renewing.taken ≡ length had + length renewing.waiting
   -- the classes that were taken are the core's
   pub classes : AreAmong renewing.defined.classes.rows (world_of core).classes.rows
-  pub phase : IsGathering begun released core had renewing
+  pub phase : IsGathering begun released core had (shown renewing.defined.classes.rows renewing.waiting ++ later) renewing
       ⊎ HasFresh begun released core had (shown renewing.defined.classes.rows renewing.waiting ++ later) renewing
 
 -- ---- what a fill answers

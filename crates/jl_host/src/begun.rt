@@ -1,32 +1,40 @@
 //! What a renewal in steps has from its begin on.
 
-ghost use Rattle.std.specs.Prelude.{◌≡◌, ◌≤◌, take, drop, length, ◌++◌, ◌+◌, ◌-◌, nat_le, true, false, MatchOption, option_copied};
-ghost use Rattle.std.specs.Prelude.{IfOk, IfErr, OnOk, OnErr};
+ghost use Rattle.std.specs.Prelude.{◌≡◌, ◌≤◌, ◌<◌, ◌⊎◌, take, drop, length, ◌++◌, ◌+◌, ◌-◌, option_copied};
+ghost use Rattle.std.specs.Prelude.{IfOk, IfErr, IfSome, IfNone, OnOk, OnErr};
 ghost use Rattle.std.specs.Vec.{vec_len, vec_capacity};
 ghost use Rattle.jl_host.specs.Renewing as renewing;
-ghost use Rattle.jl_host.specs.Renewing.{IsTakenFrom, AreBrought, IsReady, IsUnready, IsFilled, IsFilledOn, IsFilledAll, AreAllCarried, HasStopped};
+ghost use Rattle.jl_host.specs.Renewing.{AreTaken, IsTakenFrom, IsUntaken, AreBrought, IsReady, IsUnready, IsFilled, IsFilledOn, IsFilledAll};
+ghost use Rattle.jl_host.specs.Renewing.{AreAllCarried, HasStopped};
 
 use crate::fresh::{Fresh, Start};
-use crate::told::{DONE, MEMORY, Told, tell, tell_released, unasked};
-use jl_core::{Core, Entry, share_log};
+use crate::told::{DONE, MALFORMED, MEMORY, Told, tell, tell_released, unasked};
+use jl_core::{Core, Entry, Journal, share_log};
 use jl_relink::World;
 use jl_renewal::CarryFault;
 use jl_types::Refusal;
 use std::alloc::{AllocError, Global};
 use std::marker::Model;
 use std::mem;
+use std::sync::Arc;
+
+/// What a renewal shares with its linker while it is under way, so that this one forgets no event that is still to be taken.
+#[derive(Drop)]
+pub(crate) struct Claim;
 
 /// What a renewal has from its begin on. A clause sees all but the entries that were carried over.
 pub(crate) struct Begun {
+    /// Until the fresh core is given away.
+    claim: Option<Arc<Claim>>,
     /// What there was at the begin, until the fresh core is made.
     start: Option<Start>,
     /// The fresh core, from then on.
     fresh: Option<Fresh>,
     /// How many places may be requested there.
     max_sites: u32,
-    /// How many entries were taken.
-    taken: usize,
-    /// The last of these, of which the fresh core has the first `carried`.
+    /// Up to which of the linker's events entries were taken.
+    taken: u64,
+    /// Those that were taken since the begin, of which the fresh core has the first `carried`.
     waiting: Vec<Entry>,
     carried: usize,
     /// The classes as they were when entries were taken, and nothing else.
@@ -39,6 +47,7 @@ pub(crate) struct Begun {
 impl Drop for Begun {
     fn drop(self) {
         let Begun {
+            claim: _claim,
             start: _start,
             fresh: _fresh,
             max_sites: _max_sites,
@@ -75,16 +84,23 @@ impl Model for Begun {
 
 impl Begun {
     /// A renewal that begins, where so many places may be requested in the fresh core. Want of memory is an error.
-    pub(crate) fn new(alloc: Global, start: Start, max_sites: u32) -> Result<Begun, AllocError>
+    pub(crate) fn new(
+        alloc: Global,
+        claim: Arc<Claim>,
+        start: Start,
+        max_sites: u32,
+    ) -> Result<Begun, AllocError>
         requires { 1 ≤ max_sites }
         ensures { IfOk result (λ begun. begun ≡ renewing.begun_from start max_sites) }
     {
         let defined = World::new(alloc)?;
+        let taken = start.serial();
         Ok(Begun {
+            claim: Some(claim),
             start: Some(start),
             fresh: None,
             max_sites,
-            taken: 0,
+            taken,
             waiting: Vec::new(alloc),
             carried: 0,
             defined,
@@ -92,30 +108,52 @@ impl Begun {
         })
     }
 
-    /// How many entries were taken.
-    pub(crate) fn taken(&self) -> usize
+    /// Up to which of the linker's events entries were taken.
+    pub(crate) fn taken(&self) -> u64
         ensures { result ≡ self.now.taken }
     {
         self.taken
     }
 
-    /// Takes the next entries of the core's log, at most so many, with its classes.
+    /// Takes the next entries of the core's log, at most so many, with its classes. Else nothing was taken, and the status tells why: memory
+    /// lacks, or the core shows to be another one than that of the begin.
+    pub(crate) fn take(&mut self, alloc: Global, core: &Core, most: usize) -> Result<(), u32>
+        ensures taken { OnOk result (IsTakenFrom most core.now self.old self.new) }
+        ensures untaken { IfErr result (IsUntaken core.now self.old) }
+        ensures unchanged { OnErr result (self.new ≡ self.old) }
+    {
+        let Some(later) = later_entries(core.log(), self.taken) else {
+            return Err(MALFORMED);
+        };
+        match self.take_these(alloc, core, portion(later, most)) {
+            Ok(()) => Ok(()),
+            Err(_) => Err(MEMORY),
+        }
+    }
+
+    /// Takes these entries of the core's log, with its classes.
     ///
     /// # Errors
     ///
     /// Want of memory. Nothing was taken then.
-    pub(crate) fn take(&mut self, alloc: Global, core: &Core, most: usize) -> Result<(), AllocError>
-        ensures taken { OnOk result (IsTakenFrom most core.now self.old self.new) }
+    fn take_these(
+        &mut self,
+        alloc: Global,
+        core: &Core,
+        entries: &[Entry],
+    ) -> Result<(), AllocError>
+        ensures taken { OnOk result (AreTaken core.now entries.now self.old self.new) }
         ensures unchanged { OnErr result (self.new ≡ self.old) }
     {
-        let log = core.log();
-        let entries = portion(log, self.taken, most);
         let count = entries.len();
+        let Some(taken) = self.taken.checked_add(count as u64) else {
+            return Err(AllocError);
+        };
         let shared = share_log(alloc, entries)?;
         self.waiting.reserve(count)?;
         bring_classes(&mut self.defined, &mut self.past, alloc, core.world())?;
         push_all(&mut self.waiting, shared);
-        self.taken += count;
+        self.taken = taken;
         Ok(())
     }
 
@@ -126,7 +164,7 @@ impl Begun {
         self.past = Vec::new(alloc);
     }
 
-    /// Makes the fresh core once all entries of the begin were taken. Those that came since are carried over then.
+    /// Makes the fresh core, if it isn't there, and carries over what waits.
     pub(crate) fn fill(&mut self, alloc: Global, told: &mut Told) -> u32
         ensures { IsFilled self.old result told.new self.new }
     {
@@ -136,7 +174,7 @@ impl Begun {
         }
     }
 
-    /// Makes the fresh core, if it isn't there and all entries of the begin were taken.
+    /// Makes the fresh core, if it isn't there.
     ///
     /// # Errors
     ///
@@ -149,11 +187,7 @@ impl Begun {
         let Some(start) = &self.start else {
             return Ok(());
         };
-        let Some(past) = front(&self.waiting.as_slice()[self.carried..], start.serial()) else {
-            return Ok(());
-        };
-        let fresh = start.fresh(alloc, past, self.max_sites)?;
-        self.carried += past.len();
+        let fresh = start.fresh(alloc, self.max_sites)?;
         self.fresh = Some(fresh);
         self.start = None;
         Ok(())
@@ -190,7 +224,7 @@ impl Begun {
         )?;
         self.waiting = Vec::new(alloc);
         self.carried = 0;
-        fresh.catch_up()
+        fresh.catch_up(alloc)
     }
 
     /// The number of what is gone that the next entry names, or 0.
@@ -203,20 +237,20 @@ impl Begun {
         }
     }
 
-    /// How many entries the fresh core has.
+    /// How many of the linker's events the fresh core has.
     fn count_carried(&self) -> usize
         ensures { result ≡ self.now.taken - length self.now.waiting }
     {
-        self.taken.saturating_sub(self.waiting.len() - self.carried)
+        (self.taken as usize).saturating_sub(self.waiting.len() - self.carried)
     }
 
-    /// Takes all that is left, and fills it in.
+    /// Takes all that is left, and fills it in; or none, for the status.
     pub(crate) fn fill_all(&mut self, alloc: Global, core: &Core, told: &mut Told) -> u32
         ensures { IsFilledAll core.now self.old result told.new self.new }
     {
         match self.take(alloc, core, usize::MAX) {
             Ok(()) => self.fill(alloc, told),
-            Err(_) => unasked(MEMORY, told),
+            Err(status) => unasked(status, told),
         }
     }
 
@@ -227,31 +261,31 @@ impl Begun {
         self.fresh.as_ref()
     }
 
-    /// Gives the fresh core away, if it is there.
+    /// Gives the fresh core away, if it is there, and lets the linker forget.
     pub(crate) fn take_fresh(&mut self) -> Option<Fresh>
         ensures { result ≡ self.old.fresh }
     {
+        self.claim = None;
         self.fresh.take()
     }
 }
 
-/// Of the entries from the place on the first, at most so many.
-fn portion(entries: &[Entry], place: usize, most: usize) -> &[Entry]
-    ensures { result.now ≡ take most (drop place entries.now) }
+/// The entries from the place on, if the log reaches up to there and none of these entries is past.
+fn later_entries(log: &Journal<Entry>, place: u64) -> Option<&[Entry]>
+    ensures rest { IfSome result (λ rest. (rest.now ≡ drop place log.now) × (place ≤ length log.now)) }
+    ensures none { IfNone result ((length log.now < place) ⊎ (place + 1 < length log.now)) }
 {
-    let left = &entries[place.min(entries.len())..];
-    &left[..most.min(left.len())]
-}
-
-/// So many of the entries, if there are as many.
-fn front(entries: &[Entry], count: u64) -> Option<&[Entry]>
-    ensures { MatchOption result (nat_le count (length entries.now) ≡ false)
-        (λ past. (past.now ≡ take count entries.now) × (nat_le count (length entries.now) ≡ true)) }
-{
-    if count > entries.len() as u64 {
+    if log.len() < place {
         return None;
     }
-    Some(&entries[..count as usize])
+    log.kept_from(place)
+}
+
+/// The first entries, at most so many.
+fn portion(entries: &[Entry], most: usize) -> &[Entry]
+    ensures { result.now ≡ take most entries.now }
+{
+    &entries[..most.min(entries.len())]
 }
 
 /// The classes of the world take the place of these, unless there are no more of them. These are kept beside the earlier ones.

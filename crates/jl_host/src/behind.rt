@@ -1,6 +1,6 @@
 //! Links in shared pages, brought up to date where events have touched them.
 
-ghost use Rattle.std.specs.Prelude.{◌≡◌, ◌<◌, ◌≤◌, ◌==◌, nat_lt, ℕ, true, length, drop, replicate, slice_set, None, IfOk, OnOk, OnErr};
+ghost use Rattle.std.specs.Prelude.{◌≡◌, ◌<◌, ◌==◌, nat_lt, ℕ, true, length, replicate, slice_set, None, IfOk, OnOk, OnErr};
 ghost use Rattle.std.specs.List.{list_any};
 ghost use Rattle.jl_types.specs.Events.History.{installed};
 ghost use Rattle.jl_core.specs.State.{events};
@@ -101,10 +101,10 @@ fn write_sites(links: &mut Arc<Links>, core: &Core, sites: &[SiteNo]) -> Result<
 /// # Errors
 ///
 /// Want of memory. What was right is right.
-fn write_rows(
+fn write_rows<T: Drop>(
     links: &mut Arc<Links>,
     core: &Core,
-    rows: &[(SiteNo, KeptLink)],
+    rows: &[(SiteNo, T)],
 ) -> Result<(), AllocError>
     requires { length links.old.value ≡ room_for core.now.max_sites }
     ensures all { length links.new.value ≡ room_for core.now.max_sites }
@@ -153,16 +153,29 @@ fn write_entries(links: &mut Arc<Links>, core: &Core, entries: &[Entry]) -> Resu
     Ok(())
 }
 
-/// Brings the links up to date, which were so up to the `reached`-th event, and tells how many events there are.
+/// All links as they are now, in pages of their own. No page is made where no site has a link. Want of memory is an error.
+fn all_links(alloc: Global, core: &Core) -> Result<Arc<Links>, AllocError>
+    ensures all { IfOk result (λ links. length links.value ≡ room_for core.now.max_sites) }
+    ensures now { IfOk result (λ links. (s : ℕ) → s < room_for core.now.max_sites → IsNow core.now links.value s) }
+{
+    let rows = core.list_links(alloc)?;
+    let mut links = no_links(alloc, core.max_sites())?;
+    write_rows(&mut links, core, rows.as_slice())?;
+    Ok(links)
+}
+
+/// Brings the links up to date, which were so up to the `reached`-th event, and tells how many events there are. Where some of the later
+/// entries are past, all links are written anew.
 ///
 /// # Errors
 ///
 /// Want of memory. The links are behind the core as before.
 pub(crate) fn catch_up(
     links: &mut Arc<Links>,
+    alloc: Global,
     core: &Core,
-    reached: usize,
-) -> Result<usize, AllocError>
+    reached: u64,
+) -> Result<u64, AllocError>
     requires { IsBehind links.old.value reached core.now }
     ensures still { IsBehind links.new.value reached core.now }
     ensures done { IfOk result (λ n. n ≡ length core.now.log) }
@@ -170,14 +183,10 @@ pub(crate) fn catch_up(
 {
     let log = core.log();
     let count = log.len();
-    write_entries(links, core, entries_from(log, reached))?;
+    let Some(entries) = log.kept_from(reached) else {
+        *links = all_links(alloc, core)?;
+        return Ok(count);
+    };
+    write_entries(links, core, entries)?;
     Ok(count)
-}
-
-/// The entries from the place on.
-fn entries_from(log: &[Entry], place: usize) -> &[Entry]
-    requires { place ≤ length log.now }
-    ensures { result.now ≡ drop place log.now }
-{
-    &log[place..]
 }

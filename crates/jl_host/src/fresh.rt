@@ -12,7 +12,7 @@ ghost use Rattle.jl_host.specs.Renewing.{IsMade, IsUnmade, IsLinked, AreUnlinked
 use crate::behind::{Links, catch_up, no_links};
 use crate::opened::Opened;
 use jl_cache::KeptLink;
-use jl_core::{Accepted, Core, Entry};
+use jl_core::{Accepted, Core, Entry, Journal};
 use jl_names::Seq;
 use jl_relink::{Snapshot, World};
 use jl_renewal::{CarryFault, Released, Renumbering, carry, fresh_links, install_all, try_refill};
@@ -21,10 +21,11 @@ use std::alloc::{AllocError, Global};
 use std::marker::Model;
 use std::sync::Arc;
 
-/// What there was at the begin of a renewal: what there was to link, which links were installed, and what its host had released. A clause
-/// sees these.
+/// What there was at the begin of a renewal: what there was to link, the log of the events, which links were installed, and what its host
+/// had released. A clause sees these.
 pub(crate) struct Start {
     seen: Snapshot,
+    past: Journal<Entry>,
     sites: u32,
     links: Arc<Links>,
     released: Released,
@@ -35,6 +36,7 @@ impl Drop for Start {
     fn drop(self) {
         let Start {
             seen: _seen,
+            past: _past,
             sites: _sites,
             links: _links,
             released: _released,
@@ -51,16 +53,23 @@ impl Model for Start {
 
     ghost coded = { Prim.hlevel (codes, target_code) };
 
-    ghost view = { λ s. record { seen = s.seen; sites = s.sites; links = s.links.value; released = s.released } };
+    ghost view = { λ s. record { seen = s.seen; past = s.past; sites = s.sites; links = s.links.value; released = s.released } };
 }
 
 impl Start {
-    /// What there was to link, of how many sites, the installed links, and what was released.
-    pub(crate) fn new(seen: Snapshot, sites: u32, links: Arc<Links>, released: Released) -> Start
-        ensures { result ≡ record { seen = seen; sites = sites; links = links.value; released = released } }
+    /// What there was to link, the log, of how many sites, the installed links, and what was released.
+    pub(crate) fn new(
+        seen: Snapshot,
+        past: Journal<Entry>,
+        sites: u32,
+        links: Arc<Links>,
+        released: Released,
+    ) -> Start
+        ensures { result ≡ record { seen = seen; past = past; sites = sites; links = links.value; released = released } }
     {
         Start {
             seen,
+            past,
             sites,
             links,
             released,
@@ -74,25 +83,20 @@ impl Start {
         self.seen.serial()
     }
 
-    /// A fresh core that has what stays, where these are the entries of what there was, and so many places may be requested.
+    /// A fresh core that has what stays, where so many places may be requested.
     ///
     /// # Errors
     ///
-    /// `SitesFull` where more sites stay than may be requested there; want of memory; the refusal of an event, where the entries are
-    /// others.
-    pub(crate) fn fresh(
-        &self,
-        alloc: Global,
-        past: &[Entry],
-        max_sites: u32,
-    ) -> Result<Fresh, Refusal>
+    /// `SitesFull` where more sites stay than may be requested there; want of memory; the refusal of an event, where the log is another one
+    /// than that of what there was.
+    pub(crate) fn fresh(&self, alloc: Global, max_sites: u32) -> Result<Fresh, Refusal>
         requires { 1 ≤ max_sites }
-        ensures made { IfOk result (IsMade self.now past.now max_sites) }
-        ensures refused { IfErr result (IsUnmade self.now past.now max_sites) }
+        ensures made { IfOk result (IsMade self.now max_sites) }
+        ensures refused { IfErr result (IsUnmade self.now max_sites) }
     {
         let mut core = Core::new(alloc, max_sites)?;
         let old = self.seen.world();
-        let numbers = try_refill(alloc, &mut core, old, past, &self.released, max_sites)?;
+        let numbers = try_refill(alloc, &mut core, old, &self.past, &self.released, max_sites)?;
         let linked = listed(alloc, &self.links, self.sites)?;
         let rows = fresh_links(alloc, core.world(), linked.as_slice(), &numbers)?;
         install_all(alloc, &mut core, rows.as_slice())?;
@@ -145,7 +149,7 @@ pub(crate) struct Fresh {
     numbers: Renumbering,
     /// The links but for the sites that were touched by the events from the `reached`-th on.
     links: Arc<Links>,
-    reached: usize,
+    reached: u64,
 }
 
 // Written out, since a derived drop is proved anew in each crate that lets one go.
@@ -260,11 +264,11 @@ impl Fresh {
     }
 
     /// Brings the pages of links up to date. Want of memory is the only fault.
-    pub(crate) fn catch_up(&mut self) -> Result<(), CarryFault>
+    pub(crate) fn catch_up(&mut self, alloc: Global) -> Result<(), CarryFault>
         ensures same { self.new ≡ self.old }
         ensures lacks { IfErr result (λ fault. fault ≡ Refused Memory) }
     {
-        match catch_up(&mut self.links, &self.core, self.reached) {
+        match catch_up(&mut self.links, alloc, &self.core, self.reached) {
             Ok(reached) => {
                 self.reached = reached;
                 Ok(())

@@ -32,7 +32,7 @@ ghost use Rattle.jl_host.specs.Targets.{nesting, parts_of, target_of};
 ghost use Rattle.jl_host.specs.Linkers.{Opened};
 ghost use Rattle.jl_host.specs.Views.{given, IsViewPrepare, IsInstallLinks};
 ghost use Rattle.jl_host.specs.Renewals.{Arrays, with_numbers};
-ghost use Rattle.jl_host.specs.Renewing.{Renewing, begun_in, IsTakenFrom, IsUnready, IsFilled, IsFinished};
+ghost use Rattle.jl_host.specs.Renewing.{Renewing, HasBegun, IsTakenFrom, IsUnready, IsFilled, IsFinished};
 ghost use Rattle.jl_host.specs.UnderWay.{IsUnderWay, IsFillOrUnready};
 
 /// What is shown of a link is read as that link, where it has at most eight rows and each method that it runs is among the first 2^16
@@ -76,9 +76,9 @@ pub fn awaited_classes_are_named()
 /// As many places may be requested in the fresh linker as in the old one, so a fill is never refused for want of them: what it answers is want
 /// of memory, or that the next event is one of a call site and names what was released.
 pub fn renewals_in_steps_stay_beside()
-    ensures begun { (opened : Opened) (released : Released) (max_sites : ℕ)
+    ensures begun { (opened : Opened) (released : Released) (max_sites : ℕ) (renewing : Renewing)
         → AreAccepted opened.session.core.max_sites (events opened.session.core) → opened.session.core.max_sites ≤ max_sites
-        → IsUnderWay opened.session.core released opened.session.core (begun_in opened released max_sites) }
+        → HasBegun opened released max_sites renewing → IsUnderWay opened.session.core released opened.session.core renewing }
     ensures later { (begun core after : State) (released : Released) (renewing : Renewing) (e : Event) (reply : Reply)
         → IsUnderWay begun released core renewing → IsAccepted core after e reply → has_read_file e ≡ true
         → IsUnderWay begun released after renewing }

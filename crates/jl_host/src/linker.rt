@@ -13,7 +13,7 @@ ghost use Rattle.jl_host.specs.Targets.{IsNewCallSiteOf, IsSetTargetOf};
 ghost use Rattle.jl_host.specs.Views.{IsInstallLinks};
 ghost use Rattle.jl_host.specs.Asking.{IsLookup, IsClassName, IsMethodName, IsMethodType, IsInvocations, IsNamed, IsAwaited, IsLastWork};
 ghost use Rattle.jl_host.specs.Renewals.{IsCounts, IsRenew, arrays_of, released_of};
-ghost use Rattle.jl_host.specs.Renewing.{begun_in};
+ghost use Rattle.jl_host.specs.Renewing.{IsBegunOf};
 ghost use Rattle.jl_host.specs.Linkers.{Opened as OpenedValue};
 
 use crate::arrays::{copy_sites, copy_text, sites_of, switches_of};
@@ -582,8 +582,7 @@ impl Linker {
     ) -> Result<Option<Begun>, AllocError>
         requires { 1 ≤ max_sites }
         ensures same { self.new ≡ self.old }
-        ensures begun { IfOk result (λ begun. begun
-            ≡ option_map (λ opened. begun_in opened (released_of call_sites.now switches.now) max_sites) self.old) }
+        ensures begun { IfOk result (IsBegunOf self.old (released_of call_sites.now switches.now) max_sites) }
     {
         let Some(opened) = &mut self.opened else {
             return Ok(None);

@@ -11,10 +11,10 @@ ghost use Rattle.jl_host.specs.Linkers.{last_dropped};
 ghost use Rattle.jl_host.specs.Seats.{seen_of};
 ghost use Rattle.jl_host.specs.Views.{IsGiven, present_of};
 ghost use Rattle.jl_host.specs.Renewals.{counts_of, released_of};
-ghost use Rattle.jl_host.specs.Renewing.{begun_in};
+ghost use Rattle.jl_host.specs.Renewing.{HasBegun};
 ghost use Rattle.jl_host.specs.ForProofs.Behind.{IsBehind};
 
-use crate::begun::Begun;
+use crate::begun::{Begun, Claim};
 use crate::behind::{Links, catch_up, no_links};
 use crate::fresh::Start;
 use crate::renew::{Counts, released_of};
@@ -34,15 +34,22 @@ use std::alloc::{AllocError, Global};
 use std::marker::Model;
 use std::sync::Arc;
 
+/// How many events are kept before all but the last one are forgotten.
+const KEPT_EVENTS: u64 = 1024;
+
 /// A session, the text of its last answer, the class that the refusal of the last event named, and its links in pages that seats share,
 /// which are brought up to date when a seat asks. A clause sees the session, the text and the class.
+///
+/// The session forgets its past events, whenever it has many of them and no renewal in steps is under way.
 pub(crate) struct Opened {
     session: Session,
     said: Vec<u8>,
     named: Option<Name>,
     /// The links but for the sites that were touched by the events from the `reached`-th on.
     links: Arc<Links>,
-    reached: usize,
+    reached: u64,
+    /// What the renewals in steps that are under way share, from the first one on.
+    claim: Option<Arc<Claim>>,
 }
 
 // Written out, since a derived drop is proved anew in each crate that lets one go.
@@ -54,6 +61,7 @@ impl Drop for Opened {
             named: _named,
             links: _links,
             reached: _reached,
+            claim: _claim,
         } = self;
     }
 }
@@ -94,12 +102,13 @@ impl Opened {
             named: None,
             links,
             reached: 0,
+            claim: None,
         })
     }
 
     /// One over this core, which has these links but for the sites that were touched by the events from the `reached`-th on. Takes no
     /// memory.
-    pub(crate) fn with_links(alloc: Global, core: Core, links: Arc<Links>, reached: usize) -> Opened
+    pub(crate) fn with_links(alloc: Global, core: Core, links: Arc<Links>, reached: u64) -> Opened
         requires { IsBehind links.value reached core }
         ensures { result ≡ opened_over core }
     {
@@ -109,6 +118,7 @@ impl Opened {
             named: None,
             links,
             reached,
+            claim: None,
         }
     }
 
@@ -123,13 +133,15 @@ impl Opened {
     ) -> Result<Begun, AllocError>
         requires { 1 ≤ max_sites }
         ensures same { self.new ≡ self.old }
-        ensures begun { IfOk result (λ begun. begun ≡ begun_in self.old (released_of call_sites.now switches.now) max_sites) }
+        ensures begun { IfOk result (HasBegun self.old (released_of call_sites.now switches.now) max_sites) }
     {
         let released = released_of(alloc, call_sites, switches)?;
-        let links = self.links_now()?;
+        let claim = claim_on(&mut self.claim, alloc)?;
+        let links = self.links_now(alloc)?;
         let seen = self.core().snapshot(alloc)?;
-        let start = Start::new(seen, self.counts().sites, links, released);
-        Begun::new(alloc, start, max_sites)
+        let past = self.core().log().copy(alloc)?;
+        let start = Start::new(seen, past, self.counts().sites, links, released);
+        Begun::new(alloc, claim, start, max_sites)
     }
 
     /// One over a fresh core that has what stays of this one's, where so many places may be requested, and the numbers of what stays.
@@ -200,6 +212,7 @@ impl Opened {
         let outcome = self.session.submit(alloc, event);
         let status = tell(&outcome, told);
         self.named = class_named(outcome);
+        self.forget_past(alloc);
         status
     }
 
@@ -270,6 +283,7 @@ impl Opened {
         show_present(&outcome, present);
         let status = tell(&outcome, told);
         self.named = class_named(outcome);
+        self.forget_past(alloc);
         status
     }
 
@@ -277,7 +291,7 @@ impl Opened {
     pub(crate) fn last_dropped(&self) -> &[SiteNo]
         ensures { result.now ≡ last_dropped self.now.session.core }
     {
-        match self.session.core().log().last() {
+        match self.session.core().log().kept().last() {
             Some(entry) => entry.reply().dropped.as_slice(),
             None => &[],
         }
@@ -291,6 +305,7 @@ impl Opened {
             Ok(text) => {
                 *count = text.len();
                 self.said = text;
+                self.forget_past(alloc);
                 DONE
             }
             Err(_) => MEMORY,
@@ -302,20 +317,72 @@ impl Opened {
         ensures same { self.new ≡ self.old }
         ensures seen { IfOk result (λ seen. seen ≡ seen_of self.old.session.core) }
     {
-        let links = self.links_now()?;
+        let links = self.links_now(alloc)?;
         Ok(SeatView::new(links, self.session.core().class_count()))
     }
 
     /// The links as they are now, in pages that are shared. Want of memory is an error.
-    fn links_now(&mut self) -> Result<Arc<Links>, AllocError>
+    fn links_now(&mut self, alloc: Global) -> Result<Arc<Links>, AllocError>
         ensures same { self.new ≡ self.old }
         ensures links { IfOk result (λ links. links.value ≡ (seen_of self.old.session.core).links) }
     {
-        let reached = catch_up(&mut self.links, self.session.core(), self.reached)?;
+        let reached = catch_up(&mut self.links, alloc, self.session.core(), self.reached)?;
         self.reached = reached;
         let links = Arc::try_clone(&self.links)?;
         Ok(links)
     }
+
+    /// Lets the session forget the past events, if many of them are kept and no renewal in steps is under way. Links that seats share are
+    /// brought up to date before, unless memory lacks: they are written anew then when a seat asks.
+    fn forget_past(&mut self, alloc: Global)
+        ensures { self.new ≡ self.old }
+    {
+        if !keeps_many(self.session.core()) || !is_unclaimed(&mut self.claim) {
+            return;
+        }
+        if self.reached > 0 {
+            self.bring_links(alloc);
+        }
+        self.session.forget();
+    }
+
+    /// Brings the links up to date, unless memory lacks.
+    fn bring_links(&mut self, alloc: Global)
+        ensures { self.new ≡ self.old }
+    {
+        if let Ok(reached) = catch_up(&mut self.links, alloc, self.session.core(), self.reached) {
+            self.reached = reached;
+        }
+    }
+}
+
+/// Whether so many of the last events aren't past.
+fn keeps_many(core: &Core) -> bool {
+    let log = core.log();
+    match log.len().checked_sub(KEPT_EVENTS) {
+        Some(place) => log.kept_from(place).is_some(),
+        None => false,
+    }
+}
+
+/// Whether no renewal has a share of the claim.
+fn is_unclaimed(claim: &mut Option<Arc<Claim>>) -> bool {
+    match claim {
+        Some(claim) => Arc::get_mut(claim).is_some(),
+        None => true,
+    }
+}
+
+/// A share of the claim, which is made where there is none yet. Want of memory is an error.
+fn claim_on(claim: &mut Option<Arc<Claim>>, alloc: Global) -> Result<Arc<Claim>, AllocError> {
+    if let Some(claim) = claim {
+        let share = Arc::try_clone(claim)?;
+        return Ok(share);
+    }
+    let own = Arc::new(alloc, Claim)?;
+    let share = Arc::try_clone(&own)?;
+    *claim = Some(own);
+    Ok(share)
 }
 
 /// Shows the present link of a site whose link is stale.

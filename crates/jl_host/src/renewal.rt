@@ -55,8 +55,9 @@ impl Renewal {
     }
 
     /// Begins a renewal of the linker as it is now, of which the call sites and switch points that are released go unless they are still
-    /// needed; so many places may be requested in the fresh linker, 1 to 1,048,576. What there is is shared and not copied. The status
-    /// tells whether the linker isn't open, the renewal has begun already, no such number may be, or memory lacks.
+    /// needed; so many places may be requested in the fresh linker, 1 to 1,048,576. What there is is shared and not copied. The linker
+    /// forgets no event until the renewal has ended. The status tells whether the linker isn't open, the renewal has begun already, no such
+    /// number may be, or memory lacks.
     pub fn begin(
         &mut self,
         alloc: Global,
@@ -86,9 +87,10 @@ impl Renewal {
         }
     }
 
-    /// Takes the next of the events that the linker has accepted, at most so many, and tells how many are left: first those that it had at
-    /// the begin, and then those since. None is copied. The status tells whether the renewal hasn't begun, the linker isn't open, or memory
-    /// lacks; nothing was taken then.
+    /// Takes the next of the events that the linker has accepted since the begin, at most so many, and tells how many are left. None is
+    /// copied. The status tells whether the renewal hasn't begun, the linker isn't open, or memory lacks, and is malformed where the linker
+    /// shows to be another one than that of the begin: it has accepted fewer events than were taken, or has forgotten the next of them.
+    /// Nothing was taken then.
     pub fn take(&mut self, alloc: Global, from: &mut Linker, most: usize, left: &mut usize) -> u32
         ensures { IsTake most self.old from.old left.old result left.new self.new from.new }
     {
@@ -103,17 +105,17 @@ impl Renewal {
                 *left = count_left(opened.core(), begun.taken());
                 DONE
             }
-            Err(_) => {
+            Err(status) => {
                 *left = count_left(opened.core(), begun.taken());
-                MEMORY
+                status
             }
         }
     }
 
-    /// Once all events were taken that the linker had at the begin, makes the fresh linker of what there was then, its links with it;
-    /// from then on carries those over that were taken since, under their new numbers. The linker may be asked anything meanwhile. The
-    /// status tells whether the renewal hasn't begun, more sites stay or are requested than may be, an event names what was released, or
-    /// memory lacks; what was carried over stays so.
+    /// Makes the fresh linker of what there was at the begin, its links with it, if that isn't made yet, and carries the events over that
+    /// were taken since, under their new numbers. The linker may be asked anything meanwhile. The status tells whether the renewal hasn't
+    /// begun, more sites stay or are requested than may be, an event names what was released, or memory lacks; what was carried over stays
+    /// so.
     pub fn fill(&mut self, alloc: Global, told: &mut Told) -> u32
         ensures { IsFill self.old result told.new self.new }
     {
@@ -126,8 +128,8 @@ impl Renewal {
 
     /// Takes what is left, carries it over, opens the linker `fresh`, which isn't open, over what was made, and writes the new numbers to
     /// the fronts of the arrays, as [`Linker::renew`] does. The renewal has ended then. The status tells whether the renewal hasn't begun,
-    /// the linker isn't open, `fresh` is open, or an array is too short, and then as [`fill`](Renewal::fill); `fresh` and the arrays are as
-    /// before then, and the renewal goes on.
+    /// the linker isn't open, `fresh` is open, or an array is too short, and then as [`take`](Renewal::take) and [`fill`](Renewal::fill);
+    /// `fresh` and the arrays are as before then, and the renewal goes on.
     pub fn finish(
         &mut self,
         alloc: Global,
@@ -185,10 +187,10 @@ impl Renewal {
 }
 
 /// How many events of the core there are after the first so many.
-fn count_left(core: &Core, taken: usize) -> usize
+fn count_left(core: &Core, taken: u64) -> usize
     ensures { result ≡ length core.now.log - taken }
 {
-    core.log().len().saturating_sub(taken)
+    core.log().len().saturating_sub(taken) as usize
 }
 
 /// Opens the linker over the fresh core, if it is there, and writes the numbers, if the arrays have a place for each. The renewal has ended

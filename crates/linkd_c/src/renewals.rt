@@ -61,7 +61,7 @@ pub unsafe extern "C" fn linkd_renewal_begin_with(
     )
 }
 
-/// Takes the next of the events that the linker has accepted, and tells how many are left.
+/// Takes the next of the events that the linker has accepted since the begin, and tells how many are left.
 #[unsafe(no_mangle)]
 pub unsafe extern "C" fn linkd_renewal_take(
     alloc: Global,
@@ -78,7 +78,7 @@ pub unsafe extern "C" fn linkd_renewal_take(
     (*(at as *mut Renewal)).take(alloc, &mut *(from as *mut Linker), most, left)
 }
 
-/// Makes the fresh linker of what was taken. Takes no lock.
+/// Makes the fresh linker of what there was at the begin, and carries over what was taken. Takes no lock.
 #[unsafe(no_mangle)]
 pub unsafe extern "C" fn linkd_renewal_fill(
     alloc: Global,

@@ -14,7 +14,11 @@ mod endings;
 #[cfg(test)]
 mod farms;
 #[cfg(test)]
+mod forgetting;
+#[cfg(test)]
 mod hosts;
+#[cfg(test)]
+mod nests;
 #[cfg(test)]
 mod refusals;
 #[cfg(test)]

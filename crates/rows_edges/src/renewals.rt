@@ -56,10 +56,8 @@ const WORLD: &[StepRow] = &[
     (LeaveRenewal, &[0]),
     (Begin(6, &[0], &[0]), &[0]),
     (Begin(6, &[0], &[0]), &[35]),
-    (TakeNext(8), &[0, 14]),
-    // Nothing is made before all are taken.
-    (Fill, &[0]),
-    (TakeNext(14), &[0, 0]),
+    // No event has come since.
+    (TakeNext(8), &[0, 0]),
     (Fill, &[0]),
     // N, below A, has an f of its own: the direct link of site 1 goes.
     (

@@ -30,6 +30,8 @@ pub enum Step {
     SetTargetOf(u32, &'static [TargetPart]),
     NewSwitch,
     Invalidate(&'static [u32]),
+    /// The same, so many times.
+    InvalidateTimes(u32, &'static [u32]),
     Bind(u32, u32),
     Retire(u32),
     Install(&'static [u32]),
@@ -413,6 +415,18 @@ fn step_numbers(alloc: Global, linker: &mut Linker, renewal: &mut Renewal, step:
     }
 }
 
+/// How many of so many invalidations of these switch points are done.
+fn invalidated(alloc: Global, linker: &mut Linker, times: u32, switches: &[u32]) -> u32 {
+    let mut told = untold();
+    let mut done: u32 = 0;
+    for _ in 0..times {
+        if linker.invalidate(alloc, switches, &mut told) == 0 {
+            done = done.saturating_add(1);
+        }
+    }
+    done
+}
+
 /// What an event comes to.
 fn event_numbers(alloc: Global, linker: &mut Linker, step: &Step) -> Numbers {
     let mut told = untold();
@@ -590,6 +604,9 @@ pub fn answer(
         }
         Step::Says(line, text) => said_numbers(alloc, linker, line, text),
         Step::Counts => count_numbers(linker),
+        Step::InvalidateTimes(times, switches) => {
+            numbers(&[invalidated(alloc, linker, *times, switches)])
+        }
         Step::Renew(max_sites, gone, room) => {
             renewal_numbers(alloc, linker, *max_sites, gone, *room)
         }

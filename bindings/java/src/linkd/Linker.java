@@ -369,10 +369,10 @@ public final class Linker implements AutoCloseable {
     }
 
     /**
-     * A fresh linker that has what stays of this one, which is left as it is, with the ids there: what a linker has of events only grows, so
-     * a program that runs for long goes over to a fresh one from time to time. What stays are the loaders that aren't retired, their classes
-     * and the sites in these, and call sites and switch points as {@link Released} says; a site that stays has its link. Each thread makes
-     * its seat, its memo and its view anew, of the fresh linker, and closes those that it had.
+     * A fresh linker that has what stays of this one, which is left as it is, with the ids there: of what is retired or not used any more
+     * something stays in a linker, so a program that runs for long goes over to a fresh one from time to time. What stays are the loaders
+     * that aren't retired, their classes and the sites in these, and call sites and switch points as {@link Released} says; a site that stays
+     * has its link. Each thread makes its seat, its memo and its view anew, of the fresh linker, and closes those that it had.
      *
      * @param maxSites how many sites may be requested there: 1 to 1,048,576, or else this is {@link Refusal.Plain#MALFORMED}; where more
      *     stay this is {@link Refusal.Plain#SITES_FULL}

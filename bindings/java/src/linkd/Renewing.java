@@ -64,8 +64,8 @@ public final class Renewing implements AutoCloseable {
     }
 
     /**
-     * Takes the next events that the linker has accepted: first those from before the begin, then those since. An event is shared, and not
-     * copied. Where memory lacks none was taken, and it may be tried again.
+     * Takes the next events that the linker has accepted since the begin. An event is shared, and not copied. Where memory lacks none was
+     * taken, and it may be tried again.
      *
      * @param most how many of them at most; for less than 0 this is {@link Refusal.Plain#MALFORMED}
      * @return how many are left then
@@ -82,9 +82,8 @@ public final class Renewing implements AutoCloseable {
     }
 
     /**
-     * Makes of the fresh linker what the taken events tell: nothing before all from before the begin are taken, then what there was at the
-     * begin, which takes the most time, and then each event since. It doesn't hold the linker's monitor. Where memory lacks it may be tried
-     * again.
+     * Makes the fresh linker: at first of what there was at the begin, which takes the most time, and then of each event that was taken. It
+     * doesn't hold the linker's monitor. Where memory lacks it may be tried again.
      *
      * <p>Refused with {@link Refusal.Plain#SITES_FULL}, where more sites stay than may be requested there, or are requested later, and with
      * {@link Refusal.NamesReleased}. After either it can only be closed.

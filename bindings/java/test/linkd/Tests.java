@@ -306,7 +306,7 @@ final class Tests {
             ClassId d;
             CallSiteId guarded;
             try (Renewing renewing = linker.beginRenewal(50, new Released(List.of(plain), List.of()))) {
-                same(10L, renewing.take(2));
+                same(0L, renewing.take(2));
                 renewing.fill();
                 d = linker.define(withF("D", "A"));
                 same(0L, renewing.take(Long.MAX_VALUE));

@@ -5,7 +5,7 @@ use Rattle.jl_host.proofs.BehindLaws.{one_written, at_site}
 use Rattle.jl_host.proofs.behind.write_rows.Goals as goal
 
 pub loop-row-preserved : goal.loop-row-preserved
-loop-row-preserved c =
+loop-row-preserved g c =
     let new = c.in_ok-write_site.ensures in
     one_written c.args.core.now (λ s row. row.0 == s) c.args.rows.now c.loop-row.row-index c.row-item.result c.args.links.now.value c.loop-row.links.value
     c.write_site.new.links.value c.loop-row-test.true c.row-item.is c.loop-row.invariant new.all new.kept

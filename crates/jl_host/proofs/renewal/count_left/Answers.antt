@@ -7,4 +7,5 @@ pub returns : goal.returns
 returns c =
     c.saturating_sub.ensures
     ∙ ap (λ n. n - c.args.taken)
-    (same_length c.args.core.now (world_of c.args.core.now).classes.rows c.log.result.now c.log.ensures.told c.log.ensures.events)
+    (c.len.ensures
+    ∙ same_length c.args.core.now (world_of c.args.core.now).classes.rows c.log.result.now c.log.ensures.told c.log.ensures.events)

@@ -1,32 +1,29 @@
-use Rattle.std.specs.Prelude.{◌++◌, ◌+◌, take, drop, length}
-use Rattle.std.proofs.Common.{◌∙◌, ap, subst}
-use Rattle.std.proofs.lemmas.List.{drop-append-le}
-use Rattle.jl_types.specs.Values.World.{World}
+use Rattle.std.specs.Prelude.{take, drop, length}
+use Rattle.std.proofs.Common.{◌∙◌, refl, ap, subst, arith, inr}
 use Rattle.jl_core.specs.State.{world_of}
-use Rattle.jl_host.specs.Renewing.{Renewing, AreBrought}
+use Rattle.jl_host.specs.Renewing.{Renewing, AreTaken}
+use Rattle.jl_host.proofs.CaughtUp.{same_length}
+use Rattle.jl_host.proofs.RenewingLaws.{is_other}
 use Rattle.jl_host.proofs.begun.Begun.take.Goals as goal
 
-pub returns-clause-taken : goal.returns-clause-taken
-returns-clause-taken c =
-    let entries = c.log-log.result.now in
-    let new = c.bring_classes.new.defined in
-    let old = c.self.inside in
-    let portion = c.portion-entries.ensures ∙ ap (λ (r : Renewing). take c.args.most (drop r.taken entries)) c.self.view_is in
-    let added =
-    c.push_all.ensures ∙ (λ i. c.reserve.ensures.items i ++ c.in_ok-shared.ensures i) in (
+pub returns-in_default-clause-untaken : goal.returns-in_default-clause-untaken
+returns-in_default-clause-untaken c =
+    inr (
+      refl,
+      is_other c.args.core.now c.args.self.now (length c.log.result.now) c.self.inside.taken
+          (same_length c.args.core.now (world_of c.args.core.now).classes.rows c.log.result.now c.log.ensures.told c.log.ensures.events)
+          (ap (λ (r : Renewing). r.taken) c.self.view_is) c.in_default.ensures.none,
+    )
+
+pub returns-in-Ok-clause-taken : goal.returns-in-Ok-clause-taken
+returns-in-Ok-clause-taken c =
+    let entries = c.log.result.now in
+    let all = same_length c.args.core.now (world_of c.args.core.now).classes.rows entries c.log.ensures.told c.log.ensures.events in
+    let le = c.in-Some.ensures.rest.1 in
+    let same = ap (λ (r : Renewing). r.taken) c.self.view_is in (
       entries,
-      record { told = c.log-log.ensures.told; events = c.log-log.ensures.events; told_then = c.log-log.ensures.told_then },
-      record {
-        start = ap (λ (r : Renewing). r.start) c.self.view_is;
-        fresh = ap (λ (r : Renewing). r.fresh) c.self.view_is;
-        max_sites = ap (λ (r : Renewing). r.max_sites) c.self.view_is;
-        taken = λ i. (c.self.view_is i).taken + length (portion i);
-        waiting =
-            ap (drop old.carried) added
-            ∙ drop-append-le old.carried old.waiting.items c.portion-entries.result.now c.self.invariant.1
-            ∙ (λ i. (c.self.view_is i).waiting ++ portion i);
-        defined =
-            subst (λ (r : Renewing). AreBrought (world_of c.args.core.now).classes r.defined new) c.self.view_is
-            (subst (λ (w : World). AreBrought w.classes old.defined new) c.world.ensures.world c.in_ok-bring_classes.ensures.brought);
-      },
+      record { told = c.log.ensures.told; events = c.log.ensures.events; told_then = c.log.ensures.told_then },
+      subst (λ portion. AreTaken c.args.core.now portion c.args.self.now c.take_these.new.self)
+          (c.portion.ensures ∙ ap (take c.args.most) (c.in-Some.ensures.rest.0 ∙ ap (λ n. drop n entries) same)) c.in-Ok.ensures.taken,
+      omega (arith, le, all, same),
     )

@@ -11,7 +11,6 @@ use Rattle.jl_host.proofs.fresh.Start.fresh.Goals as goal
 
 pub returns-in_err-numbers-clause-refused : goal.returns-in_err-numbers-clause-refused
 returns-in_err-numbers-clause-refused c =
-    let past = c.args.past.now in
     let most = c.args.max_sites in
     let after = c.try_refill.new.fresh in
     let r = c.in_err-numbers.field-0.0 in
@@ -19,15 +18,14 @@ returns-in_err-numbers-clause-refused c =
     rw (p.1, p.2)
     (inl (
       after,
-      subst (λ (s : Start). IsPartlyFilled s.seen.world past s.released most (empty_core most) after r) c.self.view_is
-          (subst (λ (core : State). IsPartlyFilled c.self.inside.seen.world past c.self.inside.released most core after r) c.in_ok-core.ensures
-          (subst (λ (w : World). IsPartlyFilled w past c.self.inside.released most c.in_ok-core.core after r) c.world-old.ensures
+      subst (λ (s : Start). IsPartlyFilled s.seen.world s.past s.released most (empty_core most) after r) c.self.view_is
+          (subst (λ (core : State). IsPartlyFilled c.self.inside.seen.world c.self.inside.past c.self.inside.released most core after r) c.in_ok-core.ensures
+          (subst (λ (w : World). IsPartlyFilled w c.self.inside.past c.self.inside.released most c.in_ok-core.core after r) c.world-old.ensures
           c.in_err-numbers.ensures.stops)),
     ))
 
 pub returns-in_err-install_all-clause-refused : goal.returns-in_err-install_all-clause-refused
 returns-in_err-install_all-clause-refused c =
-    let past = c.args.past.now in
     let most = c.args.max_sites in
     let n = c.in_ok-numbers.numbers in
     let between = c.try_refill.new.fresh in
@@ -39,9 +37,9 @@ returns-in_err-install_all-clause-refused c =
       n,
       between,
       after,
-      (subst (λ (s : Start). IsFilledFrom s.seen.world past s.released n (empty_core most) between) c.self.view_is
-          (subst (λ (core : State). IsFilledFrom c.self.inside.seen.world past c.self.inside.released n core between) c.in_ok-core.ensures
-          (subst (λ (w : World). IsFilledFrom w past c.self.inside.released n c.in_ok-core.core between) c.world-old.ensures
+      (subst (λ (s : Start). IsFilledFrom s.seen.world s.past s.released n (empty_core most) between) c.self.view_is
+          (subst (λ (core : State). IsFilledFrom c.self.inside.seen.world c.self.inside.past c.self.inside.released n core between) c.in_ok-core.ensures
+          (subst (λ (w : World). IsFilledFrom w c.self.inside.past c.self.inside.released n c.in_ok-core.core between) c.world-old.ensures
           c.in_ok-numbers.ensures.added))),
       subst (λ (s : Start). StopsAt (fresh_rows (world_of between) n (listed s.links s.sites)) between after r) c.self.view_is
           (subst (λ rows. StopsAt rows between after r)

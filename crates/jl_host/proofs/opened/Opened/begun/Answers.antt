@@ -1,0 +1,30 @@
+use Rattle.std.specs.Prelude.{◌≡◌, length}
+use Rattle.std.proofs.Common.{◌∙◌, sym, ap, subst}
+use Rattle.std.proofs.lemmas.Result.{IfOk-weaker}
+use Rattle.jl_core.specs.State.{State, world_of}
+use Rattle.jl_host.specs.Linkers.{Opened}
+use Rattle.jl_host.specs.Seats.{seen_of}
+use Rattle.jl_host.specs.Renewals.{released_of, counts_of}
+use Rattle.jl_host.specs.Renewing.{Start, Renewing, AreEntries, HasBegun, begun_from}
+use Rattle.jl_host.proofs.opened.Opened.begun.Goals as goal
+
+pub returns-clause-begun : goal.returns-clause-begun
+returns-clause-begun c =
+    let most = c.args.max_sites in
+    let released = released_of c.args.call_sites.now c.args.switches.now in
+    let core : State = c.args.self.now.session.core in
+    let past = c.in_ok-past.past in
+    let here = ap (λ (o : Opened). o.session.core) (c.links_now.ensures.same ∙ c.self.view_is) in
+    let entries =
+    subst (λ (s : State). AreEntries s past) (c.core-2.ensures ∙ here)
+    (subst (AreEntries c.core-2.result.now) (sym c.in_ok-past.ensures)
+    (record { told = c.log.ensures.told; events = c.log.ensures.events; told_then = c.log.ensures.told_then }))
+    in
+    let seen = c.in_ok-seen.ensures.snapshot ∙ ap (λ (s : State). record { world = world_of s; serial = length s.log }) (c.core.ensures ∙ here) in
+    let sites = ap (λ counts. counts.sites) (c.counts.ensures ∙ ap (λ (s : State). counts_of (world_of s)) here) in
+    let links = c.in_ok-links.ensures.links ∙ ap (λ (o : Opened). (seen_of o.session.core).links) c.self.view_is in
+    let started : c.new-start.result ≡ record { seen = _; past = past; sites = _; links = _; released = released } =
+    c.new-start.ensures
+    ∙ (λ i. record { seen = seen i; past = past; sites = sites i; links = links i; released = c.in_ok-released.ensures i }) in
+    IfOk-weaker c.new.result (λ begun. begun ≡ begun_from c.new-start.result most) (HasBegun c.args.self.now released most)
+    (λ (begun : Renewing) is. (past, entries, is ∙ ap (λ (s : Start). begun_from s most) started)) c.new.ensures
