@@ -4,8 +4,8 @@
  *     forever [EVENTS [LINES [seat]]]     EVENTS (10000000) is how many events there are, LINES (10) how many lines are told
  *
  * With the word seat a seat is refreshed behind each event, as a host's threads do. A line has the count of the events, the megabytes that are
- * resident, and how many nanoseconds an event took since the line before. It ends with status 0 only where each call was done, and each call of
- * the site runs the method that its target names then.
+ * resident, and how many nanoseconds of a processor an event took since the line before. It ends with status 0 only where each call was done,
+ * and each call of the site runs the method that its target names then.
  */
 #include "linkd.h"
 #include <stdio.h>
@@ -43,10 +43,9 @@ static void define(linkd *at, int file) {
     must(linkd_define(at, 0, bytes, length, &told) == LINKD_DONE && told.number == (uint32_t)file, "define");
 }
 
+/* The seconds that this process has had a processor. */
 static double now(void) {
-    struct timespec time;
-    timespec_get(&time, TIME_UTC);
-    return (double)time.tv_sec + (double)time.tv_nsec / 1e9;
+    return (double)clock() / CLOCKS_PER_SEC;
 }
 
 static double resident(void) {
