@@ -263,7 +263,7 @@ impl Fresh {
         Ok(())
     }
 
-    /// Brings the pages of links up to date. Want of memory is the only fault.
+    /// Brings the pages of links up to date, and lets the core forget what is past. Want of memory is the only fault.
     pub(crate) fn catch_up(&mut self, alloc: Global) -> Result<(), CarryFault>
         ensures same { self.new ≡ self.old }
         ensures lacks { IfErr result (λ fault. fault ≡ Refused Memory) }
@@ -271,6 +271,7 @@ impl Fresh {
         match catch_up(&mut self.links, alloc, &self.core, self.reached) {
             Ok(reached) => {
                 self.reached = reached;
+                self.core.forget();
                 Ok(())
             }
             Err(_) => Err(CarryFault::Refused(Refusal::Memory)),

@@ -162,7 +162,8 @@ impl Opened {
         ensures refused { IfErr result (IsRefusedRenewal (world_of self.now.session.core) max_sites) }
     {
         let released = released_of(alloc, call_sites, switches)?;
-        let (core, numbers) = renew(alloc, self.core(), &released, max_sites)?;
+        let (mut core, numbers) = renew(alloc, self.core(), &released, max_sites)?;
+        core.forget();
         Ok((Opened::of(alloc, core, max_sites)?, numbers))
     }
 
