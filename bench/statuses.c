@@ -264,11 +264,16 @@ static void refused_steps(linkd_renewal *renewal, linkd *fresh, const linkd_rele
 static void ended_steps(linkd_renewal *renewal, linkd *fresh, const linkd_released *released, linkd_numbers *numbers) {
     linkd *other = block(linkd_size(), linkd_align());
     linkd_blank(other);
+    linkd_view *view = block(linkd_view_size(), linkd_view_align());
+    uint64_t before = 0;
+    linkd_view_blank(view);
+    MUST(linkd_view_take(view, at) == LINKD_DONE && linkd_view_serial(view, &before) == LINKD_DONE && before > 0);
+    linkd_view_leave(view);
+    free(view);
     MUST(linkd_renewal_begin(renewal, at, 3, released) == LINKD_DONE);
-    MUST(linkd_renewal_take(renewal, at, 0, &length) == LINKD_DONE && length > 0);
-    uint32_t before = (uint32_t)length;
+    MUST(linkd_renewal_take(renewal, at, 0, &length) == LINKD_DONE && length == 0);
     TELLS(set_target(2, "{\"method\":[3,3]}"), LINKD_DONE, 0, 0, 0);
-    MUST(linkd_renewal_take(renewal, at, before + 1, &length) == LINKD_DONE && length == 0);
+    MUST(linkd_renewal_take(renewal, at, 1, &length) == LINKD_DONE && length == 0);
     TELLS(linkd_renewal_fill(renewal, &told), LINKD_RELEASED, before, 0, 2);
     TELLS(linkd_renewal_finish(renewal, at, fresh, &told, numbers), LINKD_RELEASED, before, 0, 2);
     linkd_renewal_leave(renewal);
@@ -276,7 +281,7 @@ static void ended_steps(linkd_renewal *renewal, linkd *fresh, const linkd_releas
 
     MUST(linkd_open(other, 3) == LINKD_DONE);
     MUST(linkd_renewal_begin(renewal, at, 3, released) == LINKD_DONE);
-    MUST(linkd_renewal_take(renewal, other, 1, &length) == LINKD_DONE && length == 0);
+    MUST(linkd_renewal_take(renewal, other, 1, &length) == LINKD_MALFORMED && length == 0);
     TELLS(linkd_renewal_finish(renewal, other, fresh, &told, numbers), LINKD_MALFORMED, 0, 0, 0);
     MUST(linkd_counts(fresh, &(linkd_count){0}) == LINKD_CLOSED);
     linkd_renewal_leave(renewal);
@@ -285,12 +290,11 @@ static void ended_steps(linkd_renewal *renewal, linkd *fresh, const linkd_releas
     free(other);
 }
 
-/* Nothing is made before all is taken; what comes then is carried over. The install is left. */
+/* What there was at the begin is made, and nothing of that is taken; what comes then is carried over. The install is left. */
 static void begun_and_filled(linkd_renewal *renewal, const linkd_released *released) {
     MUST(linkd_renewal_begin(renewal, at, 3, released) == LINKD_DONE);
-    MUST(linkd_renewal_take(renewal, at, 1, &length) == LINKD_DONE && length > 1);
+    MUST(linkd_renewal_take(renewal, at, 1, &length) == LINKD_DONE && length == 0);
     TELLS(linkd_renewal_fill(renewal, &told), LINKD_DONE, 0, 0, 0);
-    MUST(linkd_renewal_take(renewal, at, length, &length) == LINKD_DONE && length == 0);
     TELLS(linkd_new_switch(at, &told), LINKD_DONE, 2, 0, 0);
     TELLS(linkd_renewal_fill(renewal, &told), LINKD_DONE, 0, 0, 0);
     TELLS(linkd_invalidate(at, released->call_sites + 2, 1, &told), LINKD_DONE, 0, 0, 0);
