@@ -3,7 +3,7 @@
  *
  *     forever [EVENTS [LINES [seat]]]     EVENTS (10000000) is how many events there are, LINES (10) how many lines are told
  *
- * With the word seat a seat is refreshed behind each event, as a host's threads do. A line has the count of the events, the megabytes that are
+ * With the word seat a seat is refreshed after each event, as a host's threads do. A line has the count of the events, the megabytes that are
  * resident, and how many nanoseconds of a processor an event took since the line before. It ends with status 0 only where each call was done,
  * and each call of the site runs the method that its target names then.
  */

@@ -1,6 +1,6 @@
 #!/usr/bin/env bash
-# Tells what memory a host in C holds behind new targets, invalidations and installs, and what an event takes; once without a seat, and once
-# with one that is refreshed behind each event.
+# Tells what memory a host in C holds after new targets, invalidations and installs, and what an event takes; once without a seat, and once
+# with one that is refreshed after each event.
 #
 #     bench/forever.sh [EVENTS [LINES]]
 #
