@@ -18,7 +18,7 @@
  *  - malloc, realloc and free come from one allocator.
  *
  * A linker's memory grows with the loaders, classes, delegations, sites, call sites and switch points that were ever given, and with nothing
- * else. Of its other events, as are targets, invalidations and installs, it keeps a thousand of the last ones, and forgets those before them.
+ * else. Of its other events, as are targets, invalidations and installs, it keeps some thousand of the last ones at most, and forgets the others.
  * While a renewal in steps is under way it forgets none, so the events since the begin are kept until the renewal ends or is left.
  */
 #ifndef LINKD_H
