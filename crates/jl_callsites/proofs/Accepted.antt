@@ -11,7 +11,7 @@ use Rattle.jl_types.specs.Values.Target.{Target, Method, Guard, Invoker, depth}
 use Rattle.jl_types.specs.Values.World.{World, CallSite}
 use Rattle.jl_types.specs.Linkage.Resolution.{first_of}
 use Rattle.jl_types.specs.Linkage.Targets.{parts, invokes_type, part_fault, target_fault}
-use Rattle.jl_types.specs.Events.Verdict.{is_constant, most_of_a_kind, new_call_site_fault, set_target_fault, invalidate_fault}
+use Rattle.jl_types.specs.Events.Verdict.{is_constant, new_call_site_fault, set_target_fault, invalidate_fault}
 use Rattle.jl_types.proofs.Firsts.{first_none, test_none}
 use Rattle.jl_callsites.specs.Known.{is_known}
 
@@ -33,13 +33,13 @@ points_in_target w c ty t e =
     points_in_part w c ty t (first_none (part_fault w c ty t) []
     (first_none (then_some (nat_lt 64 (depth t) || nat_lt 255 (parts t)) TooDeep) (part_fault w c ty t ∷ []) e).1).0
 
-module _ (w : World) (ty : List ℕ) (t : Target) (e : new_call_site_fault w ty t ≡ None) where
-  faults : (then_some (nat_le most_of_a_kind (length w.sites.call_sites)) Full ≡ None)
+module _ (most_call_sites : ℕ) (w : World) (ty : List ℕ) (t : Target) (e : new_call_site_fault most_call_sites w ty t ≡ None) where
+  faults : (then_some (nat_le most_call_sites (length w.sites.call_sites)) Full ≡ None)
       × (first_of (target_fault w (length w.sites.call_sites) ty t ∷ []) ≡ None)
-  faults = first_none (then_some (nat_le most_of_a_kind (length w.sites.call_sites)) Full) (target_fault w (length w.sites.call_sites) ty t ∷ []) e
+  faults = first_none (then_some (nat_le most_call_sites (length w.sites.call_sites)) Full) (target_fault w (length w.sites.call_sites) ty t ∷ []) e
 
-  pub site_room : length w.sites.call_sites < 65536
-  site_room = leb-false 65536 (length w.sites.call_sites) (test_none (nat_le most_of_a_kind (length w.sites.call_sites)) Full faults.0)
+  pub site_room : length w.sites.call_sites < most_call_sites
+  site_room = leb-false most_call_sites (length w.sites.call_sites) (test_none (nat_le most_call_sites (length w.sites.call_sites)) Full faults.0)
 
   pub site_points : is_known (length w.sites.switches) (length w.sites.call_sites) t ≡ true
   site_points = points_in_target w (length w.sites.call_sites) ty t (first_none (target_fault w (length w.sites.call_sites) ty t) [] faults.1).0

@@ -1,6 +1,6 @@
 -- Why call sites and switch points aren't made or changed, and what they are afterwards. No fault looks at requested places or
 -- at bindings, so a world of these classes and sites stands for each that has them.
-use Rattle.std.specs.Prelude.{ℕ, Bool, true, not, nat_le, List, [], ◌∷◌, ◌++◌, length, slice_get, Option}
+use Rattle.std.specs.Prelude.{ℕ, true, not, nat_le, List, [], ◌∷◌, ◌++◌, length, slice_get, Option}
 use Rattle.std.specs.Bool.{then_some}
 use Rattle.jl_types.specs.declared.ids.MethodId.{MethodId}
 use Rattle.jl_types.specs.declared.target.CallSiteKind.{CallSiteKind}
@@ -11,7 +11,7 @@ use Rattle.jl_types.specs.Values.World.{World, Classes, Sites}
 use Rattle.jl_types.specs.Values.Members.{is_static}
 use Rattle.jl_types.specs.Linkage.Resolution.{first_of}
 use Rattle.jl_types.specs.Linkage.Targets.{may_be_named, is_of_type, invokes_type}
-use Rattle.jl_types.specs.Events.Verdict.{most_of_a_kind, new_call_site_fault, retargeted, invalidated}
+use Rattle.jl_types.specs.Events.Verdict.{new_call_site_fault, retargeted, invalidated}
 use Rattle.jl_types.specs.Events.Verdict as events
 
 -- a world of these classes and sites, with no requested place and no binding
@@ -20,14 +20,16 @@ world_of cs sites = record { classes = cs; places = []; bindings = []; sites = s
 
 -- ---- faults
 
-abbrev pub new_site_fault : Classes → Sites → List ℕ → Target → Option CallSiteFault
-new_site_fault cs sites ty t = new_call_site_fault (world_of cs sites) ty t
+-- where there are at most so many call sites
+abbrev pub new_site_fault : ℕ → Classes → Sites → List ℕ → Target → Option CallSiteFault
+new_site_fault most_call_sites cs sites ty t = new_call_site_fault most_call_sites (world_of cs sites) ty t
 
 abbrev pub set_target_fault : Classes → Sites → ℕ → Target → Option CallSiteFault
 set_target_fault cs sites c t = events.set_target_fault (world_of cs sites) c (slice_get sites.call_sites c) t
 
-abbrev pub new_switch_fault : Sites → Option CallSiteFault
-new_switch_fault sites = then_some (nat_le most_of_a_kind (length sites.switches)) Full
+-- where there are at most so many switch points
+abbrev pub new_switch_fault : ℕ → Sites → Option CallSiteFault
+new_switch_fault most_switches sites = then_some (nat_le most_switches (length sites.switches)) Full
 
 abbrev pub invalidate_fault : Sites → List ℕ → Option CallSiteFault
 invalidate_fault sites points = events.invalidate_fault (world_of (record { loaders = []; rows = []; retired = [] }) sites) points

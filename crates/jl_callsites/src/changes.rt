@@ -1,6 +1,6 @@
 //! New call sites and switch points, new targets, and switch points that become invalid (java.lang.invoke).
 
-ghost use Rattle.std.specs.Prelude.{◌≡◌, ◌<◌, nat_le, true, false, None, Some, Err, length, IfOk, IfErr, OnOk, OnErr};
+ghost use Rattle.std.specs.Prelude.{◌≡◌, ◌<◌, ◌≤◌, ◌^◌, nat_le, true, false, None, Some, Err, length, IfOk, IfErr, OnOk, OnErr};
 ghost use Rattle.std.specs.List.{list_any};
 ghost use Rattle.jl_types.specs.declared.refusal.CallSiteFault.{CallSiteFault};
 ghost use Rattle.jl_types.specs.declared.refusal.OrMemory.TheVariants as or_memory;
@@ -24,7 +24,7 @@ impl Sites {
     ///
     /// # Errors
     ///
-    /// `Full` where there are 65,536 call sites; `TooDeep` of a target that is deeper than 64 or has more than 255 parts; then
+    /// `Full` where there are so many call sites already; `TooDeep` of a target that is deeper than 64 or has more than 255 parts; then
     /// the first fault of the target's parts, a guard before its parts and the first part before the fallback: `UnknownSwitch`
     /// of a guard, `UnknownMethod`, `NotStatic` and `WrongType` (WrongMethodTypeException) of a method, and `InvokerOrder` and
     /// `WrongType` of an invoker; else want of memory. Nothing has changed then.
@@ -34,17 +34,19 @@ impl Sites {
         kind: CallSiteKind,
         ty: Name,
         target: Target,
+        most_call_sites: u32,
     ) -> Result<CallSiteId, OrMemory<CallSiteFault>>
-        ensures accepted { OnOk result (faults.new_site_fault classes.now self.old ty target ≡ None) }
+        requires { most_call_sites ≤ 2 ^ 20 }
+        ensures accepted { OnOk result (faults.new_site_fault most_call_sites classes.now self.old ty target ≡ None) }
         ensures number { IfOk result (λ site. site ≡ length self.old.call_sites) }
         ensures ok { OnOk result (self.new ≡ faults.with_site self.old kind ty target) }
         ensures runs { OnOk result (RunAsBefore self.old self.new) }
         ensures fault { (f : CallSiteFault) → result ≡ Err (or_memory.Fault f)
-            → faults.new_site_fault classes.now self.old ty target ≡ Some f }
-        ensures memory { result ≡ Err or_memory.Memory → faults.new_site_fault classes.now self.old ty target ≡ None }
+            → faults.new_site_fault most_call_sites classes.now self.old ty target ≡ Some f }
+        ensures memory { result ≡ Err or_memory.Memory → faults.new_site_fault most_call_sites classes.now self.old ty target ≡ None }
         ensures err { OnErr result (self.new ≡ self.old) }
     {
-        if let Some(fault) = self.new_site_fault(classes, ty.as_slice(), &target) {
+        if let Some(fault) = self.new_site_fault(classes, ty.as_slice(), &target, most_call_sites) {
             discard_target(target);
             return Err(OrMemory::Fault(fault));
         }
@@ -82,17 +84,18 @@ impl Sites {
     ///
     /// # Errors
     ///
-    /// `Full` where there are 65,536 switch points, else want of memory. Nothing has changed then.
-    pub fn new_switch(&mut self) -> Result<SwitchId, OrMemory<CallSiteFault>>
-        ensures accepted { OnOk result (faults.new_switch_fault self.old ≡ None) }
+    /// `Full` where there are so many already, else want of memory. Nothing has changed then.
+    pub fn new_switch(&mut self, most_switches: u32) -> Result<SwitchId, OrMemory<CallSiteFault>>
+        requires { most_switches ≤ 2 ^ 20 }
+        ensures accepted { OnOk result (faults.new_switch_fault most_switches self.old ≡ None) }
         ensures number { IfOk result (λ point. point ≡ length self.old.switches) }
         ensures ok { OnOk result (self.new ≡ faults.with_switch self.old) }
         ensures runs { OnOk result (RunAsBefore self.old self.new) }
-        ensures fault { (f : CallSiteFault) → result ≡ Err (or_memory.Fault f) → faults.new_switch_fault self.old ≡ Some f }
-        ensures memory { result ≡ Err or_memory.Memory → faults.new_switch_fault self.old ≡ None }
+        ensures fault { (f : CallSiteFault) → result ≡ Err (or_memory.Fault f) → faults.new_switch_fault most_switches self.old ≡ Some f }
+        ensures memory { result ≡ Err or_memory.Memory → faults.new_switch_fault most_switches self.old ≡ None }
         ensures err { OnErr result (self.new ≡ self.old) }
     {
-        if let Some(fault) = self.new_switch_fault() {
+        if let Some(fault) = self.new_switch_fault(most_switches) {
             return Err(OrMemory::Fault(fault));
         }
         Ok(self.add_switch()?)
@@ -150,7 +153,7 @@ impl Sites {
         ty: Name,
         target: Target,
     ) -> Result<CallSiteId, AllocError>
-        requires room { length self.old.call_sites < 65536 }
+        requires room { length self.old.call_sites < 2 ^ 20 }
         requires known { is_known (length self.old.switches) (length self.old.call_sites) target ≡ true }
         ensures number { IfOk result (λ site. site ≡ length self.old.call_sites) }
         ensures ok { OnOk result (self.new ≡ faults.with_site self.old kind ty target) }
@@ -169,7 +172,7 @@ impl Sites {
     ///
     /// Want of memory. Nothing has changed then.
     pub fn add_switch(&mut self) -> Result<SwitchId, AllocError>
-        requires { length self.old.switches < 65536 }
+        requires { length self.old.switches < 2 ^ 20 }
         ensures number { IfOk result (λ point. point ≡ length self.old.switches) }
         ensures ok { OnOk result (self.new ≡ faults.with_switch self.old) }
         ensures runs { OnOk result (RunAsBefore self.old self.new) }

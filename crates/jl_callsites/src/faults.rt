@@ -13,23 +13,21 @@ use jl_class::begins_special;
 use jl_hierarchy::Classes;
 use jl_types::{CallSiteFault, CallSiteId, MethodId, Part, SwitchId, Target};
 
-/// The most call sites, and the most switch points.
-const MOST_OF_A_KIND: usize = 65_536;
-
 impl Sites {
-    /// Why a call site of this type isn't made with this target. Takes no memory.
+    /// Why a call site of this type isn't made with this target, where there may be so many call sites. Takes no memory.
     pub fn new_site_fault(
         &self,
         classes: &Classes,
         ty: &[u8],
         target: &Target,
+        most_call_sites: u32,
     ) -> Option<CallSiteFault>
-        ensures first { result ≡ faults.new_site_fault classes.now self.now ty.now target.now }
-        ensures room { result ≡ None → length self.now.call_sites < 65536 }
+        ensures first { result ≡ faults.new_site_fault most_call_sites classes.now self.now ty.now target.now }
+        ensures room { result ≡ None → length self.now.call_sites < most_call_sites }
         ensures known { result ≡ None → is_known (length self.now.switches) (length self.now.call_sites) target.now ≡ true }
     {
         let count = self.call_site_count();
-        if count >= MOST_OF_A_KIND {
+        if count >= most_call_sites as usize {
             return Some(CallSiteFault::Full);
         }
         self.target_fault(classes, CallSiteId::new(count as u32), ty, target)
@@ -55,12 +53,12 @@ impl Sites {
         self.target_fault(classes, site, row.ty().as_slice(), target)
     }
 
-    /// Why no switch point is made. Takes no memory.
-    pub fn new_switch_fault(&self) -> Option<CallSiteFault>
-        ensures first { result ≡ faults.new_switch_fault self.now }
-        ensures room { result ≡ None → length self.now.switches < 65536 }
+    /// Why no switch point is made, where there may be so many. Takes no memory.
+    pub fn new_switch_fault(&self, most_switches: u32) -> Option<CallSiteFault>
+        ensures first { result ≡ faults.new_switch_fault most_switches self.now }
+        ensures room { result ≡ None → length self.now.switches < most_switches }
     {
-        if self.switch_count() >= MOST_OF_A_KIND {
+        if self.switch_count() >= most_switches as usize {
             Some(CallSiteFault::Full)
         } else {
             None

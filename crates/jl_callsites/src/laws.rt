@@ -1,6 +1,7 @@
 //! The laws of call sites: contracts of functions that do nothing.
 
 ghost use Rattle.std.specs.Prelude.{◌≡◌, ℕ, List, length, option_and_then};
+ghost use Rattle.jl_types.specs.declared.limits.Limits.{Limits};
 ghost use Rattle.jl_types.specs.declared.event.EventOf.TheVariants as event;
 ghost use Rattle.jl_types.specs.declared.event.Made.TheVariants as made;
 ghost use Rattle.jl_types.specs.declared.target.CallSiteKind.{CallSiteKind};
@@ -17,17 +18,17 @@ ghost use Rattle.jl_callsites.specs.Laws.{ComesTo};
 /// What the events of call sites and switch points come to at a world: the changes of its classes and sites, whatever else is
 /// in it.
 pub fn events_of_call_sites()
-    ensures new_site { (max_sites : ℕ) (w : World) (kind : CallSiteKind) (ty : List ℕ) (t : Target)
-        → ComesTo max_sites w (event.NewCallSite kind ty t) (faults.new_site_fault w.classes w.sites ty t)
+    ensures new_site { (limits : Limits) (w : World) (kind : CallSiteKind) (ty : List ℕ) (t : Target)
+        → ComesTo limits w (event.NewCallSite kind ty t) (faults.new_site_fault limits.call_sites w.classes w.sites ty t)
         (made.CallSite (length w.sites.call_sites)) (faults.with_site w.sites kind ty t) }
-    ensures set_target { (max_sites : ℕ) (w : World) (c : ℕ) (t : Target)
-        → ComesTo max_sites w (event.SetTarget c t) (faults.set_target_fault w.classes w.sites c t)
+    ensures set_target { (limits : Limits) (w : World) (c : ℕ) (t : Target)
+        → ComesTo limits w (event.SetTarget c t) (faults.set_target_fault w.classes w.sites c t)
         made.Nothing (faults.with_target w.sites c t) }
-    ensures new_switch { (max_sites : ℕ) (w : World)
-        → ComesTo max_sites w event.NewSwitch (faults.new_switch_fault w.sites)
+    ensures new_switch { (limits : Limits) (w : World)
+        → ComesTo limits w event.NewSwitch (faults.new_switch_fault limits.switches w.sites)
         (made.Switch (length w.sites.switches)) (faults.with_switch w.sites) }
-    ensures invalidate { (max_sites : ℕ) (w : World) (points : List ℕ)
-        → ComesTo max_sites w (event.Invalidate points) (faults.invalidate_fault w.sites points)
+    ensures invalidate { (limits : Limits) (w : World) (points : List ℕ)
+        → ComesTo limits w (event.Invalidate points) (faults.invalidate_fault w.sites points)
         made.Nothing (faults.with_invalid w.sites points) }
 {}
 

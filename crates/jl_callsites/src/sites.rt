@@ -1,6 +1,6 @@
 //! The call sites and switch points.
 
-ghost use Rattle.std.specs.Prelude.{◌≡◌, ◌≤◌, true, length, slice_get, is_some, nat_lt};
+ghost use Rattle.std.specs.Prelude.{◌≡◌, ◌≤◌, ◌^◌, true, length, slice_get, is_some, nat_lt};
 ghost use Rattle.std.specs.Option.{option_copied};
 ghost use Rattle.jl_types.specs.Values.World.{nothing_yet};
 ghost use Rattle.jl_types.specs.Linkage.Targets as targets;
@@ -38,11 +38,11 @@ impl Model for Sites {
 
     ghost view = { λ s. record { call_sites = s.call_sites.items; switches = s.switches.items } };
 
-    ghost use Rattle.std.specs.Prelude.{◌≡◌, ◌≤◌, true, length};
+    ghost use Rattle.std.specs.Prelude.{◌≡◌, ◌≤◌, ◌^◌, true, length};
     ghost use Rattle.jl_callsites.specs.Known.{are_known};
 
     ghost invariant = { λ s. (are_known (record { call_sites = s.call_sites.items; switches = s.switches.items }) ≡ true)
-        × (length s.call_sites.items ≤ 65536) × (length s.switches.items ≤ 65536) };
+        × (length s.call_sites.items ≤ 2 ^ 20) × (length s.switches.items ≤ 2 ^ 20) };
 }
 
 impl Sites {
@@ -65,7 +65,7 @@ impl Sites {
 
     /// How many call sites there are, which are as few as there may be. Takes no memory.
     pub fn few_call_sites(&self) -> usize
-        ensures few { length self.now.call_sites ≤ 65536 }
+        ensures few { length self.now.call_sites ≤ 2 ^ 20 }
         ensures count { result ≡ length self.now.call_sites }
     {
         // Opens the invariant, which bounds the count.
@@ -82,7 +82,7 @@ impl Sites {
 
     /// How many switch points there are, which are as few as there may be. Takes no memory.
     pub fn few_switches(&self) -> usize
-        ensures few { length self.now.switches ≤ 65536 }
+        ensures few { length self.now.switches ≤ 2 ^ 20 }
         ensures count { result ≡ length self.now.switches }
     {
         // Opens the invariant, which bounds the count.

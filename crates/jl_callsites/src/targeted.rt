@@ -1,6 +1,6 @@
 //! Which call sites name methods of a loader's classes.
 
-ghost use Rattle.std.specs.Prelude.{◌≡◌, ◌<◌, IfSome};
+ghost use Rattle.std.specs.Prelude.{◌≡◌, ◌<◌, ◌^◌, IfSome};
 ghost use Rattle.jl_types.specs.Events.Retirement as retirement;
 
 use crate::sites::Sites;
@@ -22,7 +22,7 @@ impl Sites {
     /// Its place.
     fn first_targeted(&self, classes: &Classes, loader: LoaderId) -> Option<usize>
         ensures first { result ≡ retirement.targeted classes.now self.now.call_sites loader }
-        ensures few { IfSome result (λ place. place < 65536) }
+        ensures few { IfSome result (λ place. place < 2 ^ 20) }
     {
         // Shows that a place fits a call site's number.
         let _count = self.few_call_sites();

@@ -5,6 +5,8 @@ use Rattle.std.specs.List.{cons_option, list_all}
 use Rattle.std.proofs.Common.{refl, ap, sym, subst, ◌∙◌, arith}
 use Rattle.std.proofs.lemmas.List.{map-append}
 use Rattle.std.proofs.lemmas.Option.{same_Some}
+use Rattle.jl_types.specs.declared.limits.Limits.{Limits}
+use Rattle.jl_types.specs.Events.Limits.{AreAllowed, IsWithin}
 use Rattle.jl_types.specs.declared.link.Link.{Link}
 use Rattle.jl_types.specs.Events.Event.{Event}
 use Rattle.jl_types.specs.declared.event.Reply.{Reply}
@@ -93,7 +95,7 @@ behind_inside {inner} {core} {inner_ahead} {ahead} same same_ahead behind =
 pub not_behind : (core ahead : State) → IsBehind core ahead → length ahead.log ≤ length core.log → core ≡ ahead
 not_behind core ahead behind le = behind.0 ∙ ap (λ (log : List (Event × Reply)). record ahead { log = log }) (take_whole ahead.log (length core.log) le)
 
-pub none_behind : (m k : ℕ) (old ahead : World) (log entries : List Entry) → are_told old.classes.rows log ≡ true → are_told ahead.classes.rows entries ≡ true
+pub none_behind : (m k : Limits) (old ahead : World) (log entries : List Entry) → are_told old.classes.rows log ≡ true → are_told ahead.classes.rows entries ≡ true
     → IsBehind (core_of m old log) (core_of k ahead entries) → slice_get entries (length log) ≡ None → core_of m old log ≡ core_of k ahead entries
 none_behind m k old ahead log entries told_old told_ahead behind none =
     let le = no_more entries (length log) none in
@@ -102,7 +104,7 @@ none_behind m k old ahead log entries told_old told_ahead behind none =
     not_behind (core_of m old log) (core_of k ahead entries) behind (omega arith)
 
 -- the entry after those of the instance that is behind is the last one of the instance ahead, so it is there
-pub next_entry : (m k : ℕ) (old ahead : World) (log entries : List Entry) {place : ℕ} {o : Option Entry} → place ≡ length log
+pub next_entry : (m k : Limits) (old ahead : World) (log entries : List Entry) {place : ℕ} {o : Option Entry} → place ≡ length log
     → are_told old.classes.rows log ≡ true → are_told ahead.classes.rows entries ≡ true → IsBehind (core_of m old log) (core_of k ahead entries)
     → (length entries ≤ place + 1 → o ≡ slice_get entries place) → slice_get entries (length log) ≡ o
 next_entry m k old ahead log entries {place} {o} is told_old told_ahead behind there =
@@ -114,30 +116,30 @@ next_entry m k old ahead log entries {place} {o} is told_old told_ahead behind t
 -- ---- one event behind
 
 pub record HasNext (core ahead : State) (e : Event) (reply : Reply) : Type 0 where
-  pub limit : core.max_sites ≡ ahead.max_sites
+  pub limit : core.limits ≡ ahead.limits
   pub more : ahead.log ≡ core.log ++ (e, reply) ∷ []
-  pub answered : history.reply core.max_sites (events core) e ≡ Ok reply
+  pub answered : history.reply core.limits (events core) e ≡ Ok reply
 
 pub has_next : (core ahead : State) (e : Event) (reply : Reply) → IsBehind core ahead → AreAnswered ahead
     → slice_get ahead.log (length core.log) ≡ Some (e, reply) → HasNext core ahead e reply
 has_next core ahead e reply behind answered at =
     let start : core.log ≡ take (length core.log) ahead.log = ap (λ (s : State). s.log) behind.0 in
     record {
-      limit = ap (λ (s : State). s.max_sites) behind.0;
+      limit = ap (λ (s : State). s.limits) behind.0;
       more = last_is ahead.log (length core.log) (e, reply) at behind.1 ∙ ap (λ (xs : List (Event × Reply)). xs ++ (e, reply) ∷ []) (sym start);
       answered =
-          (λ i. history.reply (behind.0 i).max_sites
+          (λ i. history.reply (behind.0 i).limits
           ((ap (map (λ (p : Event × Reply). p.0)) start ∙ sym (map_take (λ (p : Event × Reply). p.0) (length core.log) ahead.log)) i) e)
           ∙ answered (length core.log) e reply at;
     }
 
-module _ (m : ℕ) (old : World) (links : List (ℕ × Link)) (log : List Entry) (k : ℕ) (ahead : World) (entries : List Entry) (entry : Entry)
+module _ (m : Limits) (old : World) (links : List (ℕ × Link)) (log : List Entry) (k : Limits) (ahead : World) (entries : List Entry) (entry : Entry)
     (exact : IsExact m old links log)
     (is_world : ahead ≡ world_of (core_of k ahead entries))
     (all_told : are_told ahead.classes.rows entries ≡ true)
     (answered : AreAnswered (core_of k ahead entries))
     (behind : IsBehind (core_of m old log) (core_of k ahead entries))
-    (at : slice_get entries (length log) ≡ Some entry) where
+    (at : slice_get entries (length log) ≡ Some entry) (allowed : AreAllowed m) where
   abbrev core : State
   core = core_of m old log
 
@@ -175,7 +177,7 @@ module _ (m : ℕ) (old : World) (links : List (ℕ × Link)) (log : List Entry)
       (ap (λ (w : World). verdict m w e) exact.world ∙ parts.0, parts.1)
 
   pub is_next : IsNext old ahead entry.event
-  is_next = record { event = e; tells = tells.0; accepted = (m, subst IsOk (sym judged.0) refl); step = moved }
+  is_next = record { event = e; tells = tells.0; accepted = record { limits = m; allowed = allowed; accepted = subst IsOk (sym judged.0) refl }; step = moved }
 
   -- ---- what it begins with to catch up
 
@@ -207,8 +209,8 @@ module _ (m : ℕ) (old : World) (links : List (ℕ × Link)) (log : List Entry)
 
   -- ---- once it has followed
 
-  pub few_so : (new : World) → new ≡ ahead → length ahead.places ≤ k → length new.places ≤ m
-  few_so new came few = subst (λ n. length new.places ≤ n) (sym next.limit) (subst (λ (v : World). length v.places ≤ k) (sym came) few)
+  pub within_so : (new : World) → new ≡ ahead → IsWithin k ahead → IsWithin m new
+  within_so new came within = subst (λ (n : Limits). IsWithin n new) (sym next.limit) (subst (IsWithin k) (sym came) within)
 
   module _ (new : World) (after : List (ℕ × Link)) (more : List Entry) (came : new ≡ ahead)
       (linked : List (ℕ × Link)) (are_links : (s : ℕ) → link_at linked s ≡ installed (events further) s)
@@ -223,14 +225,14 @@ module _ (m : ℕ) (old : World) (links : List (ℕ × Link)) (log : List Entry)
 
     pub same_core : core_of m new more ≡ further
     same_core = λ i. record {
-      max_sites = next.limit i;
+      limits = next.limit i;
       log = (shown_further old new log more e reply exact.told (came ∙ moved) is_logged ∙ sym next.more) i;
     }
 
-    then_so : AreToldThen (record { max_sites = m; log = core.log ++ (e, reply) ∷ [] }) more
+    then_so : AreToldThen (record { limits = m; log = core.log ++ (e, reply) ∷ [] }) more
     then_so =
         let tells = ap (λ (w : World). told w.classes.rows entry) (sym (is_world ∙ ap world_after events_further)) ∙ one.1 in
-        subst (AreToldThen (record { max_sites = m; log = core.log ++ (e, reply) ∷ [] })) (sym logged)
+        subst (AreToldThen (record { limits = m; log = core.log ++ (e, reply) ∷ [] })) (sym logged)
         (then_more m core.log e reply log entry (sym (length_told old.classes.rows log exact.told)) tells exact.told_then)
 
     pub exact_so : list_all has_read_file (events further) ≡ true → IsExact m new after more
@@ -240,10 +242,10 @@ module _ (m : ℕ) (old : World) (links : List (ℕ × Link)) (log : List Entry)
       told = told_further old new log more e reply exact.told (came ∙ moved) is_logged;
       answered = subst AreAnswered (sym same_core) answered;
       told_then = subst (λ (core : State). AreToldThen core more)
-          ((λ i. record { max_sites = next.limit i; log = sym next.more i }) ∙ sym same_core) then_so;
+          ((λ i. record { limits = next.limit i; log = sym next.more i }) ∙ sym same_core) then_so;
       files = ap (λ (core : State). list_all has_read_file (events core)) same_core ∙ files;
     }
 
-    -- with no more places than may be requested
-    pub kept_so : list_all has_read_file (events further) ≡ true → length ahead.places ≤ k → IsExact m new after more × (length new.places ≤ m)
-    kept_so files few = (exact_so files, few_so new came few)
+    -- with no more of any kind than there may be
+    pub kept_so : list_all has_read_file (events further) ≡ true → IsWithin k ahead → IsExact m new after more × IsWithin m new
+    kept_so files within = (exact_so files, within_so new came within)

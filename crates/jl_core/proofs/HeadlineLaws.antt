@@ -7,6 +7,7 @@ use Rattle.std.proofs.lemmas.List.{map-append, take-append-le, length-map}
 use Rattle.std.proofs.lemmas.List.Folds.{list_all-append}
 use Rattle.std.proofs.lemmas.Option.{same_Some, slice_get_within}
 use Rattle.std.proofs.Math.Seq.{take-length}
+use Rattle.jl_types.specs.declared.limits.Limits.{Limits}
 use Rattle.jl_types.specs.Events.Event.{Event}
 use Rattle.jl_types.specs.declared.event.Reply.{Reply}
 use Rattle.jl_types.specs.declared.link.Link.{Link}
@@ -39,12 +40,12 @@ links_exact core s l = (to, λ p. (links_are h s l).0 (installed_from h s l p.1)
 
 -- ---- the log
 
-module _ (m : ℕ) (log : List (Event × Reply)) (e : Event) (reply : Reply) where
+module _ (m : Limits) (log : List (Event × Reply)) (e : Event) (reply : Reply) where
   abbrev before : State
-  before = record { max_sites = m; log = log }
+  before = record { limits = m; log = log }
 
   abbrev after : State
-  after = record { max_sites = m; log = log ++ (e, reply) ∷ [] }
+  after = record { limits = m; log = log ++ (e, reply) ∷ [] }
 
   events_after : events after ≡ events before ++ e ∷ []
   events_after = map-append (λ (entry : Event × Reply). entry.0) log ((e, reply) ∷ [])
@@ -113,28 +114,28 @@ module _ (m : ℕ) (log : List (Event × Reply)) (e : Event) (reply : Reply) whe
           last (omega (arith, same, length-append entries (entry ∷ [])))
 
 applied_answered : (old : State) (e : Event) (answer : Result Reply Refusal) (new : State) → AreAnswered old → IsApplied old e answer new
-    → AreAnswered new × (new.max_sites ≡ old.max_sites)
+    → AreAnswered new × (new.limits ≡ old.limits)
 applied_answered old e (Ok reply) new h is = (
-  subst AreAnswered (sym is.logged) (answered_more old.max_sites old.log e reply h is.answered),
-  ap (λ (core : State). core.max_sites) is.logged,
+  subst AreAnswered (sym is.logged) (answered_more old.limits old.log e reply h is.answered),
+  ap (λ (core : State). core.limits) is.logged,
 )
-applied_answered old e (Err r) new h is = (subst AreAnswered (sym is.1) h, ap (λ (core : State). core.max_sites) is.1)
+applied_answered old e (Err r) new h is = (subst AreAnswered (sym is.1) h, ap (λ (core : State). core.limits) is.1)
 
-all_answered : (old : State) (es : List Event) (new : State) → AreAnswered old → AreApplied old es new → AreAnswered new × (new.max_sites ≡ old.max_sites)
-all_answered old [] new h is = (subst AreAnswered (sym is) h, ap (λ (core : State). core.max_sites) is)
+all_answered : (old : State) (es : List Event) (new : State) → AreAnswered old → AreApplied old es new → AreAnswered new × (new.limits ≡ old.limits)
+all_answered old [] new h is = (subst AreAnswered (sym is) h, ap (λ (core : State). core.limits) is)
 all_answered old (e ∷ es) new h is =
     let next = is.0 in
     let one = applied_answered old e is.1 next h is.2 in
     let rest = all_answered next es new one.0 is.3 in
     (rest.0, rest.1 ∙ one.1)
 
-pub none_answered : (m : ℕ) → AreAnswered (empty_core m)
+pub none_answered : (m : Limits) → AreAnswered (empty_core m)
 none_answered m n e reply is = absurd (nothing n (e, reply) is)
   where
     nothing : (n : ℕ) (x : Event × Reply) → slice_get [] n ≡ Some x → ⊥
     nothing n x e = cc
 
-pub log_answered : (m : ℕ) (es : List Event) (core : State) → AreApplied (empty_core m) es core → (n : ℕ) (e : Event) (reply : Reply)
+pub log_answered : (m : Limits) (es : List Event) (core : State) → AreApplied (empty_core m) es core → (n : ℕ) (e : Event) (reply : Reply)
     → slice_get core.log n ≡ Some (e, reply) → history.reply m (take n (events core)) e ≡ Ok reply
 log_answered m es core is n e reply at =
     let all = all_answered (empty_core m) es core (none_answered m) is in

@@ -95,7 +95,7 @@ module _ (old new : State) (past rows : List Class) (before after : List Entry)
       event_told e reply (event_of rows entry.event) entry.reply
       (one.1 ∙ sym one.2 ∙ at)
       in
-      let said = accepted_of (dropped (events old) e) (verdict old.max_sites (world_of old) e) reply led.answered in
+      let said = accepted_of (dropped (events old) e) (verdict old.limits (world_of old) e) reply led.answered in
       slots_are (events old) e entry.reply.dropped (touched_by entry.event entry.reply.dropped) sites (link_at links) (link_at now)
       (ap (λ (r : Reply). r.dropped) tells.1 ∙ sym said.1) is_links (λ s. is_now s ∙ ap (λ (h : List Event). installed h s) events_led)
       (λ s none. outside rows e entry.reply.dropped s entry.event tells.0 none) are

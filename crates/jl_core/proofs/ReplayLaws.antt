@@ -48,7 +48,7 @@ module _ (old ahead : World) (links : List (ℕ × Link)) (index : List (ℕ × 
     event = event.Define loader file;
     step = stepped;
     order = order;
-    accepted = accepted;
+    accepted = (accepted.limits, accepted.accepted);
     left = λ s l is. refl;
     keys_are = refl;
     defined_is = refl;
@@ -125,7 +125,7 @@ module _ (old ahead : World) (told : Accepted) (links linked : List (ℕ × Link
     event = e;
     step = further.next.step;
     order = further.order;
-    accepted = further.next.accepted;
+    accepted = (further.next.accepted.limits, further.next.accepted.accepted);
     left = left_there;
     keys_are = refl;
     defined_is = refl;

@@ -212,7 +212,7 @@ touched_left retired index near keys rising rising_near taken =
 
 -- ---- sums
 
-pub few_in_sum : (f : ℕ → ℕ) → ((s : ℕ) → f s ≤ 65536) → (xs : List ℕ) → sum_by f xs ≤ length xs * 65536
+pub few_in_sum : (f : ℕ → ℕ) → ((s : ℕ) → f s ≤ 1048576) → (xs : List ℕ) → sum_by f xs ≤ length xs * 1048576
 few_in_sum f few [] = omega arith
 few_in_sum f few (x ∷ xs) =
     let split = sum_by-cons f x xs in

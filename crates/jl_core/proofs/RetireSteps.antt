@@ -69,7 +69,7 @@ module _ (w : World) (ks : List Key) (loader : ℕ) (links : List (ℕ × Link))
       event = led.event;
       step = led.step;
       order = led.sound.order;
-      accepted = led.accepted;
+      accepted = (led.accepted.limits, led.accepted.accepted);
       left = λ s l linked.
           retires_so led.before w.classes.rows led.event s (event.Retire loader) led.tells
           ∙ (links_left led.before (event.Retire loader) links left index near dropped_then taken_then s l linked).0;
@@ -82,9 +82,9 @@ module _ (w : World) (ks : List Key) (loader : ℕ) (links : List (ℕ × Link))
     touched_are : touched_by near ks ≡ filter (λ s. not (retires_site w loader s)) (touched_by index ks)
     touched_are = touched_left (retires_site w loader) index near ks led.sound.rising rising taken_so
 
-    pub fits_left : length w.classes.rows ≤ 65536 → (work : ℕ) → work ≤ 16777216 → work + sum_by (most_asked w None) (touched_by near ks) < 2 ^ 64
+    pub fits_left : length w.classes.rows ≤ 1048576 → (work : ℕ) → work ≤ 268435456 → work + sum_by (most_asked w None) (touched_by near ks) < 2 ^ 64
     fits_left few work small =
-        let sum : sum_by (most_asked w None) (touched_by near ks) ≤ length (touched_by near ks) * 65536 =
+        let sum : sum_by (most_asked w None) (touched_by near ks) ≤ length (touched_by near ks) * 1048576 =
         few_in_sum (most_for w) (λ s. few_by w.classes few (footprint w s)) (touched_by near ks) in
         let fewer : length (touched_by near ks) ≤ length (touched_by index ks) =
         subst (λ (ts : List ℕ). length ts ≤ length (touched_by index ks)) (sym touched_are) (no_more (λ s. not (retires_site w loader s)) (touched_by index ks))

@@ -3,6 +3,7 @@ use Rattle.std.specs.Prelude.{◌≡◌, ◌&&◌, ℕ, zero, suc, nat_lt, true,
 use Rattle.std.proofs.Common.{refl, ap, sym, inl}
 use Rattle.std.proofs.lemmas.Bool.{and_right}
 use Rattle.std.proofs.lemmas.Option.{same_Some}
+use Rattle.jl_types.specs.Events.Limits.{fixed}
 use Rattle.jl_class.specs.Class.{ClassFile}
 use Rattle.jl_class.specs.Flags.{extends_object}
 use Rattle.jl_types.specs.declared.event.EventOf.TheVariants as event
@@ -24,10 +25,10 @@ use Rattle.jl_core.specs.WorkBounds.{most_of_last}
 
 -- ---- no events
 
-nothing_is_there : world_of (empty_core 9) ≡ nothing_yet
+nothing_is_there : world_of (empty_core (fixed 9)) ≡ nothing_yet
 nothing_is_there = refl
 
-nothing_is_installed : links_of (empty_core 9) ≡ []
+nothing_is_installed : links_of (empty_core (fixed 9)) ≡ []
 nothing_is_installed = refl
 
 -- ---- a loader, and then a switch point
@@ -39,12 +40,12 @@ abbrev switch_made : Reply
 switch_made = record { made = made.Switch 0; dropped = [] }
 
 abbrev first : State
-first = record { max_sites = 9; log = (event.NewLoader, loader_made) ∷ [] }
+first = record { limits = fixed 9; log = (event.NewLoader, loader_made) ∷ [] }
 
 abbrev both : State
-both = record { max_sites = 9; log = (event.NewLoader, loader_made) ∷ (event.NewSwitch, switch_made) ∷ [] }
+both = record { limits = fixed 9; log = (event.NewLoader, loader_made) ∷ (event.NewSwitch, switch_made) ∷ [] }
 
-in_order : AreApplied (empty_core 9) (event.NewLoader ∷ event.NewSwitch ∷ []) both
+in_order : AreApplied (empty_core (fixed 9)) (event.NewLoader ∷ event.NewSwitch ∷ []) both
 in_order = (
   first,
   Ok loader_made,
@@ -83,7 +84,7 @@ module _ (file : ClassFile) (reply : Reply) where
   of_class c = record { event = event.Define 0 c; reply = reply }
 
   abbrev twice : State
-  twice = record { max_sites = 9; log = (event.Define 0 file, reply) ∷ (event.Define 0 file, reply) ∷ [] }
+  twice = record { limits = fixed 9; log = (event.Define 0 file, reply) ∷ (event.Define 0 file, reply) ∷ [] }
 
   own_classes_are_told : AreToldThen twice (of_class 0 ∷ of_class 1 ∷ [])
   own_classes_are_told zero entry at =

@@ -196,7 +196,7 @@ module _ (w : World) (ks : List Key) (told : Accepted) (links : List (ℕ × Lin
     event = led.event;
     step = led.step;
     order = led.sound.order;
-    accepted = led.accepted;
+    accepted = (led.accepted.limits, led.accepted.accepted);
     left = λ s l linked. retires_so led.before w.classes.rows led.event s told led.tells ∙ no_retired led.before s told other;
     keys_are = led.keys_are;
     defined_is = sym is ∙ led.class_is ∙ defined_so led.before led.event;
@@ -227,7 +227,7 @@ module _ (w : World) (ks : List Key) (told : Accepted) (links : List (ℕ × Lin
       by_told (event.Install rows) other = refl
       by_told (event.Retire loader) other = absurd (other loader refl)
 
-  pub fits : (work : ℕ) → work ≤ 16777216 → work + length (touched_by index ks) < 2 ^ 64
+  pub fits : (work : ℕ) → work ≤ 268435456 → work + length (touched_by index ks) < 2 ^ 64
   fits work small =
       let few = few_touched led.before links index led.sound led.event in
       let same : length (touched_by index ks) ≡ length (touched_by index (keys led.before led.event)) =
@@ -235,7 +235,7 @@ module _ (w : World) (ks : List Key) (told : Accepted) (links : List (ℕ × Lin
       let places = led.few in
       omega arith
 
-  pub fits_so : (other : (loader : ℕ) → told ≡ event.Retire loader → ⊥) (defined : Option ℕ) → class_of told ≡ defined → (work : ℕ) → work ≤ 16777216
+  pub fits_so : (other : (loader : ℕ) → told ≡ event.Retire loader → ⊥) (defined : Option ℕ) → class_of told ≡ defined → (work : ℕ) → work ≤ 268435456
       → work + sum_by (most_asked w defined) (touched_by index ks) < 2 ^ 64
   fits_so other defined is work small =
       let most = most_so other defined is in

@@ -15,7 +15,7 @@ pub record Plan : Type 0 where
 -- the event e is planned for the core
 pub record IsPlanned (core : State) (e : Event) (plan : Plan) : Type 0 where
   pub accepted : IsAccepted core plan.after e plan.reply
-  pub entry : IsEntry core.max_sites (events core) (record { event = e; reply = plan.reply; slots = plan.slots })
+  pub entry : IsEntry core.limits (events core) (record { event = e; reply = plan.reply; slots = plan.slots })
 
 -- the core is as the plan left it
 abbrev pub IsAsPlanned : State → Plan → Type 0

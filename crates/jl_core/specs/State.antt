@@ -1,6 +1,7 @@
 -- A core as its callers see it: the events that it accepted, each with its reply. What there is to link and which links are
 -- installed (polymorphic inline caches: Hölzle, Chambers and Ungar 1991) is what these events come to.
 use Rattle.std.specs.Prelude.{◌≡◌, ◌⊎◌, ℕ, List, [], ◌∷◌, ◌++◌, map, take, slice_get, Some, Result, Ok, Err, IsOk}
+use Rattle.jl_types.specs.declared.limits.Limits.{Limits}
 use Rattle.jl_types.specs.declared.link.Link.{Link}
 use Rattle.jl_types.specs.Events.Event.{Event}
 use Rattle.jl_types.specs.declared.event.Made.{Made}
@@ -14,12 +15,12 @@ use Rattle.jl_types.specs.Events.History as history
 use Rattle.jl_select.specs.Constancy.{IsConstant}
 
 pub record State : Type 0 where
-  pub max_sites : ℕ  -- how many places may be requested
+  pub limits : Limits  -- how many of each kind it may give numbers to
   pub log : List (Event × Reply)  -- the accepted events, in order, each with its reply
 
 -- no event was accepted yet
-abbrev pub empty_core : ℕ → State
-empty_core max_sites = record { max_sites = max_sites; log = [] }
+abbrev pub empty_core : Limits → State
+empty_core limits = record { limits = limits; log = [] }
 
 abbrev pub events : State → List Event
 events core = map (λ entry. entry.0) core.log
@@ -35,7 +36,7 @@ links_of core = installed_links (events core)
 -- each event was answered as those before it say
 abbrev pub AreAnswered : State → Type 0
 AreAnswered core = (n : ℕ) (e : Event) (reply : Reply) → slice_get core.log n ≡ Some (e, reply)
-    → history.reply core.max_sites (take n (events core)) e ≡ Ok reply
+    → history.reply core.limits (take n (events core)) e ≡ Ok reply
 
 -- ---- one event
 
@@ -46,11 +47,11 @@ IsRefused made r = (made ≡ Err r) ⊎ ((r ≡ Memory) × IsOk made)
 -- An accepted event is answered as the events before it say, and the log has it with that reply as its last. What was resolved
 -- and selected stays so.
 pub record IsAccepted (old new : State) (e : Event) (reply : Reply) : Type 0 where
-  pub answered : history.reply old.max_sites (events old) e ≡ Ok reply
+  pub answered : history.reply old.limits (events old) e ≡ Ok reply
   pub logged : new ≡ record old { log = old.log ++ (e, reply) ∷ [] }
   pub constant : IsConstant (world_of old).classes (world_of new).classes
 
 -- What an event does, by its answer: where it is refused, the core is as before.
 abbrev pub IsApplied : State → Event → Result Reply Refusal → State → Type 0
 IsApplied old e (Ok reply) new = IsAccepted old new e reply
-IsApplied old e (Err r) new = IsRefused (verdict old.max_sites (world_of old) e) r × (new ≡ old)
+IsApplied old e (Err r) new = IsRefused (verdict old.limits (world_of old) e) r × (new ≡ old)

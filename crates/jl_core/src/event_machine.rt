@@ -19,7 +19,7 @@ pub trait EventMachine {
     /// The first refusal; want of memory where there is none. What a clause sees has not changed then.
     fn accept(&mut self, alloc: Global, event: Event) -> Result<Reply, Refusal>
         ensures accepted { IfOk result (IsAccepted (state self.old) (state self.new) event) }
-        ensures refused { IfErr result (IsRefused (verdict (state self.old).max_sites (world_of (state self.old)) event)) }
+        ensures refused { IfErr result (IsRefused (verdict (state self.old).limits (world_of (state self.old)) event)) }
         ensures unchanged { OnErr result (state self.new ≡ state self.old) };
 }
 

@@ -1,7 +1,8 @@
 //! One instance of all that a core keeps.
 
-ghost use Rattle.std.specs.Prelude.{◌≡◌, ◌≤◌, ℕ, true, length, IsOk, IfOk, OnOk};
+ghost use Rattle.std.specs.Prelude.{◌≡◌, ◌≤◌, ◌^◌, ℕ, true, length, IsOk, IfOk, OnOk};
 ghost use Rattle.std.specs.List.{list_all};
+ghost use Rattle.jl_types.specs.Events.Limits.{AreAllowed, IsWithin};
 ghost use Rattle.jl_types.specs.Events.Verdict.{verdict};
 ghost use Rattle.jl_types.specs.Events.History.{installed};
 ghost use Rattle.jl_types.specs.Events.Footprints.{bound};
@@ -20,15 +21,15 @@ use jl_deps::Index;
 use jl_events::judged;
 use jl_journal::Journal;
 use jl_relink::World;
-use jl_types::{Event, Refusal, Reply, Work};
+use jl_types::{Event, Limits, Refusal, Reply, Work};
 use std::alloc::{AllocError, Global};
 use std::marker::Model;
 use std::sync::Arc;
 
 /// The accepted events, with what they leave to link, the links that they leave installed, and the index of what those rest on. A
-/// clause sees the events with their replies, and how many sites there may be. Snapshots, and another instance, may share the world.
+/// clause sees the events with their replies, and the limits. Snapshots, and another instance, may share the world.
 pub(crate) struct Instance {
-    max_sites: u32,
+    limits: Limits,
     world: Arc<World>,
     links: Cache,
     index: Index,
@@ -39,7 +40,7 @@ pub(crate) struct Instance {
 impl Drop for Instance {
     fn drop(self) {
         let Instance {
-            max_sites: _max_sites,
+            limits: _limits,
             world: _world,
             links: _links,
             index: _index,
@@ -53,6 +54,7 @@ impl Model for Instance {
     ghost use Rattle.std.specs.List.{list_all};
     ghost use Rattle.std.specs.Coded.{codes};
     ghost use Rattle.jl_types.specs.ForProofs.TargetCode.{target_code};
+    ghost use Rattle.jl_types.specs.Events.Limits.{AreAllowed, IsWithin};
     ghost use Rattle.jl_types.specs.Events.History.{installed};
     ghost use Rattle.jl_relink.specs.Laws.{has_read_file};
     ghost use Rattle.jl_cache.specs.Links.{link_at};
@@ -64,27 +66,29 @@ impl Model for Instance {
 
     ghost coded = { Prim.hlevel (codes, target_code) };
 
-    ghost view = { λ c. record { max_sites = c.max_sites; log = shown c.world.value.classes.rows c.log } };
+    ghost view = { λ c. record { limits = c.limits; log = shown c.world.value.classes.rows c.log } };
 
     ghost invariant = { λ c.
-        (c.world.value ≡ world_of (record { max_sites = c.max_sites; log = shown c.world.value.classes.rows c.log }))
-        × ((s : ℕ) → link_at c.links s ≡ installed (events (record { max_sites = c.max_sites; log = shown c.world.value.classes.rows c.log })) s)
+        (c.world.value ≡ world_of (record { limits = c.limits; log = shown c.world.value.classes.rows c.log }))
+        × ((s : ℕ) → link_at c.links s ≡ installed (events (record { limits = c.limits; log = shown c.world.value.classes.rows c.log })) s)
         × (are_told c.world.value.classes.rows c.log ≡ true)
-        × (length c.world.value.places ≤ c.max_sites)
-        × (c.max_sites < 2 ^ 32)
-        × AreAnswered (record { max_sites = c.max_sites; log = shown c.world.value.classes.rows c.log })
+        × IsWithin c.limits c.world.value
+        × (c.limits.sites < 2 ^ 32)
+        × AreAnswered (record { limits = c.limits; log = shown c.world.value.classes.rows c.log })
         × IsIndex c.world.value (link_at c.links) c.index
-        × AreToldThen (record { max_sites = c.max_sites; log = shown c.world.value.classes.rows c.log }) c.log
-        × (list_all has_read_file (events (record { max_sites = c.max_sites; log = shown c.world.value.classes.rows c.log })) ≡ true) };
+        × AreToldThen (record { limits = c.limits; log = shown c.world.value.classes.rows c.log }) c.log
+        × (list_all has_read_file (events (record { limits = c.limits; log = shown c.world.value.classes.rows c.log })) ≡ true)
+        × AreAllowed c.limits };
 }
 
 impl Instance {
     /// One of no events. Want of memory is an error.
-    pub(crate) fn new(alloc: Global, max_sites: u32) -> Result<Self, AllocError>
-        ensures { IfOk result (λ instance. instance ≡ empty_core max_sites) }
+    pub(crate) fn new(alloc: Global, limits: Limits) -> Result<Self, AllocError>
+        requires { AreAllowed limits }
+        ensures { IfOk result (λ instance. instance ≡ empty_core limits) }
     {
         Ok(Instance {
-            max_sites,
+            limits,
             world: Arc::new(alloc, World::new(alloc)?)?,
             links: Cache::new(alloc),
             index: Index::new(alloc),
@@ -97,7 +101,7 @@ impl Instance {
         ensures { IfOk result (λ copy. copy ≡ self.now) }
     {
         Ok(Instance {
-            max_sites: self.max_sites,
+            limits: self.limits,
             world: Arc::try_clone(&self.world)?,
             links: self.links.copy()?,
             index: self.index.copy(alloc)?,
@@ -112,11 +116,11 @@ impl Instance {
     /// The first refusal.
     pub(crate) fn judged(&self, event: Event, work: &mut Work) -> Result<Event, Refusal>
         requires nothing_yet { work.old ≡ 0 }
-        ensures judged { IsJudged (verdict self.now.max_sites (world_of self.now) event) event result }
+        ensures judged { IsJudged (verdict self.now.limits (world_of self.now) event) event result }
         ensures ticks { work.new ≤ most_to_judge (world_of self.now) event }
-        ensures small { work.new ≤ 16777216 }
+        ensures small { work.new ≤ 2 ^ 28 }
     {
-        judged(&self.world, self.max_sites, event, work)
+        judged(&self.world, self.limits, event, work)
     }
 
     /// The instance after the accepted event, with its reply; and counts what that takes. Want of memory is an error; the instance is
@@ -127,14 +131,14 @@ impl Instance {
         event: Event,
         work: &mut Work,
     ) -> Result<(Instance, Reply), AllocError>
-        requires accepted { IsOk (verdict self.max_sites (world_of self) event) }
+        requires accepted { IsOk (verdict self.limits (world_of self) event) }
         requires judged { work.old ≤ most_to_judge (world_of self) event }
-        requires small { work.old ≤ 16777216 }
+        requires small { work.old ≤ 2 ^ 28 }
         ensures accepted { IfOk result (λ next. IsAccepted self next.0 event next.1) }
         ensures bounded { OnOk result (work.new ≤ bound (events self) event) }
     {
         let Instance {
-            max_sites,
+            limits,
             mut world,
             mut links,
             mut index,
@@ -148,7 +152,7 @@ impl Instance {
             &mut world, &mut links, &mut index, &mut log, alloc, event, work,
         )?;
         let next = Instance {
-            max_sites,
+            limits,
             world,
             links,
             index,
@@ -163,7 +167,7 @@ impl Instance {
         ensures { IfOk result (λ next. next ≡ ahead.now) }
     {
         let Instance {
-            max_sites,
+            limits,
             mut world,
             mut links,
             mut index,
@@ -175,7 +179,7 @@ impl Instance {
         let place = log.len();
         let Some(entry) = ahead.log.next_after(place) else {
             return Ok(Instance {
-                max_sites,
+                limits,
                 world,
                 links,
                 index,
@@ -194,7 +198,7 @@ impl Instance {
             entry,
         )?;
         Ok(Instance {
-            max_sites,
+            limits,
             world,
             links,
             index,
@@ -202,17 +206,18 @@ impl Instance {
         })
     }
 
-    /// How many places may be requested.
-    pub(crate) fn max_sites(&self) -> u32
-        ensures { result ≡ self.now.max_sites }
+    /// How many of each kind it may give numbers to.
+    pub(crate) fn limits(&self) -> Limits
+        ensures limits { result ≡ self.now.limits }
+        ensures allowed { AreAllowed self.now.limits }
     {
-        self.max_sites
+        self.limits
     }
 
     /// What there is to link.
     pub(crate) fn world(&self) -> &World
         ensures world { result.now ≡ world_of self.now }
-        ensures limit { length (world_of self.now).places ≤ self.now.max_sites }
+        ensures within { IsWithin self.now.limits (world_of self.now) }
     {
         &self.world
     }
@@ -220,7 +225,7 @@ impl Instance {
     /// What there is to link, for one more who holds it. More holders than can be counted are an error.
     pub(crate) fn shared_world(&self) -> Result<Arc<World>, AllocError>
         ensures world { IfOk result (λ world. world.value ≡ world_of self.now) }
-        ensures limit { length (world_of self.now).places ≤ self.now.max_sites }
+        ensures within { IsWithin self.now.limits (world_of self.now) }
     {
         Arc::try_clone(&self.world)
     }

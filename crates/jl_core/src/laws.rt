@@ -1,6 +1,7 @@
 //! The laws of a core: each is the contract of a function that does nothing.
 
 ghost use Rattle.std.specs.Prelude.{◌≡◌, ◌↔◌, ◌<◌, ℕ, List, Some, Ok, length, slice_get, take, Contains};
+ghost use Rattle.jl_types.specs.declared.limits.Limits.{Limits};
 ghost use Rattle.jl_types.specs.Events.Event.{Event};
 ghost use Rattle.jl_types.specs.declared.event.Reply.{Reply};
 ghost use Rattle.jl_types.specs.declared.link.Link.{Link};
@@ -18,7 +19,7 @@ pub fn links_are_exact()
         ↔ ((s < length (world_of core).places)
         × Settled (events core) s l
         × (scratch (world_of core) s ≡ Ok l)) }
-    ensures log { (max_sites : ℕ) (es : List Event) (core : State) → AreApplied (empty_core max_sites) es core
+    ensures log { (limits : Limits) (es : List Event) (core : State) → AreApplied (empty_core limits) es core
         → (n : ℕ) (e : Event) (reply : Reply) → slice_get core.log n ≡ Some (e, reply)
-        → history.reply max_sites (take n (events core)) e ≡ Ok reply }
+        → history.reply limits (take n (events core)) e ≡ Ok reply }
 {}

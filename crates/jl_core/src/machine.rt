@@ -1,11 +1,12 @@
 //! The event machine.
 
-ghost use Rattle.std.specs.Prelude.{◌≡◌, ◌≤◌, ◌⊎◌, ℕ, true, length, IsOk, IfOk, IfErr, OnOk, OnErr};
+ghost use Rattle.std.specs.Prelude.{◌≡◌, ◌≤◌, ◌^◌, ◌⊎◌, ℕ, true, length, IsOk, IfOk, IfErr, OnOk, OnErr};
 ghost use Rattle.std.specs.List.{list_all};
 ghost use Rattle.jl_types.specs.declared.event.Reply.{Reply};
 ghost use Rattle.jl_types.specs.declared.refusal.Refusal.TheVariants.{Memory};
 ghost use Rattle.jl_types.specs.Linkage.Calls as calls;
 ghost use Rattle.jl_types.specs.Events.Event.{Event};
+ghost use Rattle.jl_types.specs.Events.Limits.{fixed, AreAllowed, IsWithin};
 ghost use Rattle.jl_types.specs.Events.Verdict.{verdict};
 ghost use Rattle.jl_types.specs.Events.History.{installed};
 ghost use Rattle.jl_types.specs.Events.Footprints.{bound};
@@ -24,7 +25,7 @@ use crate::plan::Planned;
 use jl_cache::Cache;
 use jl_journal::Journal;
 use jl_relink::{Prepared, Snapshot, World, dispatch, prepare_in};
-use jl_types::{Answer, Event, Link, PrepareFault, Recv, Refusal, Reply, SiteNo, Work};
+use jl_types::{Answer, Event, Limits, Link, PrepareFault, Recv, Refusal, Reply, SiteNo, Work};
 use std::alloc::{AllocError, Global};
 use std::marker::Model;
 use std::mem;
@@ -71,24 +72,34 @@ impl Model for Core {
 }
 
 impl Core {
-    /// A core that has accepted no event: it has no classes, no requested places and no links, and so many places may be
-    /// requested. Want of memory is an error.
+    /// A core that has accepted no event, with the limits of the programs: so many places may be requested, and there may be 1,024
+    /// loaders, and 65,536 classes, call sites and switch points. Want of memory is an error.
     pub fn new(alloc: Global, max_sites: u32) -> Result<Self, AllocError>
         requires some { 1 ≤ max_sites }
-        ensures { IfOk result (λ core. core ≡ empty_core max_sites) }
+        ensures { IfOk result (λ core. core ≡ empty_core (fixed max_sites)) }
+    {
+        Core::with_limits(alloc, Limits::fixed(max_sites))
+    }
+
+    /// A core that has accepted no event, with limits of its own: it has no classes, no requested places and no links. Want of memory
+    /// is an error.
+    pub fn with_limits(alloc: Global, limits: Limits) -> Result<Self, AllocError>
+        requires { AreAllowed limits }
+        ensures { IfOk result (λ core. core ≡ empty_core limits) }
     {
         Ok(Core {
-            present: Instance::new(alloc, max_sites)?,
+            present: Instance::new(alloc, limits)?,
             next: None,
             last_work: 0,
         })
     }
 
-    /// How many places may be requested. Takes no memory.
-    pub fn max_sites(&self) -> u32
-        ensures { result ≡ self.now.max_sites }
+    /// How many of each kind it may give numbers to. Takes no memory.
+    pub fn limits(&self) -> Limits
+        ensures limits { result ≡ self.now.limits }
+        ensures allowed { AreAllowed self.now.limits }
     {
-        self.present.max_sites()
+        self.present.limits()
     }
 
     /// Applies the event. The reply tells what it gave a number to, and by rising number the sites whose links went, since they
@@ -99,7 +110,7 @@ impl Core {
     /// The first refusal; want of memory where there is none. Nothing has changed then.
     pub fn apply(&mut self, alloc: Global, event: Event) -> Result<Reply, Refusal>
         ensures accepted { IfOk result (IsAccepted self.old self.new event) }
-        ensures refused { IfErr result (IsRefused (verdict self.old.max_sites (world_of self.old) event)) }
+        ensures refused { IfErr result (IsRefused (verdict self.old.limits (world_of self.old) event)) }
         ensures unchanged { OnErr result (self.new ≡ self.old) }
     {
         let mut work = Work::new();
@@ -118,7 +129,7 @@ impl Core {
     /// The first refusal; want of memory where there is none.
     pub fn plan(&mut self, alloc: Global, event: Event) -> Result<Planned, Refusal>
         ensures planned { IfOk result (IsPlanned self.old event) }
-        ensures refused { IfErr result (IsRefused (verdict self.old.max_sites (world_of self.old) event)) }
+        ensures refused { IfErr result (IsRefused (verdict self.old.limits (world_of self.old) event)) }
         ensures unchanged { self.new ≡ self.old }
     {
         let mut work = Work::new();
@@ -139,7 +150,7 @@ impl Core {
     ) -> Result<Planned, Refusal>
         requires nothing_yet { work.old ≡ 0 }
         ensures planned { IfOk result (IsPlanned self.old event) }
-        ensures refused { IfErr result (IsRefused (verdict self.old.max_sites (world_of self.old) event)) }
+        ensures refused { IfErr result (IsRefused (verdict self.old.limits (world_of self.old) event)) }
         ensures unchanged { self.new ≡ self.old }
         ensures ticks { OnOk result (work.new ≤ bound (events self.old) event) }
         ensures refused_ticks { IfErr result (λ refusal. (refusal ≡ Memory) ⊎ (work.new ≤ bound (events self.old) event)) }
@@ -153,7 +164,7 @@ impl Core {
     /// [`plan`](Core::plan), but the event isn't judged, so that of an install no link is looked up. Want of memory is the only
     /// error.
     pub fn plan_judged(&mut self, alloc: Global, event: Event) -> Result<Planned, AllocError>
-        requires { IsOk (verdict self.old.max_sites (world_of self.old) event) }
+        requires { IsOk (verdict self.old.limits (world_of self.old) event) }
         ensures planned { IfOk result (IsPlanned self.old event) }
         ensures unchanged { self.new ≡ self.old }
     {
@@ -168,9 +179,9 @@ impl Core {
         event: Event,
         work: &mut Work,
     ) -> Result<Planned, AllocError>
-        requires accepted { IsOk (verdict self.old.max_sites (world_of self.old) event) }
+        requires accepted { IsOk (verdict self.old.limits (world_of self.old) event) }
         requires judged { work.old ≤ most_to_judge (world_of self.old) event }
-        requires small { work.old ≤ 16777216 }
+        requires small { work.old ≤ 2 ^ 28 }
         ensures planned { IfOk result (IsPlanned self.old event) }
         ensures unchanged { self.new ≡ self.old }
         ensures ticks { OnOk result (work.new ≤ bound (events self.old) event) }
@@ -187,9 +198,9 @@ impl Core {
         event: Event,
         work: &mut Work,
     ) -> Result<(Instance, Reply), AllocError>
-        requires accepted { IsOk (verdict self.old.max_sites (world_of self.old) event) }
+        requires accepted { IsOk (verdict self.old.limits (world_of self.old) event) }
         requires judged { work.old ≤ most_to_judge (world_of self.old) event }
-        requires small { work.old ≤ 16777216 }
+        requires small { work.old ≤ 2 ^ 28 }
         ensures accepted { IfOk result (λ next. IsAccepted self.old next.0 event next.1) }
         ensures unchanged { self.new ≡ self.old }
         ensures ticks { OnOk result (work.new ≤ bound (events self.old) event) }
@@ -259,10 +270,10 @@ impl Core {
         self.present.links()
     }
 
-    /// What there is to link. No more places are requested than may be. Takes no memory.
+    /// What there is to link. Of no kind there is more than the limits allow. Takes no memory.
     pub fn world(&self) -> &World
         ensures world { result.now ≡ world_of self.now }
-        ensures limit { length (world_of self.now).places ≤ self.now.max_sites }
+        ensures within { IsWithin self.now.limits (world_of self.now) }
     {
         self.present.world()
     }
@@ -316,11 +327,11 @@ impl Core {
         self.links().list(alloc)
     }
 
-    /// The world as it is, with the count of the events that were accepted. No more places are requested there than may be. It is not
+    /// The world as it is, with the count of the events that were accepted. Of no kind it has more than the limits allow. It is not
     /// copied: an event that is to change it while the snapshot holds it changes a copy. Want of memory is an error.
     pub fn snapshot(&self, _alloc: Global) -> Result<Snapshot, AllocError>
         ensures snapshot { IfOk result (λ snapshot. snapshot ≡ record { world = world_of self.now; serial = length self.now.log }) }
-        ensures limit { IfOk result (λ snapshot. length snapshot.world.places ≤ self.now.max_sites) }
+        ensures within { IfOk result (λ snapshot. IsWithin self.now.limits snapshot.world) }
     {
         Ok(Snapshot::sharing(self.present.shared_world()?, self.serial()))
     }

@@ -40,7 +40,7 @@ pub(crate) fn perform(
     requires accepted { IsAcceptable world.old.value event }
     requires sound { IsSound world.old.value links.old index.old }
     requires few { length world.old.value.places < 2 ^ 32 }
-    requires small { work.old ≤ 16777216 }
+    requires small { work.old ≤ 2 ^ 28 }
     ensures { IfOk result (IsStep world.old.value world.new.value links.old links.new index.old index.new log.old log.new event work.old work.new) }
 {
     let keys = keys_of(alloc, world, &event)?;
@@ -89,7 +89,7 @@ fn relink(
 ) -> Result<Vec<SiteNo>, AllocError>
     requires led { HasStepped world.now keys.now event.now links.old index.old }
     requires gone { AreGone world.now event.now links.old retired.now }
-    requires small { work.old ≤ 16777216 }
+    requires small { work.old ≤ 2 ^ 28 }
     ensures up_to_date { IfOk result (λ lost. AreUpToDate world.now (λ s. installs_at s event.now) (link_at links.old) (link_at links.new)
         index.new lost.items) }
     ensures ticks { OnOk result (work.new ≤ work.old + most_told world.now event.now index.old keys.now) }
@@ -141,7 +141,7 @@ fn retire_links(
 ) -> Result<Vec<SiteNo>, AllocError>
     requires led { HasStepped world.now keys.now (events.Retire loader) links.old index.old }
     requires gone { AreGone world.now (events.Retire loader) links.old retired.now }
-    requires small { work.old ≤ 16777216 }
+    requires small { work.old ≤ 2 ^ 28 }
     ensures up_to_date { IfOk result (λ lost. AreUpToDate world.now (λ s. false) (link_at links.old) (link_at links.new) index.new lost.items) }
     ensures ticks { OnOk result (work.new ≤ work.old + most_told world.now (events.Retire loader) index.old keys.now) }
 {

@@ -2,6 +2,7 @@
 use Rattle.std.specs.Prelude.{◌≡◌, ℕ, ◌&&◌, false, List, Option, Some, None, option_map, Ok, IsOk, is_some}
 use Rattle.std.specs.Option.{option_map_or}
 use Rattle.std.proofs.Common.{refl, ap, sym, ◌∙◌}
+use Rattle.jl_types.specs.declared.limits.Limits.{Limits}
 use Rattle.jl_types.specs.Events.Event.{Event}
 use Rattle.jl_types.specs.declared.link.Link.{Link}
 use Rattle.jl_types.specs.Values.World.{World}
@@ -29,10 +30,10 @@ module _ (w : World) (e : Event) (links : ℕ → Option Link) (index : List (�
       by_link None = refl
       by_link (Some l) = refl
 
-  pub others_stay : (max_sites : ℕ) → IsInOrder w → IsOk (verdict max_sites w e) → ((s : ℕ) (l : Link) → links s ≡ Some l → scratch w s ≡ Ok l)
+  pub others_stay : (limits : Limits) → IsInOrder w → IsOk (verdict limits w e) → ((s : ℕ) (l : Link) → links s ≡ Some l → scratch w s ≡ Ok l)
       → ((s : ℕ) (l : Link) → links s ≡ Some l → retires w e s ≡ false) → (s : ℕ) → has s (touched_by index (keys w e)) ≡ false
       → StaysIndexed w e links index s
-  others_stay max_sites order accepted linked left s none = by_link (links s) refl (sym (touched_of s) ∙ none)
+  others_stay limits order accepted linked left s none = by_link (links s) refl (sym (touched_of s) ∙ none)
     where
       by_link : (o : Option Link) → links s ≡ o → (is_some o && touches w e s) ≡ false → StaysIndexed w e links index s
       by_link None is h = record {
@@ -40,7 +41,7 @@ module _ (w : World) (e : Event) (links : ℕ → Option Link) (index : List (�
         rests_on = ap (option_map (λ l. footprint (step w e) s)) is ∙ sym (is_index s ∙ ap (option_map (λ l. footprint w s)) is);
       }
       by_link (Some l) is h =
-          let stays = untouched_stays max_sites w order e s l accepted (left s l is) h (linked s l is) in
+          let stays = untouched_stays limits w order e s l accepted (left s l is) h (linked s l is) in
           record {
             link = (λ i. kept false (is i) (stays.link i)) ∙ kept_link l ∙ sym is;
             rests_on =

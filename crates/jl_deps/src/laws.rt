@@ -2,6 +2,7 @@
 
 ghost use Rattle.std.specs.Prelude.{◌≡◌, ◌==◌, ◌&&◌, ℕ, List, Option, Some, Ok, IsOk, false, is_some};
 ghost use Rattle.std.specs.List.{list_any};
+ghost use Rattle.jl_types.specs.declared.limits.Limits.{Limits};
 ghost use Rattle.jl_types.specs.Events.Event.{Event};
 ghost use Rattle.jl_types.specs.declared.link.Link.{Link};
 ghost use Rattle.jl_types.specs.Values.World.{World};
@@ -23,8 +24,8 @@ pub fn only_touched_sites_change()
         → list_any (λ t. t == s) (touched_by index (keys w e)) ≡ (is_some (links s) && touches w e s) }
     ensures counted { (h : List Event) (e : Event) (index : List (ℕ × List Key)) → AreRising index
         → IsIndex (world_after h) (installed h) index → touched_by index (keys (world_after h) e) ≡ footprints.touched h e }
-    ensures others { (max_sites : ℕ) (w : World) (e : Event) (links : ℕ → Option Link) (index : List (ℕ × List Key)) → IsInOrder w
-        → IsOk (verdict max_sites w e) → AreRising index → IsIndex w links index
+    ensures others { (limits : Limits) (w : World) (e : Event) (links : ℕ → Option Link) (index : List (ℕ × List Key)) → IsInOrder w
+        → IsOk (verdict limits w e) → AreRising index → IsIndex w links index
         → ((s : ℕ) (l : Link) → links s ≡ Some l → scratch w s ≡ Ok l)
         → ((s : ℕ) (l : Link) → links s ≡ Some l → retires w e s ≡ false) → (s : ℕ)
         → list_any (λ t. t == s) (touched_by index (keys w e)) ≡ false → StaysIndexed w e links index s }

@@ -1,6 +1,7 @@
 -- The verdicts on events of call sites, switch points and bindings.
 use Rattle.std.specs.Prelude.{◌≡◌, ℕ, Bool, true, false, if◌then◌else◌, List, Option, Some, None, option_map, Result, Ok, IsOk, slice_get, length}
 use Rattle.std.proofs.Common.{refl, ap, sym, subst, ◌∙◌}
+use Rattle.jl_types.specs.declared.limits.Limits.{Limits}
 use Rattle.jl_class.specs.declared.site.Operand.{Operand}
 use Rattle.jl_class.specs.declared.site.Operand.TheVariants as operand
 use Rattle.jl_class.specs.Site.{Site}
@@ -23,14 +24,14 @@ use Rattle.jl_callsites.specs.Faults.{new_site_fault, set_target_fault}
 use Rattle.jl_callsites.proofs.Worlds.{new_site_comes_to, set_target_comes_to}
 use Rattle.jl_events.specs.Judging.{IsJudged}
 
-module _ (w : World) (kind : CallSiteKind) (ty : List ℕ) (t : Target) where
-  pub new_site_verdict : (o : Option CallSiteFault) → new_site_fault w.classes w.sites ty t ≡ o
-      → verdict 0 w (event.NewCallSite kind ty t) ≡ unless (option_map CallSite o) (made.CallSite (length w.sites.call_sites))
-  new_site_verdict o e = (new_site_comes_to 0 w kind ty t).verdict ∙ ap (λ f. unless (option_map CallSite f) (made.CallSite (length w.sites.call_sites))) e
+module _ (limits : Limits) (w : World) (kind : CallSiteKind) (ty : List ℕ) (t : Target) where
+  pub new_site_verdict : (o : Option CallSiteFault) → new_site_fault limits.call_sites w.classes w.sites ty t ≡ o
+      → verdict limits w (event.NewCallSite kind ty t) ≡ unless (option_map CallSite o) (made.CallSite (length w.sites.call_sites))
+  new_site_verdict o e = (new_site_comes_to limits w kind ty t).verdict ∙ ap (λ f. unless (option_map CallSite f) (made.CallSite (length w.sites.call_sites))) e
 
-pub set_target_verdict : (w : World) (c : ℕ) (t : Target) (o : Option CallSiteFault) → set_target_fault w.classes w.sites c t ≡ o
-    → verdict 0 w (event.SetTarget c t) ≡ unless (option_map CallSite o) made.Nothing
-set_target_verdict w c t o e = (set_target_comes_to 0 w c t).verdict ∙ ap (λ f. unless (option_map CallSite f) made.Nothing) e
+pub set_target_verdict : (limits : Limits) (w : World) (c : ℕ) (t : Target) (o : Option CallSiteFault) → set_target_fault w.classes w.sites c t ≡ o
+    → verdict limits w (event.SetTarget c t) ≡ unless (option_map CallSite o) made.Nothing
+set_target_verdict limits w c t o e = (set_target_comes_to limits w c t).verdict ∙ ap (λ f. unless (option_map CallSite f) made.Nothing) e
 
 no_number : (F : ℕ → Refusal) (o : Option ℕ) → option_map F o ≡ None → o ≡ None
 no_number F None e = refl
@@ -72,8 +73,8 @@ none_of R (Some f) e = cc
 
 -- ---- what is judged
 
-pub as_judged : (max_sites : ℕ) (w : World) (asked e : Event) (o f : Option Refusal) (m : Made) (r : Result Event Refusal) → asked ≡ e
-    → verdict max_sites w e ≡ unless f m → o ≡ f → IsJudged (unless o m) e r → IsJudged (verdict max_sites w asked) asked r
-as_judged max_sites w asked e o f m r is given same judged =
-    subst (λ (x : Event). IsJudged (verdict max_sites w x) x r) (sym is)
+pub as_judged : (limits : Limits) (w : World) (asked e : Event) (o f : Option Refusal) (m : Made) (r : Result Event Refusal) → asked ≡ e
+    → verdict limits w e ≡ unless f m → o ≡ f → IsJudged (unless o m) e r → IsJudged (verdict limits w asked) asked r
+as_judged limits w asked e o f m r is given same judged =
+    subst (λ (x : Event). IsJudged (verdict limits w x) x r) (sym is)
     (subst (λ (v : Result Made Refusal). IsJudged v e r) (sym given) (subst (λ (p : Option Refusal). IsJudged (unless p m) e r) same judged))

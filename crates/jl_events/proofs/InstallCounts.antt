@@ -26,14 +26,14 @@ no_more {A = A} p (x ∷ xs) = by_test (p x) (no_more p xs)
 pub few_of_range : (p : ℕ → Bool) (n : ℕ) → length (filter p (range_with_len 0 n)) ≤ n
 few_of_range p n = subst (λ k. length (filter p (range_with_len 0 n)) ≤ k) (length-range_with_len 0 n) (no_more p (range_with_len 0 n))
 
-pub few_by : (cs : Classes) → length cs.rows ≤ 65536 → (keys : List Key) → most_by cs keys ≤ 65536
+pub few_by : (cs : Classes) → length cs.rows ≤ 1048576 → (keys : List Key) → most_by cs keys ≤ 1048576
 few_by cs few [] = omega arith
 few_by cs few (key.Receivers c ∷ keys) =
     let le = few_of_range (λ x. is_concrete cs x && is_ancestor cs c x) (length cs.rows) in omega arith
 few_by cs few (key.Target c ∷ keys) = omega arith
 few_by cs few (key.Valid p ∷ keys) = omega arith
 
-few_of_rows : (w : World) → length w.classes.rows ≤ 65536 → (rows : List (ℕ × Link)) → most_of_rows w rows ≤ length rows * 65536
+few_of_rows : (w : World) → length w.classes.rows ≤ 1048576 → (rows : List (ℕ × Link)) → most_of_rows w rows ≤ length rows * 1048576
 few_of_rows w few [] = omega arith
 few_of_rows w few (row ∷ rows) =
     let split : most_of_rows w (row ∷ rows) ≡ most_for w row.0 + most_of_rows w rows = sum_by-cons (λ (r : ℕ × Link). most_for w r.0) row rows in
@@ -44,7 +44,7 @@ few_of_rows w few (row ∷ rows) =
 not_bad : (n : ℕ) → is_bad_size n ≡ false → n ≤ 256
 not_bad n good = grind (arith, nat_tests)
 
-pub rows_fit : (w : World) → length w.classes.rows ≤ 65536 → (rows : List (ℕ × Link)) → is_bad_size (length rows) ≡ false → most_of_rows w rows ≤ 16777216
+pub rows_fit : (w : World) → length w.classes.rows ≤ 1048576 → (rows : List (ℕ × Link)) → is_bad_size (length rows) ≡ false → most_of_rows w rows ≤ 268435456
 rows_fit w few rows good =
     let some = not_bad (length rows) good in
     let le = few_of_rows w few rows in

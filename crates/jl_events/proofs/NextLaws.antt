@@ -32,10 +32,11 @@ next_class old ahead loader c next = by_row (slice_get ahead.classes.rows c) nex
     by_row None e = cc
     by_row (Some row) e =
         let same : event.Define loader row.file ≡ next.event = same_Some (event.Define loader row.file) next.event e in
-        let free = subst (λ (x : Event). IsOk (verdict next.accepted.0 old x)) (sym same) next.accepted.1 in
-        let fault = define_fault old.classes loader row.file in (
+        let free = subst (λ (x : Event). IsOk (verdict next.accepted.limits old x)) (sym same) next.accepted.accepted in
+        let most = next.accepted.limits.classes in
+        let fault = define_fault most old.classes loader row.file in (
           loader,
           row.file,
-          none_of Define fault (no_fault (option_map Define fault) (made.Class _) free),
+          record { most_classes = most; accepted = none_of Define fault (no_fault (option_map Define fault) (made.Class _) free) },
           ap (λ (w : World). w.classes) (next.step ∙ ap (step old) (sym same)),
         )

@@ -1,6 +1,7 @@
 -- The request of a place.
 use Rattle.std.specs.Prelude.{◌≡◌, ℕ, Bool, true, false, if◌then◌else◌, position, length, Option, Some, None, is_some, Err, IsOk}
 use Rattle.std.proofs.Common.{refl, ap, sym, subst, ◌∙◌}
+use Rattle.jl_types.specs.declared.limits.Limits.{Limits}
 use Rattle.jl_class.specs.Site.{Site}
 use Rattle.jl_types.specs.declared.ids.Place.{Place}
 use Rattle.jl_types.specs.declared.event.Made.TheVariants as made
@@ -14,17 +15,17 @@ use Rattle.jl_types.specs.Linkage.Stages.{invocation_at}
 
 -- ---- one place more
 
-pub accepted_so : (max_sites : ℕ) (w : World) (place : Place) (site : Site) (o : Option ℕ) → is_present w.classes place.class ≡ true
-    → invocation_at w.classes place ≡ Some site → position (same_place place) w.places ≡ o → (o ≡ None → new_place_fault max_sites w site ≡ None)
-    → IsOk (verdict max_sites w (event.Request place))
-accepted_so max_sites w place site o present e p free =
+pub accepted_so : (limits : Limits) (w : World) (place : Place) (site : Site) (o : Option ℕ) → is_present w.classes place.class ≡ true
+    → invocation_at w.classes place ≡ Some site → position (same_place place) w.places ≡ o → (o ≡ None → new_place_fault limits w site ≡ None)
+    → IsOk (verdict limits w (event.Request place))
+accepted_so limits w place site o present e p free =
     subst IsOk
-    (sym (ap (λ (b : Bool). if b then if_invoked max_sites w place (invocation_at w.classes place) else Err UnknownClass) present
-    ∙ ap (if_invoked max_sites w place) e
-    ∙ ap (λ (o : Option ℕ). request_place max_sites w o site) p))
+    (sym (ap (λ (b : Bool). if b then if_invoked limits w place (invocation_at w.classes place) else Err UnknownClass) present
+    ∙ ap (if_invoked limits w place) e
+    ∙ ap (λ (o : Option ℕ). request_place limits w o site) p))
     (by_number o free)
   where
-    by_number : (o : Option ℕ) → (o ≡ None → new_place_fault max_sites w site ≡ None) → IsOk (request_place max_sites w o site)
+    by_number : (o : Option ℕ) → (o ≡ None → new_place_fault limits w site ≡ None) → IsOk (request_place limits w o site)
     by_number (Some s) free = refl
     by_number None free = subst (λ (f : Option Refusal). IsOk (unless f (made.Site (length w.places)))) (sym (free refl)) refl
 
@@ -36,11 +37,11 @@ pub some_not_none : (o : Option ℕ) → is_some o ≡ true → o ≡ None → �
 some_not_none None h e = cc
 some_not_none (Some n) h e = cc
 
-pub refused_new : (max_sites : ℕ) (w : World) (place : Place) (site : Site) (r : Refusal) → is_present w.classes place.class ≡ true
-    → invocation_at w.classes place ≡ Some site → position (same_place place) w.places ≡ None → new_place_fault max_sites w site ≡ Some r
-    → verdict max_sites w (event.Request place) ≡ Err r
-refused_new max_sites w place site r present e p f =
-    ap (λ (b : Bool). if b then if_invoked max_sites w place (invocation_at w.classes place) else Err UnknownClass) present
-    ∙ ap (if_invoked max_sites w place) e
-    ∙ ap (λ (o : Option ℕ). request_place max_sites w o site) p
+pub refused_new : (limits : Limits) (w : World) (place : Place) (site : Site) (r : Refusal) → is_present w.classes place.class ≡ true
+    → invocation_at w.classes place ≡ Some site → position (same_place place) w.places ≡ None → new_place_fault limits w site ≡ Some r
+    → verdict limits w (event.Request place) ≡ Err r
+refused_new limits w place site r present e p f =
+    ap (λ (b : Bool). if b then if_invoked limits w place (invocation_at w.classes place) else Err UnknownClass) present
+    ∙ ap (if_invoked limits w place) e
+    ∙ ap (λ (o : Option ℕ). request_place limits w o site) p
     ∙ ap (λ (o : Option Refusal). unless o (made.Site (length w.places))) f

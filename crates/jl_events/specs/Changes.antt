@@ -1,6 +1,8 @@
 -- What one accepted event does to the world.
 use Rattle.std.specs.Prelude.{◌≡◌, ℕ, length, Option, Some, None, Ok, IsOk}
+use Rattle.jl_types.specs.declared.limits.Limits.{Limits}
 use Rattle.jl_types.specs.Events.Event.{Event}
+use Rattle.jl_types.specs.Events.Limits.{AreAllowed}
 use Rattle.jl_types.specs.declared.event.EventOf.TheVariants as variant
 use Rattle.jl_types.specs.declared.event.Made.{Made}
 use Rattle.jl_types.specs.Values.World.{World}
@@ -9,13 +11,15 @@ use Rattle.jl_types.specs.Events.Verdict.{verdict, step}
 use Rattle.jl_select.specs.Constancy.{IsConstant}
 use Rattle.jl_events.specs.Accepted.{Accepted, event_of}
 
--- the event is accepted, at some limit of requested places
-abbrev pub IsAcceptable : World → Event → Type 0
-IsAcceptable w e = (max_sites : ℕ) × IsOk (verdict max_sites w e)
+-- the event is accepted, at some limits that a linker may have
+pub record IsAcceptable (w : World) (e : Event) : Type 0 where
+  pub limits : Limits
+  pub allowed : AreAllowed limits
+  pub accepted : IsOk (verdict limits w e)
 
--- the event leads from one world to another, and gives this a number, at each limit at which it is accepted
+-- the event leads from one world to another, and gives this a number, at all limits at which it is accepted
 pub record IsMoved (old new : World) (e : Event) (made : Made) : Type 0 where
-  pub made_is : (max_sites : ℕ) → IsOk (verdict max_sites old e) → verdict max_sites old e ≡ Ok made
+  pub made_is : (limits : Limits) → IsOk (verdict limits old e) → verdict limits old e ≡ Ok made
   pub step : new ≡ step old e
   pub constant : IsConstant old.classes new.classes
 

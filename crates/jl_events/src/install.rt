@@ -17,7 +17,7 @@ pub(crate) fn install_refusal(
     requires nothing_yet { work.old ≡ 0 }
     ensures refusal { result ≡ events.install_fault world.now rows.now }
     ensures ticks { work.new ≤ most_of_rows world.now rows.now }
-    ensures small { work.new ≤ 16777216 }
+    ensures small { work.new ≤ 2 ^ 28 }
 {
     // Shows how few classes there are, which bounds the work.
     let _classes = world.classes.count_in_order();

@@ -1,6 +1,6 @@
 //! Whether an event is accepted. The verdict is asked here and nowhere else.
 
-ghost use Rattle.std.specs.Prelude.{◌≡◌, ◌≤◌, nat_le, length, option_map};
+ghost use Rattle.std.specs.Prelude.{◌≡◌, ◌≤◌, ◌^◌, nat_le, length, option_map};
 ghost use Rattle.std.specs.Bool.{then_some};
 ghost use Rattle.jl_types.specs.declared.event.EventOf.TheVariants as event;
 ghost use Rattle.jl_types.specs.declared.event.Made.{Made};
@@ -18,28 +18,31 @@ use jl_callsites::discard_target;
 use jl_class::ClassFile;
 use jl_hierarchy::Classes;
 use jl_relink::World;
-use jl_types::{CallSiteFault, Event, LoaderId, Refusal, RetireFault, Work};
+use jl_types::{CallSiteFault, Event, Limits, LoaderId, Refusal, RetireFault, Work};
 
-/// The event once more, if the world accepts it, and what it takes to tell: only the links of an install are looked up.
+/// The event once more, if the world accepts it at these limits, and what it takes to tell: only the links of an install are looked up.
 ///
 /// # Errors
 ///
 /// The first refusal.
 pub fn judged(
     world: &World,
-    max_sites: u32,
+    limits: Limits,
     event: Event,
     work: &mut Work,
 ) -> Result<Event, Refusal>
-    requires few { length world.now.places ≤ max_sites }
+    requires few { length world.now.places ≤ limits.sites }
     requires nothing_yet { work.old ≡ 0 }
-    ensures judged { IsJudged (verdict max_sites world.now event) event result }
+    ensures judged { IsJudged (verdict limits world.now event) event result }
     ensures ticks { work.new ≤ most_to_judge world.now event }
-    ensures small { work.new ≤ 16777216 }
+    ensures small { work.new ≤ 2 ^ 28 }
 {
     match event {
-        Event::NewLoader => unless(loader_refusal(&world.classes), Event::NewLoader),
-        Event::Define(loader, file) => match world.classes.admitted(loader, file) {
+        Event::NewLoader => unless(
+            loader_refusal(&world.classes, limits.loaders),
+            Event::NewLoader,
+        ),
+        Event::Define(loader, file) => match world.classes.admitted(loader, file, limits.classes) {
             Ok(file) => Ok(Event::Define(loader, file)),
             Err(fault) => Err(Refusal::Define(fault)),
         },
@@ -47,11 +50,11 @@ pub fn judged(
             let refusal = delegation_refusal(&world.classes, loader, name.as_slice(), to);
             unless(refusal, Event::Delegate(loader, name, to))
         }
-        Event::Request(place) => judged_request(world, max_sites, place),
+        Event::Request(place) => judged_request(world, limits, place),
         Event::NewCallSite(kind, ty, target) => {
             let fault = world
                 .sites
-                .new_site_fault(&world.classes, ty.as_slice(), &target);
+                .new_site_fault(&world.classes, ty.as_slice(), &target, limits.call_sites);
             unless(of_call_site(fault), Event::NewCallSite(kind, ty, target))
         }
         Event::SetTarget(site, target) => {
@@ -59,7 +62,7 @@ pub fn judged(
             unless(of_call_site(fault), Event::SetTarget(site, target))
         }
         Event::NewSwitch => unless(
-            of_call_site(world.sites.new_switch_fault()),
+            of_call_site(world.sites.new_switch_fault(limits.switches)),
             Event::NewSwitch,
         ),
         Event::Invalidate(points) => {
@@ -100,11 +103,11 @@ fn discard(event: Event) {
     }
 }
 
-/// Why there is no loader more.
-fn loader_refusal(classes: &Classes) -> Option<Refusal>
-    ensures { result ≡ then_some (nat_le 1024 (length classes.now.loaders)) refusal.LoadersFull }
+/// Why there is no loader more, where there may be so many.
+fn loader_refusal(classes: &Classes, most_loaders: u32) -> Option<Refusal>
+    ensures { result ≡ then_some (nat_le most_loaders (length classes.now.loaders)) refusal.LoadersFull }
 {
-    if classes.has_all_loaders() {
+    if classes.has_all_loaders(most_loaders) {
         Some(Refusal::LoadersFull)
     } else {
         None

@@ -11,17 +11,17 @@ ghost use Rattle.jl_events.specs.Judging.{IsJudged};
 
 use jl_class::Site;
 use jl_relink::{World, invocation_at};
-use jl_types::{Event, NotLinkable, Place, Refusal, is_polymorphic, names_array};
+use jl_types::{Event, Limits, NotLinkable, Place, Refusal, is_polymorphic, names_array};
 
 /// The request once more, if the world accepts it. A place that is requested already keeps its number.
 ///
 /// # Errors
 ///
 /// The first refusal.
-pub(crate) fn judged_request(world: &World, max_sites: u32, place: Place) -> Result<Event, Refusal>
-    ensures { IsJudged (verdict max_sites world.now (event.Request place)) (event.Request place) result }
+pub(crate) fn judged_request(world: &World, limits: Limits, place: Place) -> Result<Event, Refusal>
+    ensures { IsJudged (verdict limits world.now (event.Request place)) (event.Request place) result }
 {
-    let refusal = refusal_if_new(world, max_sites, &place)?;
+    let refusal = refusal_if_new(world, limits, &place)?;
     if world.places.get_index_of(&place).is_some() {
         return Ok(Event::Request(place));
     }
@@ -32,25 +32,25 @@ pub(crate) fn judged_request(world: &World, max_sites: u32, place: Place) -> Res
 }
 
 /// The refusal of the place if it isn't requested yet, where it isn't refused anyway.
-fn refusal_if_new(world: &World, max_sites: u32, place: &Place) -> Result<Option<Refusal>, Refusal>
+fn refusal_if_new(world: &World, limits: Limits, place: &Place) -> Result<Option<Refusal>, Refusal>
     ensures ok { IfOk result (λ refusal. (invocation : site.Site)
         × (invocation_at world.now.classes place.now ≡ Some invocation)
-        × (refusal ≡ events.new_place_fault max_sites world.now invocation)
+        × (refusal ≡ events.new_place_fault limits world.now invocation)
         × (is_present world.now.classes place.now.class ≡ true)) }
-    ensures err { IfErr result (λ r. verdict max_sites world.now (event.Request place.now) ≡ Err r) }
+    ensures err { IfErr result (λ r. verdict limits world.now (event.Request place.now) ≡ Err r) }
 {
     if !world.classes.is_present(place.class) {
         return Err(Refusal::UnknownClass);
     }
     match invocation_at(&world.classes, place) {
-        Some(invocation) => Ok(new_place_refusal(world, max_sites, &invocation)),
+        Some(invocation) => Ok(new_place_refusal(world, limits, &invocation)),
         None => Err(Refusal::NoSuchPlace),
     }
 }
 
 /// The refusal of a place that isn't requested yet, by its invocation.
-fn new_place_refusal(world: &World, max_sites: u32, invocation: &Site<'_>) -> Option<Refusal>
-    ensures { result ≡ events.new_place_fault max_sites world.now invocation.now }
+fn new_place_refusal(world: &World, limits: Limits, invocation: &Site<'_>) -> Option<Refusal>
+    ensures { result ≡ events.new_place_fault limits world.now invocation.now }
 {
     if names_array(invocation.operand()) {
         return Some(Refusal::NotLinkable(NotLinkable::ArrayReceiver));
@@ -58,7 +58,7 @@ fn new_place_refusal(world: &World, max_sites: u32, invocation: &Site<'_>) -> Op
     if is_polymorphic(invocation.operand()) {
         return Some(Refusal::NotLinkable(NotLinkable::PolymorphicSignature));
     }
-    if world.site_count() >= max_sites as usize {
+    if world.site_count() >= limits.sites as usize {
         return Some(Refusal::SitesFull);
     }
     None

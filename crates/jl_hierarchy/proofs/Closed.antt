@@ -16,7 +16,7 @@ use Rattle.jl_types.specs.declared.refusal.DefineFault.TheVariants.{UnknownLoade
 use Rattle.jl_types.specs.Values.World.{Class, Classes}
 use Rattle.jl_types.specs.Values.Members.{is_retired, is_present, recorded, lookup}
 use Rattle.jl_types.specs.Values.Ancestry.{AreOrdered, IsAncestor, itself, over, is_ancestor, is_parent, parents, ancestors}
-use Rattle.jl_types.specs.Events.Definitions.{class_made, defined, with_record, define_fault, is_unknown}
+use Rattle.jl_types.specs.Events.Definitions.{class_made, defined, with_record, is_unknown}
 use Rattle.jl_types.specs.Events.Retirement.{is_of, inherits_from, records_from, classes_fault, retired}
 use Rattle.jl_types.proofs.Ancestors.{ancestor_decides}
 use Rattle.jl_types.proofs.Firsts.{first_none, test_none}
@@ -24,7 +24,7 @@ use Rattle.jl_types.proofs.Grown.{among_ancestors, old_within}
 use Rattle.jl_types.proofs.Lists.{before_end, at_end, passes_within}
 use Rattle.jl_types.proofs.Orders.{IsGood, defined_good}
 use Rattle.jl_types.proofs.Retiring.{IsFree, is_free, retired_after, present_after, found_before}
-use Rattle.jl_hierarchy.specs.Constancy.{IsClosed}
+use Rattle.jl_hierarchy.specs.Constancy.{IsClosed, MayDefine}
 
 -- ---- lists
 
@@ -157,10 +157,10 @@ closed_with_loader cs closed = record {
 -- ---- a class more
 
 -- a loader that defines a class isn't retired
-pub live_loader : (cs : Classes) (loader : ℕ) (file : ClassFile) → define_fault cs loader file ≡ None → is_retired cs loader ≡ false
+pub live_loader : (cs : Classes) (loader : ℕ) (file : ClassFile) → MayDefine cs loader file → is_retired cs loader ≡ false
 live_loader cs loader file none =
     second (nat_le (length cs.loaders) loader) (is_retired cs loader) (test_none (is_unknown cs loader) UnknownLoader
-    (first_none (then_some (is_unknown cs loader) UnknownLoader) _ none).0)
+    (first_none (then_some (is_unknown cs loader) UnknownLoader) _ none.accepted).0)
   where
     second : (a b : Bool) → (a || b) ≡ false → b ≡ false
     second true b e = cc

@@ -6,7 +6,6 @@ use Rattle.std.specs.Bool.{then_some}
 use Rattle.std.specs.List.{position_or_len, list_any}
 use Rattle.std.specs.Str.{bytes_eq}
 use Rattle.std.proofs.Common.{refl, ap, sym, ◌∙◌, arith}
-use Rattle.std.proofs.lemmas.Bool.{leb-false}
 use Rattle.jl_types.proofs.Firsts.{test_none, first_none}
 use Rattle.std.proofs.lemmas.Grind.{common_steps}
 use Rattle.std.proofs.lemmas.List.Folds.{find_at}
@@ -20,6 +19,7 @@ use Rattle.jl_types.specs.Values.World.{Classes}
 use Rattle.jl_types.specs.Values.Members.{lookup, is_interface}
 use Rattle.jl_types.specs.Linkage.Resolution.{first_of}
 use Rattle.jl_types.specs.Events.Definitions.{is_unknown, parent_names, named_test, is_open_parent, define_fault}
+use Rattle.jl_hierarchy.specs.Constancy.{MayDefine}
 use Rattle.jl_hierarchy.specs.declared.faults.FaultAt.{FaultAt}
 use Rattle.jl_hierarchy.specs.declared.faults.FaultAt.TheVariants as found
 use Rattle.jl_hierarchy.specs.ForProofs.Faults.{first_faults, superclass_faults, first_place, fault_of, IsThere}
@@ -94,15 +94,15 @@ there f (x ∷ xs) zero lt = refl
 there f (x ∷ xs) (suc i) lt = there f xs i (omega (arith, lt))
 
 -- the definition has a fault where one is found
-pub none_where : (cs : Classes) (loader : ℕ) (file : ClassFile) (found : Option FaultAt)
-    → define_fault cs loader file ≡ option_and_then (fault_of file) found → IfSome found (IsThere file) → is_none found ≡ is_none (define_fault cs loader file)
-none_where cs loader file None e at = ap is_none (sym e)
-none_where cs loader file (Some (found.Plain fault)) e at = ap is_none (sym e)
-none_where cs loader file (Some (found.Missing i)) e at = sym (ap is_none e ∙ there MissingParent (parent_names file) i at)
-none_where cs loader file (Some (found.NoInterface i)) e at = sym (ap is_none e ∙ there NotAnInterface file.interfaces i at)
-none_where cs loader file (Some (found.Closed i)) e at = sym (ap is_none e ∙ there InaccessibleParent (parent_names file) i at)
+pub none_where : (most_classes : ℕ) (cs : Classes) (loader : ℕ) (file : ClassFile) (found : Option FaultAt)
+    → define_fault most_classes cs loader file ≡ option_and_then (fault_of file) found → IfSome found (IsThere file) → is_none found ≡ is_none (define_fault most_classes cs loader file)
+none_where most_classes cs loader file None e at = ap is_none (sym e)
+none_where most_classes cs loader file (Some (found.Plain fault)) e at = ap is_none (sym e)
+none_where most_classes cs loader file (Some (found.Missing i)) e at = sym (ap is_none e ∙ there MissingParent (parent_names file) i at)
+none_where most_classes cs loader file (Some (found.NoInterface i)) e at = sym (ap is_none e ∙ there NotAnInterface file.interfaces i at)
+none_where most_classes cs loader file (Some (found.Closed i)) e at = sym (ap is_none e ∙ there InaccessibleParent (parent_names file) i at)
 
-module _ (cs : Classes) (loader : ℕ) (file : ClassFile) where
+module _ (most_classes : ℕ) (cs : Classes) (loader : ℕ) (file : ClassFile) where
   abbrev is_missing : List ℕ → Bool
   is_missing name = is_none (lookup cs loader name)
 
@@ -113,7 +113,7 @@ module _ (cs : Classes) (loader : ℕ) (file : ClassFile) where
   is_closed name = not (is_open_parent cs loader file name)
 
   abbrev from_full : List (Option DefineFault)
-  from_full = then_some (nat_le 65536 (length cs.rows)) Full ∷ []
+  from_full = then_some (nat_le most_classes (length cs.rows)) Full ∷ []
 
   abbrev from_closed : List (Option DefineFault)
   from_closed = option_map InaccessibleParent (find is_closed (parent_names file)) ∷ from_full
@@ -124,69 +124,53 @@ module _ (cs : Classes) (loader : ℕ) (file : ClassFile) where
   abbrev from_missing : List (Option DefineFault)
   from_missing = option_map MissingParent (find is_missing (parent_names file)) ∷ superclass_faults cs loader file ++ from_interfaces
 
-  pub first_is : (f : DefineFault) → first_of (first_faults cs loader file) ≡ Some f → define_fault cs loader file ≡ Some f
+  pub first_is : (f : DefineFault) → first_of (first_faults cs loader file) ≡ Some f → define_fault most_classes cs loader file ≡ Some f
   first_is f e = before (first_faults cs loader file) from_missing f e
 
   -- what is tested before has no fault
   module _ (first : first_of (first_faults cs loader file) ≡ None) where
-    missing_next : define_fault cs loader file ≡ first_of from_missing
+    missing_next : define_fault most_classes cs loader file ≡ first_of from_missing
     missing_next = after (first_faults cs loader file) from_missing first
 
     pub missing_is : (i : ℕ) → position is_missing (parent_names file) ≡ Some i
-        → define_fault cs loader file ≡ option_map MissingParent (slice_get (parent_names file) i)
+        → define_fault most_classes cs loader file ≡ option_map MissingParent (slice_get (parent_names file) i)
     missing_is i e = missing_next ∙ named_at MissingParent is_missing (parent_names file) i (superclass_faults cs loader file ++ from_interfaces) e
 
     module _ (missing : position is_missing (parent_names file) ≡ None) where
-      superclass_next : define_fault cs loader file ≡ first_of (superclass_faults cs loader file ++ from_interfaces)
+      superclass_next : define_fault most_classes cs loader file ≡ first_of (superclass_faults cs loader file ++ from_interfaces)
       superclass_next =
           missing_next
           ∙ ap (λ o. first_of (option_map MissingParent o ∷ superclass_faults cs loader file ++ from_interfaces))
           (none_at is_missing (parent_names file) missing)
 
-      pub superclass_is : (f : DefineFault) → first_of (superclass_faults cs loader file) ≡ Some f → define_fault cs loader file ≡ Some f
+      pub superclass_is : (f : DefineFault) → first_of (superclass_faults cs loader file) ≡ Some f → define_fault most_classes cs loader file ≡ Some f
       superclass_is f e = superclass_next ∙ before (superclass_faults cs loader file) from_interfaces f e
 
       module _ (super : first_of (superclass_faults cs loader file) ≡ None) where
-        interfaces_next : define_fault cs loader file ≡ first_of from_interfaces
+        interfaces_next : define_fault most_classes cs loader file ≡ first_of from_interfaces
         interfaces_next = superclass_next ∙ after (superclass_faults cs loader file) from_interfaces super
 
         pub interface_is : (i : ℕ) → position is_none_such file.interfaces ≡ Some i
-            → define_fault cs loader file ≡ option_map NotAnInterface (slice_get file.interfaces i)
+            → define_fault most_classes cs loader file ≡ option_map NotAnInterface (slice_get file.interfaces i)
         interface_is i e = interfaces_next ∙ named_at NotAnInterface is_none_such file.interfaces i from_closed e
 
         module _ (interfaces : position is_none_such file.interfaces ≡ None) where
-          closed_next : define_fault cs loader file ≡ first_of from_closed
+          closed_next : define_fault most_classes cs loader file ≡ first_of from_closed
           closed_next = interfaces_next ∙ ap (λ o. first_of (option_map NotAnInterface o ∷ from_closed)) (none_at is_none_such file.interfaces interfaces)
 
           pub closed_is : (i : ℕ) → position is_closed (parent_names file) ≡ Some i
-              → define_fault cs loader file ≡ option_map InaccessibleParent (slice_get (parent_names file) i)
+              → define_fault most_classes cs loader file ≡ option_map InaccessibleParent (slice_get (parent_names file) i)
           closed_is i e = closed_next ∙ named_at InaccessibleParent is_closed (parent_names file) i from_full e
 
           module _ (closed : position is_closed (parent_names file) ≡ None) where
-            full_next : define_fault cs loader file ≡ first_of from_full
+            full_next : define_fault most_classes cs loader file ≡ first_of from_full
             full_next = closed_next ∙ ap (λ o. first_of (option_map InaccessibleParent o ∷ from_full)) (none_at is_closed (parent_names file) closed)
 
-            pub full_is : nat_le 65536 (length cs.rows) ≡ true → define_fault cs loader file ≡ Some Full
+            pub full_is : nat_le most_classes (length cs.rows) ≡ true → define_fault most_classes cs loader file ≡ Some Full
             full_is is = full_next ∙ ap (λ b. first_of (then_some b Full ∷ [])) is
 
-            pub accepted_is : nat_le 65536 (length cs.rows) ≡ false → define_fault cs loader file ≡ None
+            pub accepted_is : nat_le most_classes (length cs.rows) ≡ false → define_fault most_classes cs loader file ≡ None
             accepted_is is = full_next ∙ ap (λ b. first_of (then_some b Full ∷ [])) is
-
-last_none : {A : Type 0} (xs : List (Option A)) (o : Option A) → first_of (xs ++ o ∷ []) ≡ None → o ≡ None
-last_none [] None e = refl
-last_none [] (Some x) e = cc
-last_none (None ∷ xs) o e = last_none xs o e
-last_none (Some x ∷ xs) o e = cc
-
--- there is room where the definition has no fault
-pub has_room : (cs : Classes) (loader : ℕ) (file : ClassFile) → define_fault cs loader file ≡ None → length cs.rows < 65536
-has_room cs loader file e =
-    leb-false 65536 (length cs.rows) (test_none (nat_le 65536 (length cs.rows)) Full (last_none (
-    first_faults cs loader file
-    ++ option_map MissingParent (find (is_missing cs loader file) (parent_names file)) ∷ superclass_faults cs loader file
-    ++ option_map NotAnInterface (find (is_none_such cs loader file) file.interfaces)
-    ∷ option_map InaccessibleParent (find (is_closed cs loader file) (parent_names file)) ∷ [])
-    (then_some (nat_le 65536 (length cs.rows)) Full) e))
 
 third_none : {A : Type 0} (a b c : Option A) (rest : List (Option A)) → first_of (a ∷ b ∷ c ∷ rest) ≡ None → c ≡ None
 third_none None None c rest e = (first_none c rest e).0
@@ -194,10 +178,10 @@ third_none None (Some x) c rest e = cc
 third_none (Some x) b c rest e = cc
 
 -- the name is new to the loader where the definition has no fault
-pub is_new : (cs : Classes) (loader : ℕ) (file : ClassFile) → define_fault cs loader file ≡ None → lookup cs loader file.name ≡ None
-is_new cs loader file e =
+pub is_new : (cs : Classes) (loader : ℕ) (file : ClassFile) → MayDefine cs loader file → lookup cs loader file.name ≡ None
+is_new cs loader file free =
     none_yet (lookup cs loader file.name) (test_none (is_some (lookup cs loader file.name)) AlreadyRecorded (third_none
     (then_some (is_unknown cs loader) UnknownLoader)
     (then_some (bytes_eq file.name object && not (loader == 0)) SecondObject)
     (then_some (is_some (lookup cs loader file.name)) AlreadyRecorded)
-    (then_some (list_any (bytes_eq file.name) (parent_names file)) NamesItself ∷ from_missing cs loader file) e))
+    (then_some (list_any (bytes_eq file.name) (parent_names file)) NamesItself ∷ from_missing free.most_classes cs loader file) free.accepted))

@@ -20,11 +20,11 @@ use Rattle.jl_types.specs.Values.World.{Class, Classes}
 use Rattle.jl_types.specs.Values.Members.{lookup, is_interface}
 use Rattle.jl_types.specs.Values.Ancestry.{parents, is_parent}
 use Rattle.jl_types.specs.Linkage.Resolution.{first_of}
-use Rattle.jl_types.specs.Events.Definitions.{FINAL, is_final, named_test, parent_names, is_unknown, class_made, define_fault, defined}
+use Rattle.jl_types.specs.Events.Definitions.{FINAL, is_final, named_test, parent_names, is_unknown, class_made, defined}
 use Rattle.jl_types.proofs.Firsts.{first_none, test_none}
 use Rattle.jl_types.proofs.Lists.{before_end, at_end}
 use Rattle.jl_types.proofs.Orders.{IsGood, defined_good, none_behind}
-use Rattle.jl_hierarchy.specs.Constancy.{may_be_extended, ExtendNoFinal}
+use Rattle.jl_hierarchy.specs.Constancy.{may_be_extended, ExtendNoFinal, MayDefine}
 
 -- ---- the faults that a definition doesn't have
 
@@ -92,7 +92,7 @@ parent_below n p (q ∷ ps) o h = elim (or_cases (p == q) (list_any (λ q. p == 
 -- ---- one class more
 
 module _ (cs : Classes) (good : IsGood cs) (free : ExtendNoFinal cs) (loader : ℕ) (file : ClassFile)
-    (accepted : define_fault cs loader file ≡ None) where
+    (accepted : MayDefine cs loader file) where
   abbrev new : Classes
   new = defined cs loader file
 
@@ -115,7 +115,7 @@ module _ (cs : Classes) (good : IsGood cs) (free : ExtendNoFinal cs) (loader : �
   no_fault : (then_some (list_any (named_test (is_final cs) cs loader) (option_to_list file.superclass)) define.FinalSuper ≡ None)
       × (option_map define.NotAnInterface (find (λ name. not (named_test (is_interface cs) cs loader name)) file.interfaces) ≡ None)
   no_fault =
-      let final = first_none _ _ (none_past faults_before _ accepted) in
+      let final = first_none _ _ (none_past faults_before _ accepted.accepted) in
       (final.0, (first_none _ _ final.1).0)
 
   not_final : list_any (named_test (is_final cs) cs loader) (option_to_list file.superclass) ≡ false

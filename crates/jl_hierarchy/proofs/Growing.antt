@@ -1,5 +1,5 @@
 -- What is kept once the classes have what a definition adds.
-use Rattle.std.specs.Prelude.{◌≡◌, ℕ, ◌<◌, ◌&&◌, Bool, true, if◌then◌else◌, List, [], ◌∷◌, ◌++◌, length, slice_get, All}
+use Rattle.std.specs.Prelude.{◌≡◌, ℕ, ◌<◌, ◌^◌, ◌&&◌, Bool, true, if◌then◌else◌, List, [], ◌∷◌, ◌++◌, length, slice_get, All}
 use Rattle.std.specs.Prelude.{Option, Some, None, option_and_then, IfSome}
 use Rattle.std.proofs.Common.{refl, ap, sym, subst, ◌∙◌, inl, inr, Vec, Global}
 use Rattle.std.proofs.lemmas.Bool.{and_parts}
@@ -8,8 +8,9 @@ use Rattle.jl_class.specs.Flags.{extends_object}
 use Rattle.jl_types.specs.Values.World.{Class, Classes}
 use Rattle.jl_types.specs.Values.Members.{lookup, recorded, is_concrete_row}
 use Rattle.jl_types.specs.Values.Ancestry.{AreOrdered, ancestors}
-use Rattle.jl_types.specs.Events.Definitions.{class_made, defined, with_record, define_fault}
+use Rattle.jl_types.specs.Events.Definitions.{class_made, defined, with_record}
 use Rattle.jl_types.proofs.Orders.{defined_good}
+use Rattle.jl_hierarchy.specs.Constancy.{MayDefine}
 use Rattle.jl_hierarchy.specs.declared.define.NewClass.{NewClass}
 use Rattle.jl_hierarchy.specs.declared.marks.Mark.{Mark}
 use Rattle.jl_hierarchy.specs.ForProofs.Kept.{IsKept, IsAppended, lists}
@@ -35,7 +36,7 @@ still_kept {loaders} {loaders'} {rows} {rows'} {retired} {over} {over'} {under} 
 )
 
 -- the classes inside are those that a clause sees, and a class is added, as its loader makes it of its file
-module _ {inside cs : Classes} (same : inside ≡ cs) {row : Class} (none : define_fault cs row.loader row.file ≡ None)
+module _ {inside cs : Classes} (same : inside ≡ cs) {row : Class} (none : MayDefine cs row.loader row.file)
     {new_class : NewClass} (grown : IsNewClass cs row new_class) where
   abbrev n : ℕ
   n = length cs.rows
@@ -64,7 +65,7 @@ module _ {inside cs : Classes} (same : inside ≡ cs) {row : Class} (none : defi
       ]
 
   module _ (made : row ≡ class_made cs row.loader row.file) (extends : extends_object row.file.flags row.file.superclass ≡ true)
-      {over under : List (List ℕ)} {marks : Marked} {are_superclass_chains : Bool}
+      (room : length cs.rows < 2 ^ 20) {over under : List (List ℕ)} {marks : Marked} {are_superclass_chains : Bool}
       (old : IsKept inside over under × IsIndexed inside.rows marks are_superclass_chains)
       {loaders' : List (List (List ℕ × ℕ))} {rows' : List Class} {over' under' : List (List ℕ)} {marks' : Marked}
       (loaders_are : loaders' ≡ with_record inside.loaders new_class.row.loader new_class.row.file.name new_class.class)
@@ -97,7 +98,7 @@ module _ {inside cs : Classes} (same : inside ≡ cs) {row : Class} (none : defi
         over' (over ++ (new_class.ancestors.items ++ n ∷ []) ∷ []) under'
         (received.0 ++ (if is_concrete_row (class_made cs row.loader row.file) then n ∷ [] else []) ∷ [])
         classes_are (over_are ∙ (λ i. over ++ grown.with_itself i ∷ [])) (received.2 ∙ (λ i. received.0 ++ own_is i ∷ []))
-        (kept_now cs over under kept row.loader row.file none new_class.ancestors.items
+        (kept_now cs over under kept row.loader row.file none room new_class.ancestors.items
         (grown.all ∙ (λ i. ancestors (cs.rows ++ made i ∷ []) n)) received.0 appended
         (first_defined cs kept.object row.loader row.file none extends))
 

@@ -1,5 +1,5 @@
 -- What is kept once a class is defined.
-use Rattle.std.specs.Prelude.{◌≡◌, ℕ, zero, suc, ◌+◌, ◌<◌, ◌==◌, ◌||◌, ◌&&◌, Bool, true, false, cond, if◌then◌else◌, not}
+use Rattle.std.specs.Prelude.{◌≡◌, ℕ, zero, suc, ◌+◌, ◌<◌, ◌^◌, ◌==◌, ◌||◌, ◌&&◌, Bool, true, false, cond, if◌then◌else◌, not}
 use Rattle.std.specs.Prelude.{List, [], ◌∷◌, ◌++◌, length, get_or, map, filter, slice_get, slice_set, Option, Some, None}
 use Rattle.std.specs.List.{range_with_len}
 use Rattle.std.specs.Option.{option_map_or}
@@ -13,14 +13,13 @@ use Rattle.jl_class.specs.Class.{ClassFile}
 use Rattle.jl_types.specs.Values.World.{Class, Classes}
 use Rattle.jl_types.specs.Values.Members.{numbers, is_retired, is_concrete, is_concrete_row}
 use Rattle.jl_types.specs.Values.Ancestry.{is_ancestor, ancestors, receivers}
-use Rattle.jl_types.specs.Events.Definitions.{class_made, defined, with_record, define_fault}
+use Rattle.jl_types.specs.Events.Definitions.{class_made, defined, with_record}
 use Rattle.jl_types.proofs.Ancestors.{ancestor_decides}
 use Rattle.jl_types.proofs.Grown.{above, among_ancestors, old_ancestors, receivers_after}
 use Rattle.jl_types.proofs.Lists.{at_end}
 use Rattle.jl_types.proofs.Orders.{IsGood, defined_good}
-use Rattle.jl_hierarchy.specs.Constancy.{ObjectComesFirst}
+use Rattle.jl_hierarchy.specs.Constancy.{ObjectComesFirst, MayDefine}
 use Rattle.jl_hierarchy.specs.ForProofs.Kept.{IsKept, IsAppended}
-use Rattle.jl_hierarchy.proofs.FaultLaws.{has_room}
 use Rattle.jl_hierarchy.proofs.Closed.{closed_defined, live_loader}
 use Rattle.jl_hierarchy.proofs.OwnRecords.{own_defined}
 use Rattle.jl_hierarchy.proofs.Finals.{still_extended}
@@ -49,7 +48,7 @@ has_chosen true i xs = refl
 has_chosen false i xs = refl
 
 module _ (cs : Classes) (over under : List (List ℕ)) (kept : IsKept cs over under) (loader : ℕ) (file : ClassFile)
-    (none : define_fault cs loader file ≡ None) where
+    (none : MayDefine cs loader file) (room : length cs.rows < 2 ^ 20) where
   abbrev n : ℕ
   n = length cs.rows
 
@@ -176,7 +175,7 @@ module _ (cs : Classes) (over under : List (List ℕ)) (kept : IsKept cs over un
         object = object;
         closed = closed_defined cs good loader file kept.closed;
         own = own_defined cs good kept.own loader file none;
-        few = let m = length-append cs.rows (row ∷ []) in let room = has_room cs loader file none in omega arith;
+        few = let m = length-append cs.rows (row ∷ []) in omega (arith, room, m);
         few_loaders = let m = as_many_loaders cs.loaders loader file.name n in let few = kept.few_loaders in omega arith;
         ancestors_kept = ancestors_now;
         receivers_kept = receivers_now;

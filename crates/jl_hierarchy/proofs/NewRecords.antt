@@ -1,5 +1,5 @@
 -- What is kept once a loader is made, or records a class that another one has recorded.
-use Rattle.std.specs.Prelude.{◌≡◌, ℕ, ◌<◌, List, [], ◌∷◌, ◌++◌, length, Some, false}
+use Rattle.std.specs.Prelude.{◌≡◌, ℕ, ◌<◌, ◌^◌, List, [], ◌∷◌, ◌++◌, length, Some, false}
 use Rattle.std.proofs.Common.{arith, length-append}
 use Rattle.jl_types.specs.Values.World.{Classes}
 use Rattle.jl_types.specs.Values.Members.{is_retired, lookup}
@@ -15,7 +15,7 @@ module _ (cs : Classes) (above below : List (List ℕ)) (kept : IsKept cs above 
   good : IsGood cs
   good = record { there = kept.there; ordered = kept.ordered }
 
-  pub kept_with_loader : length cs.loaders < 1024 → IsKept (record cs { loaders = cs.loaders ++ [] ∷ [] }) above below
+  pub kept_with_loader : length cs.loaders < 2 ^ 20 → IsKept (record cs { loaders = cs.loaders ++ [] ∷ [] }) above below
   kept_with_loader lt = record {
     there = with_loader (length cs.rows) cs.loaders kept.there;
     ordered = kept.ordered;

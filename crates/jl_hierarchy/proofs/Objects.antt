@@ -14,13 +14,13 @@ use Rattle.jl_class.specs.Class.{ClassFile}
 use Rattle.jl_class.specs.Flags.{has_flag, object, extends_object, INTERFACE}
 use Rattle.jl_types.specs.Values.World.{Class, Classes}
 use Rattle.jl_types.specs.Values.Members.{is_retired, recorded, lookup, is_interface}
-use Rattle.jl_types.specs.Events.Definitions.{is_unknown, class_made, parent_names, with_record, defined, define_fault}
+use Rattle.jl_types.specs.Events.Definitions.{is_unknown, class_made, parent_names, with_record, defined}
 use Rattle.jl_types.specs.Linkage.Resolution.{first_of}
 use Rattle.jl_types.specs.declared.refusal.DefineFault.TheVariants.{UnknownLoader, SecondObject, MissingParent}
 use Rattle.jl_types.proofs.Firsts.{test_none}
 use Rattle.jl_types.proofs.Lists.{before_end, at_end}
 use Rattle.jl_types.proofs.Orders.{none_behind}
-use Rattle.jl_hierarchy.specs.Constancy.{has_object, ObjectComesFirst}
+use Rattle.jl_hierarchy.specs.Constancy.{has_object, ObjectComesFirst, MayDefine}
 use Rattle.jl_hierarchy.proofs.Constancy.{with_record_stays}
 
 pub is_there : (o : Option ℕ) → is_some o ≡ true → (c : ℕ) × (o ≡ Some c)
@@ -144,7 +144,7 @@ named_object flags superclass extends is =
     by_superclass None e = cc
     by_superclass (Some name) e = ap Some ((bytes_eq-Decides name object).0 e)
 
-module _ (cs : Classes) (first : ObjectComesFirst cs) (loader : ℕ) (file : ClassFile) (none : define_fault cs loader file ≡ None)
+module _ (cs : Classes) (first : ObjectComesFirst cs) (loader : ℕ) (file : ClassFile) (none : MayDefine cs loader file)
     (extends : extends_object file.flags file.superclass ≡ true) where
   abbrev new : Classes
   new = defined cs loader file
@@ -152,7 +152,7 @@ module _ (cs : Classes) (first : ObjectComesFirst cs) (loader : ℕ) (file : Cla
   first_ones : (then_some (is_unknown cs loader) UnknownLoader ≡ None)
       × (then_some (bytes_eq file.name object && not (loader == 0)) SecondObject ≡ None)
       × (option_map MissingParent (find (λ name. is_none (lookup cs loader name)) (parent_names file)) ≡ None)
-  first_ones = some_none _ _ _ _ _ _ none
+  first_ones = some_none _ _ _ _ _ _ none.accepted
 
   loader_there : loader < length cs.loaders
   loader_there =

@@ -18,7 +18,7 @@ use Rattle.jl_types.specs.declared.refusal.DefineFault.TheVariants.{UnknownLoade
 use Rattle.jl_types.specs.Values.World.{Class, Classes}
 use Rattle.jl_types.specs.Values.Members.{is_retired, is_present, is_concrete, recorded, lookup, numbers}
 use Rattle.jl_types.specs.Values.Ancestry.{AreOrdered, is_ancestor, receivers}
-use Rattle.jl_types.specs.Events.Definitions.{class_made, with_record, defined, define_fault, is_unknown}
+use Rattle.jl_types.specs.Events.Definitions.{class_made, with_record, defined, is_unknown}
 use Rattle.jl_types.specs.Events.Retirement.{is_of, losing_receivers, retired}
 use Rattle.jl_types.proofs.Ancestors.{ancestor_decides}
 use Rattle.jl_types.proofs.Bools.{any-filter, any-filter-at, any-map, any-range-from, first_test, second_test}
@@ -27,6 +27,7 @@ use Rattle.jl_types.proofs.Grown.{above}
 use Rattle.jl_types.proofs.Lists.{at_end, before_end, passes_within}
 use Rattle.jl_types.proofs.Orders.{IsGood}
 use Rattle.jl_types.proofs.Retiring.{retired_after}
+use Rattle.jl_hierarchy.specs.Constancy.{MayDefine}
 use Rattle.jl_hierarchy.specs.ForProofs.Kept.{AreRecorded, Rises}
 use Rattle.jl_hierarchy.specs.Retiring.{own_recorded}
 use Rattle.jl_hierarchy.proofs.Closed.{any_recorded, any_at}
@@ -83,7 +84,7 @@ found_last (records ∷ loaders) (suc loader) name n lt none =
     behind None e = refl
     behind (Some rs) e = refl
 
-module _ (cs : Classes) (good : IsGood cs) (own : AreRecorded cs) (loader : ℕ) (file : ClassFile) (none : define_fault cs loader file ≡ None) where
+module _ (cs : Classes) (good : IsGood cs) (own : AreRecorded cs) (loader : ℕ) (file : ClassFile) (none : MayDefine cs loader file) where
   abbrev new : Classes
   new = defined cs loader file
 
@@ -91,7 +92,7 @@ module _ (cs : Classes) (good : IsGood cs) (own : AreRecorded cs) (loader : ℕ)
   loader_there =
       leb-false (length cs.loaders) loader
       (first_of_both (nat_le (length cs.loaders) loader) (is_retired cs loader)
-      (test_none (is_unknown cs loader) UnknownLoader (first_none (then_some (is_unknown cs loader) UnknownLoader) _ none).0))
+      (test_none (is_unknown cs loader) UnknownLoader (first_none (then_some (is_unknown cs loader) UnknownLoader) _ none.accepted).0))
 
   pub own_defined : AreRecorded new
   own_defined c row at alive = by_number (length cs.rows == c) refl

@@ -58,6 +58,11 @@ AddsReceiver old new = (c : ℕ)
     ≡ (if is_concrete new (length old.rows) && is_ancestor new c (length old.rows)
     then ancestry.receivers old c ++ length old.rows ∷ [] else ancestry.receivers old c)
 
+-- nothing speaks against it that the loader defines the class of the file, where there may be so many classes
+pub record MayDefine (cs : Classes) (loader : ℕ) (file : ClassFile) : Type 0 where
+  pub most_classes : ℕ
+  pub accepted : define_fault most_classes cs loader file ≡ None
+
 -- the others have one class more, which a loader defined that was free to
 abbrev pub IsNext : Classes → Classes → Type 0
-IsNext old ahead = (loader : ℕ) × (file : ClassFile) × (define_fault old loader file ≡ None) × (ahead ≡ defined old loader file)
+IsNext old ahead = (loader : ℕ) × (file : ClassFile) × MayDefine old loader file × (ahead ≡ defined old loader file)

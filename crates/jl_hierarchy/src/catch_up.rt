@@ -18,6 +18,8 @@ impl Classes {
         ensures ok { OnOk result (self.new ≡ ahead.now) }
         ensures err { OnErr result (self.new ≡ self.old) }
     {
+        // Tells that there is room, since there are no more classes ahead than there may be.
+        let _count = ahead.count_in_order();
         let row = ahead.rows.at(self.rows.len());
         // The file tells that the superclass of an interface is java/lang/Object.
         let _ = row.class().file().superclass();

@@ -1,6 +1,6 @@
 //! The classes that are defined.
 
-ghost use Rattle.std.specs.Prelude.{◌≡◌, ◌<◌, ◌≤◌, length, slice_get, IfSome, IfOk};
+ghost use Rattle.std.specs.Prelude.{◌≡◌, ◌<◌, ◌≤◌, ◌^◌, length, slice_get, IfSome, IfOk};
 ghost use Rattle.std.specs.Option.{option_copied};
 ghost use Rattle.jl_types.specs.Values.World.{nothing_yet};
 ghost use Rattle.jl_types.specs.Values.Members as members;
@@ -112,7 +112,7 @@ impl Classes {
     /// How many classes and interfaces there are, which came in order. Takes no memory.
     pub fn count_in_order(&self) -> usize
         ensures order { AreInOrder self.now }
-        ensures few { length self.now.rows ≤ 65536 }
+        ensures few { length self.now.rows ≤ 2 ^ 20 }
         ensures count { result ≡ length self.now.rows }
     {
         // Opens the invariant of the classes.
@@ -122,7 +122,7 @@ impl Classes {
 
     /// How many loaders there are, retired ones among them. Takes no memory.
     pub fn loader_count(&self) -> usize
-        ensures few { length self.now.loaders ≤ 1024 }
+        ensures few { length self.now.loaders ≤ 2 ^ 20 }
         ensures count { result ≡ length self.now.loaders }
     {
         // Opens the invariant of the classes.

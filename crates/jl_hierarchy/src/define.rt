@@ -1,6 +1,6 @@
 //! The definition of a class (JVMS SE 17 §5.3.5).
 
-ghost use Rattle.std.specs.Prelude.{◌≡◌, ◌<◌, ◌^◌, ◌++◌, ◌∷◌, [], Some, None, Err, length, slice_get, option_and_then, true, All, IfOk, OnOk, OnErr};
+ghost use Rattle.std.specs.Prelude.{◌≡◌, ◌<◌, ◌≤◌, ◌^◌, ◌++◌, ◌∷◌, [], Some, None, Err, length, slice_get, option_and_then, true, All, IfOk, OnOk, OnErr};
 ghost use Rattle.std.specs.Vec.{vec_len, vec_capacity};
 ghost use Rattle.jl_types.specs.declared.refusal.DefineFault.{DefineFault};
 ghost use Rattle.jl_types.specs.declared.refusal.OrMemory.TheVariants as or_memory;
@@ -8,7 +8,7 @@ ghost use Rattle.jl_types.specs.Values.Members.{recorded};
 ghost use Rattle.jl_types.specs.Events.Definitions as definitions;
 ghost use Rattle.jl_types.specs.Events.Definitions.{with_record};
 ghost use Rattle.jl_class.specs.Flags.{extends_object};
-ghost use Rattle.jl_hierarchy.specs.Constancy.{AreInOrder, Stays, AddsReceiver};
+ghost use Rattle.jl_hierarchy.specs.Constancy.{AreInOrder, Stays, AddsReceiver, MayDefine};
 ghost use Rattle.jl_hierarchy.specs.ForProofs.Kept.{HasRoom, Rises, lists};
 ghost use Rattle.jl_hierarchy.specs.ForProofs.Growing.{AreEven, IsNewClass, gaining, IsReceived, AreKept, AreAdded};
 
@@ -46,8 +46,9 @@ pub(crate) struct NewClass {
 }
 
 impl Classes {
-    /// The loader defines the class of the file, which gets the next number (JVMS SE 17 §5.3.5). The classes that are there
-    /// stay as they are, and what is known of them; the new one comes last among the receivers of its ancestors.
+    /// The loader defines the class of the file, which gets the next number (JVMS SE 17 §5.3.5), if there are fewer than
+    /// `most_classes` so far. The classes that are there stay as they are, and what is known of them; the new one comes last among the
+    /// receivers of its ancestors.
     ///
     /// # Errors
     ///
@@ -57,19 +58,21 @@ impl Classes {
         alloc: Global,
         loader: LoaderId,
         file: ClassFile,
+        most_classes: u32,
     ) -> Result<ClassId, OrMemory<DefineFault>>
+        requires { most_classes ≤ 2 ^ 20 }
         ensures number { IfOk result (λ class. class ≡ length self.old.rows) }
-        ensures accepted { OnOk result (definitions.define_fault self.old loader file ≡ None) }
+        ensures accepted { OnOk result (definitions.define_fault most_classes self.old loader file ≡ None) }
         ensures ok { OnOk result (self.new ≡ definitions.defined self.old loader file) }
         ensures in_order { OnOk result (AreInOrder self.old) }
         ensures stays { OnOk result (Stays self.old self.new) }
         ensures receivers { OnOk result (AddsReceiver self.old self.new) }
         ensures fault { (f : DefineFault) → result ≡ Err (or_memory.Fault f)
-            → definitions.define_fault self.old loader file ≡ Some f }
-        ensures memory { result ≡ Err or_memory.Memory → definitions.define_fault self.old loader file ≡ None }
+            → definitions.define_fault most_classes self.old loader file ≡ Some f }
+        ensures memory { result ≡ Err or_memory.Memory → definitions.define_fault most_classes self.old loader file ≡ None }
         ensures err { OnErr result (self.new ≡ self.old) }
     {
-        match self.admitted(loader, file) {
+        match self.admitted(loader, file, most_classes) {
             Ok(file) => Ok(self.add(alloc, loader, file)?),
             Err(fault) => Err(OrMemory::Fault(fault)),
         }
@@ -87,7 +90,8 @@ impl Classes {
         loader: LoaderId,
         file: ClassFile,
     ) -> Result<ClassId, AllocError>
-        requires { definitions.define_fault self.old loader file ≡ None }
+        requires accepted { MayDefine self.old loader file }
+        requires room { length self.old.rows < 2 ^ 20 }
         ensures number { IfOk result (λ class. class ≡ length self.old.rows) }
         ensures ok { OnOk result (self.new ≡ definitions.defined self.old loader file) }
         ensures in_order { OnOk result (AreInOrder self.old) }
@@ -109,7 +113,8 @@ impl Classes {
     /// Want of memory. Nothing has changed then.
     pub(crate) fn add_row(&mut self, alloc: Global, row: Row) -> Result<ClassId, AllocError>
         requires made { row ≡ definitions.class_made self.old row.loader row.file }
-        requires accepted { definitions.define_fault self.old row.loader row.file ≡ None }
+        requires accepted { MayDefine self.old row.loader row.file }
+        requires room { length self.old.rows < 2 ^ 20 }
         requires interface { extends_object row.file.flags row.file.superclass ≡ true }
         ensures number { IfOk result (λ class. class ≡ length self.old.rows) }
         ensures ok { OnOk result (self.new ≡ definitions.defined self.old row.loader row.file) }

@@ -1,6 +1,6 @@
 //! New loaders, and delegation (JVMS SE 17 §5.3).
 
-ghost use Rattle.std.specs.Prelude.{false, ◌≡◌, ◌↔◌, nat_le, ℕ, ◌<◌, ◌≤◌, ◌++◌, ◌∷◌, [], Some, None, Err, length, IfOk, IfErr, OnOk, OnErr};
+ghost use Rattle.std.specs.Prelude.{false, ◌≡◌, ◌↔◌, nat_le, ℕ, ◌<◌, ◌≤◌, ◌^◌, ◌++◌, ◌∷◌, [], Some, None, Err, length, IfOk, IfErr, OnOk, OnErr};
 ghost use Rattle.jl_types.specs.declared.refusal.DelegateFault.{DelegateFault};
 ghost use Rattle.jl_types.specs.declared.refusal.OrMemory.TheVariants as or_memory;
 ghost use Rattle.jl_types.specs.Events.Definitions as definitions;
@@ -17,7 +17,7 @@ use thiserror::Error;
 /// Why a loader isn't made.
 #[derive(Clone, Copy, Debug, PartialEq, Eq, Error)]
 pub enum LoaderFault {
-    /// There are 1,024 loaders.
+    /// There are as many loaders as there may be.
     #[error("LoadersFull")]
     Full,
     /// Want of memory.
@@ -25,24 +25,22 @@ pub enum LoaderFault {
     Memory,
 }
 
-/// The most loaders.
-const MOST_LOADERS: usize = 1_024;
-
 impl Classes {
     /// A new loader, which has found nothing, by its number.
     ///
     /// # Errors
     ///
-    /// `Full` where there are 1,024 loaders, else want of memory. Nothing has changed then.
-    pub fn new_loader(&mut self, alloc: Global) -> Result<LoaderId, LoaderFault>
+    /// `Full` where there are so many loaders already, else want of memory. Nothing has changed then.
+    pub fn new_loader(&mut self, alloc: Global, most_loaders: u32) -> Result<LoaderId, LoaderFault>
+        requires { most_loaders ≤ 2 ^ 20 }
         ensures number { IfOk result (λ loader. loader ≡ length self.old.loaders) }
         ensures ok { OnOk result (self.new ≡ record self.old { loaders = self.old.loaders ++ [] ∷ [] }) }
         ensures in_order { OnOk result (AreInOrder self.old) }
         ensures stays { OnOk result (Stays self.old self.new) }
-        ensures full { (result ≡ Err loader_fault.Full) ↔ (1024 ≤ length self.old.loaders) }
+        ensures full { (result ≡ Err loader_fault.Full) ↔ (most_loaders ≤ length self.old.loaders) }
         ensures err { OnErr result (self.new ≡ self.old) }
     {
-        if self.has_all_loaders() {
+        if self.has_all_loaders(most_loaders) {
             return Err(LoaderFault::Full);
         }
         match self.add_loader(alloc) {
@@ -51,23 +49,23 @@ impl Classes {
         }
     }
 
-    /// Whether there are as many loaders as there may be: 1,024. Takes no memory.
-    pub fn has_all_loaders(&self) -> bool
-        ensures { result ≡ nat_le 1024 (length self.now.loaders) }
+    /// Whether there are at least so many loaders. Takes no memory.
+    pub fn has_all_loaders(&self, most_loaders: u32) -> bool
+        ensures { result ≡ nat_le most_loaders (length self.now.loaders) }
     {
         // Opens the invariant of the classes.
         let _ = &self.rows;
-        self.loaders.len() >= MOST_LOADERS
+        self.loaders.len() >= most_loaders as usize
     }
 
-    /// A new loader, which has found nothing, by its number, where there are fewer than there may be: the second half of
+    /// A new loader, which has found nothing, by its number, where there are fewer than 2^20: the second half of
     /// [`new_loader`](Classes::new_loader).
     ///
     /// # Errors
     ///
     /// Want of memory. Nothing has changed then.
     pub fn add_loader(&mut self, alloc: Global) -> Result<LoaderId, AllocError>
-        requires { length self.old.loaders < 1024 }
+        requires { length self.old.loaders < 2 ^ 20 }
         ensures number { IfOk result (λ loader. loader ≡ length self.old.loaders) }
         ensures ok { OnOk result (self.new ≡ record self.old { loaders = self.old.loaders ++ [] ∷ [] }) }
         ensures in_order { OnOk result (AreInOrder self.old) }

@@ -14,9 +14,6 @@ use jl_class::{ClassFile, FINAL, INTERFACE, PUBLIC, has_flag};
 use jl_names::{Name, package_of};
 use jl_types::{Class, DefineFault, LoaderId};
 
-/// The most classes.
-const MOST_CLASSES: usize = 65_536;
-
 /// A fault of a definition, where a parent stands for its name: by its place among the superclass, if there is one, and the
 /// superinterfaces behind it.
 #[derive(Drop)]
@@ -32,18 +29,23 @@ enum FaultAt {
 }
 
 impl Classes {
-    /// The file of a class that the loader may define (JVMS SE 17 §5.3.5): the first half of [`define`](Classes::define),
+    /// The file of a class that the loader may define (JVMS SE 17 §5.3.5), where there may be so many classes: the first half of [`define`](Classes::define),
     /// for a caller that makes room of its own between the two. Takes no memory.
     ///
     /// # Errors
     ///
     /// The first fault of the definition.
-    pub fn admitted(&self, loader: LoaderId, file: ClassFile) -> Result<ClassFile, DefineFault>
+    pub fn admitted(
+        &self,
+        loader: LoaderId,
+        file: ClassFile,
+        most_classes: u32,
+    ) -> Result<ClassFile, DefineFault>
         ensures same { IfOk result (λ f. f ≡ file) }
-        ensures accepted { OnOk result (definitions.define_fault self.now loader file ≡ None) }
-        ensures fault { IfErr result (λ f. definitions.define_fault self.now loader file ≡ Some f) }
+        ensures accepted { OnOk result (definitions.define_fault most_classes self.now loader file ≡ None) }
+        ensures fault { IfErr result (λ f. definitions.define_fault most_classes self.now loader file ≡ Some f) }
     {
-        match self.fault_at(loader, &file) {
+        match self.fault_at(loader, &file, most_classes as usize) {
             None => Ok(file),
             Some(FaultAt::Plain(fault)) => Err(fault),
             Some(FaultAt::Missing(place)) => {
@@ -58,17 +60,17 @@ impl Classes {
         }
     }
 
-    /// Whether the loader may define the class of the file, for a caller that keeps the file: what [`admitted`](Classes::admitted)
+    /// Whether the loader may define the class of the file, where there may be so many classes, for a caller that keeps the file: what [`admitted`](Classes::admitted)
     /// says of a file that it takes. Takes no memory.
-    pub fn admits(&self, loader: LoaderId, file: &ClassFile) -> bool
-        ensures { result ≡ is_none (definitions.define_fault self.now loader file.now) }
+    pub fn admits(&self, loader: LoaderId, file: &ClassFile, most_classes: u32) -> bool
+        ensures { result ≡ is_none (definitions.define_fault most_classes self.now loader file.now) }
     {
-        self.fault_at(loader, file).is_none()
+        self.fault_at(loader, file, most_classes as usize).is_none()
     }
 
     /// The first fault of the definition.
-    fn fault_at(&self, loader: LoaderId, file: &ClassFile) -> Option<FaultAt>
-        ensures first { definitions.define_fault self.now loader file.now ≡ option_and_then (fault_of file.now) result }
+    fn fault_at(&self, loader: LoaderId, file: &ClassFile, most_classes: usize) -> Option<FaultAt>
+        ensures first { definitions.define_fault most_classes self.now loader file.now ≡ option_and_then (fault_of file.now) result }
         ensures there { IfSome result (IsThere file.now) }
     {
         if let Some(fault) = self.first_fault(loader, file) {
@@ -86,7 +88,7 @@ impl Classes {
         if let Some(place) = self.inaccessible_parent(loader, file) {
             return Some(FaultAt::Closed(place));
         }
-        if self.rows.len() >= MOST_CLASSES {
+        if self.rows.len() >= most_classes {
             return Some(FaultAt::Plain(DefineFault::Full));
         }
         None

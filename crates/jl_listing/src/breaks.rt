@@ -4,7 +4,7 @@ use crate::chosen::Chosen;
 use crate::fault::ReportFault;
 use crate::page::Page;
 use jl_class::ClassFile;
-use jl_report::{Refused, Report};
+use jl_report::{MOST_CLASSES, Refused, Report};
 use jl_types::LoaderId;
 use std::alloc::{AllocError, Global};
 use std::io::Write;
@@ -71,7 +71,10 @@ fn refusals(
     let mut refused = Vec::new(alloc);
     for one in waiting {
         let Waiting { place, file } = one;
-        if let Err(fault) = report.classes().admitted(LoaderId::new(0), file) {
+        if let Err(fault) = report
+            .classes()
+            .admitted(LoaderId::new(0), file, MOST_CLASSES)
+        {
             refused.push(Refused { place, fault })?;
         }
     }

@@ -3,6 +3,7 @@ use Rattle.std.specs.Prelude.{◌≡◌, ℕ, zero, suc, length, ◌||◌, nat_l
 use Rattle.std.specs.Option.{option_map_or}
 use Rattle.std.specs.Bool.{then_some}
 use Rattle.std.proofs.Common.{refl, ap, sym, subst, ◌∙◌}
+use Rattle.jl_types.specs.declared.limits.Limits.{Limits}
 use Rattle.jl_types.specs.declared.event.EventOf.TheVariants as event
 use Rattle.jl_types.specs.declared.event.Made.{Made}
 use Rattle.jl_types.specs.declared.refusal.DelegateFault.TheVariants.{UnknownLoader}
@@ -44,8 +45,8 @@ module _ (cs : Classes) (closed : IsClosed cs) (loader : ℕ) (name : List ℕ) 
       by_found None is = closed
       by_found (Some c) is = closed_with_record cs closed loader name c (closed.records to name c live is)
 
-module _ (max_sites : ℕ) (w : World) (good : IsGood w.classes) (closed : IsClosed w.classes) where
-  closed_after : (e : Event) → IsOk (verdict max_sites w e) → IsClosed (step w e).classes
+module _ (limits : Limits) (w : World) (good : IsGood w.classes) (closed : IsClosed w.classes) where
+  closed_after : (e : Event) → IsOk (verdict limits w e) → IsClosed (step w e).classes
   closed_after event.NewLoader accepted = closed_with_loader w.classes closed
   closed_after (event.Define loader file) accepted = closed_defined w.classes good loader file closed
   closed_after (event.Delegate loader name to) accepted =
@@ -71,13 +72,13 @@ at_first = record {
     nothing zero name c h = cc
     nothing (suc l) name c h = cc
 
-pub legal_closed : (max_sites : ℕ) (entries : List Entry) → IsLegal max_sites entries → IsClosed (world_after (events_of entries)).classes
-legal_closed max_sites = by_entries max_sites (λ entries. IsClosed (world_after (events_of entries)).classes) next at_first
+pub legal_closed : (limits : Limits) (entries : List Entry) → IsLegal limits entries → IsClosed (world_after (events_of entries)).classes
+legal_closed limits = by_entries limits (λ entries. IsClosed (world_after (events_of entries)).classes) next at_first
   where
-    next : (done : List Entry) (entry : Entry) → IsEntry max_sites (events_of done) entry → IsClosed (world_after (events_of done)).classes
+    next : (done : List Entry) (entry : Entry) → IsEntry limits (events_of done) entry → IsClosed (world_after (events_of done)).classes
         → IsClosed (world_after (events_of (done ++ entry ∷ []))).classes
     next done entry is closed =
         let h = events_of done in
-        let accepted = (accepted_of (dropped h entry.event) (verdict max_sites (world_after h) entry.event) entry.reply is.answered).0 in
+        let accepted = (accepted_of (dropped h entry.event) (verdict limits (world_after h) entry.event) entry.reply is.answered).0 in
         subst (λ (w : World). IsClosed w.classes) (sym (ap world_after (events_more done entry) ∙ world_more h entry.event))
-        (closed_after max_sites (world_after h) (world_good h) closed entry.event (subst (λ (r : Result Made Refusal). IsOk r) (sym accepted) refl))
+        (closed_after limits (world_after h) (world_good h) closed entry.event (subst (λ (r : Result Made Refusal). IsOk r) (sym accepted) refl))

@@ -7,6 +7,7 @@ use Rattle.std.specs.Bool.{then_some}
 use Rattle.std.proofs.Common.{refl, ap, sym, ◌∙◌, arith}
 use Rattle.std.proofs.lemmas.Bool.{both_ways, and_parts}
 use Rattle.std.proofs.lemmas.Cmp.{nat_eq_equiv}
+use Rattle.jl_types.specs.declared.limits.Limits.{Limits}
 use Rattle.jl_types.specs.Events.Event.{Event}
 use Rattle.jl_types.specs.declared.event.EventOf.TheVariants as event
 use Rattle.jl_types.specs.declared.event.Made.{Made}
@@ -82,19 +83,19 @@ module _ (w : World) (order : AreInOrder w.classes) where
   ordered_after (event.Install rows) = order.ordered
   ordered_after (event.Retire loader) = order.ordered
 
-  pub closed_after : (max_sites : ℕ) (e : Event) → IsOk (verdict max_sites w e) → IsClosed (step w e).classes
-  closed_after max_sites event.NewLoader accepted = closed_with_loader w.classes order.closed
-  closed_after max_sites (event.Define loader file) accepted = closed_defined w.classes (good w.classes order) loader file order.closed
-  closed_after max_sites (event.Delegate loader name to) accepted =
+  pub closed_after : (limits : Limits) (e : Event) → IsOk (verdict limits w e) → IsClosed (step w e).classes
+  closed_after limits event.NewLoader accepted = closed_with_loader w.classes order.closed
+  closed_after limits (event.Define loader file) accepted = closed_defined w.classes (good w.classes order) loader file order.closed
+  closed_after limits (event.Delegate loader name to) accepted =
       closed_delegated w.classes order loader name to (no_fault Delegate (delegate_fault w.classes loader name to) _ accepted)
-  closed_after max_sites (event.Request place) accepted = order.closed
-  closed_after max_sites (event.NewCallSite kind ty t) accepted = order.closed
-  closed_after max_sites (event.SetTarget c t) accepted = order.closed
-  closed_after max_sites event.NewSwitch accepted = order.closed
-  closed_after max_sites (event.Invalidate points) accepted = order.closed
-  closed_after max_sites (event.Bind s c) accepted = order.closed
-  closed_after max_sites (event.Install rows) accepted = order.closed
-  closed_after max_sites (event.Retire loader) accepted =
+  closed_after limits (event.Request place) accepted = order.closed
+  closed_after limits (event.NewCallSite kind ty t) accepted = order.closed
+  closed_after limits (event.SetTarget c t) accepted = order.closed
+  closed_after limits event.NewSwitch accepted = order.closed
+  closed_after limits (event.Invalidate points) accepted = order.closed
+  closed_after limits (event.Bind s c) accepted = order.closed
+  closed_after limits (event.Install rows) accepted = order.closed
+  closed_after limits (event.Retire loader) accepted =
       closed_retired w.classes order.ordered order.closed loader (free_classes w loader (no_fault Retire (retire_fault w loader) _ accepted))
 
   -- a site that the event doesn't retire is as present as before

@@ -3,6 +3,7 @@ use Rattle.std.specs.Prelude.{◌≡◌, ℕ, zero, suc, nat_lt, true, false, Li
 use Rattle.std.specs.List.{list_all}
 use Rattle.std.specs.Option.{option_map_or}
 use Rattle.std.proofs.Common.{refl, ap, sym, subst, ◌∙◌}
+use Rattle.jl_types.specs.declared.limits.Limits.{Limits}
 use Rattle.jl_class.specs.Class.{ClassFile}
 use Rattle.jl_class.specs.Flags.{extends_object}
 use Rattle.jl_types.specs.Events.Event.{Event}
@@ -18,7 +19,7 @@ use Rattle.jl_types.proofs.Bools.{first_test, second_test}
 use Rattle.jl_types.proofs.Places.{world_more}
 use Rattle.jl_types.proofs.Lists.{all_set}
 use Rattle.jl_types.proofs.Orders.{AreBelow, IsGood, looked_up, recorded_below, defined_good, with_loader}
-use Rattle.jl_hierarchy.specs.Constancy.{has_object, IsClosed, AreInOrder}
+use Rattle.jl_hierarchy.specs.Constancy.{has_object, IsClosed, AreInOrder, MayDefine}
 use Rattle.jl_hierarchy.proofs.Finals.{still_extended}
 use Rattle.jl_hierarchy.proofs.LoaderGone.{first_retired}
 use Rattle.jl_hierarchy.proofs.Objects.{first_with_record, first_with_loader, first_defined}
@@ -36,20 +37,23 @@ use Rattle.jl_relink.proofs.Paths.{invalidated_length}
 
 -- ---- one event
 
-module _ (max_sites : ℕ) (w : World) (order : IsInOrder w) where
-  of_define : (loader : ℕ) (file : ClassFile) → IsOk (verdict max_sites w (event.Define loader file)) → extends_object file.flags file.superclass ≡ true
+module _ (limits : Limits) (w : World) (order : IsInOrder w) where
+  of_define : (loader : ℕ) (file : ClassFile) → IsOk (verdict limits w (event.Define loader file)) → extends_object file.flags file.superclass ≡ true
       → AreInOrder (step w (event.Define loader file)).classes
   of_define loader file accepted read =
       let good : IsGood w.classes = record { there = order.classes.there; ordered = order.classes.ordered } in
       let more = defined_good w.classes good loader file in
+      let free : MayDefine w.classes loader file = record {
+        most_classes = limits.classes;
+        accepted = no_fault Define (define_fault limits.classes w.classes loader file) _ accepted;
+      } in
       record {
         there = more.there;
         ordered = more.ordered;
         extended =
-            still_extended w.classes good order.classes.extended loader file
-            (no_fault Define (define_fault w.classes loader file) _ accepted);
-        object = first_defined w.classes order.classes.object loader file (no_fault Define (define_fault w.classes loader file) _ accepted) read;
-        closed = closed_after w order.classes max_sites (event.Define loader file) accepted;
+            still_extended w.classes good order.classes.extended loader file free;
+        object = first_defined w.classes order.classes.object loader file free read;
+        closed = closed_after w order.classes limits (event.Define loader file) accepted;
       }
 
   of_delegate : (loader : ℕ) (name : List ℕ) (to : ℕ) → IsClosed (delegated w.classes loader name to) → AreInOrder (delegated w.classes loader name to)
@@ -69,14 +73,14 @@ module _ (max_sites : ℕ) (w : World) (order : IsInOrder w) where
             closed = closed;
           }
 
-  in_order_after : (e : Event) → IsOk (verdict max_sites w e) → has_read_file e ≡ true → IsInOrder (step w e)
+  in_order_after : (e : Event) → IsOk (verdict limits w e) → has_read_file e ≡ true → IsInOrder (step w e)
   in_order_after event.NewLoader accepted read = record {
     classes = record {
       there = with_loader (length w.classes.rows) w.classes.loaders order.classes.there;
       ordered = order.classes.ordered;
       extended = order.classes.extended;
       object = first_with_loader w.classes order.classes.object;
-      closed = closed_after w order.classes max_sites event.NewLoader accepted;
+      closed = closed_after w order.classes limits event.NewLoader accepted;
     };
     points = order.points;
   }
@@ -85,7 +89,7 @@ module _ (max_sites : ℕ) (w : World) (order : IsInOrder w) where
     points = order.points;
   }
   in_order_after (event.Delegate loader name to) accepted read = record {
-    classes = of_delegate loader name to (closed_after w order.classes max_sites (event.Delegate loader name to) accepted);
+    classes = of_delegate loader name to (closed_after w order.classes limits (event.Delegate loader name to) accepted);
     points = order.points;
   }
   in_order_after (event.Request place) accepted read = record { classes = order.classes; points = order.points }
@@ -93,7 +97,7 @@ module _ (max_sites : ℕ) (w : World) (order : IsInOrder w) where
     classes = order.classes;
     points =
         one_more_known (length w.sites.switches) w.sites.call_sites (record { kind = kind; ty = ty; target = t }) order.points
-        (site_points w ty t (no_fault CallSite (new_call_site_fault w ty t) _ accepted));
+        (site_points limits.call_sites w ty t (no_fault CallSite (new_call_site_fault limits.call_sites w ty t) _ accepted));
   }
   in_order_after (event.SetTarget c t) accepted read = record {
     classes = order.classes;
@@ -114,20 +118,20 @@ module _ (max_sites : ℕ) (w : World) (order : IsInOrder w) where
       ordered = order.classes.ordered;
       extended = order.classes.extended;
       object = first_retired w.classes loader (free_classes w loader (no_fault Retire (retire_fault w loader) _ accepted)) order.classes.object;
-      closed = closed_after w order.classes max_sites (event.Retire loader) accepted;
+      closed = closed_after w order.classes limits (event.Retire loader) accepted;
     };
     points = order.points;
   }
 
 -- ---- all events
 
-from : (max_sites : ℕ) (h : List Event) (w : World) → IsInOrder w
-    → ((n : ℕ) (e : Event) → slice_get h n ≡ Some e → IsOk (verdict max_sites (fold step w (take n h)) e)) → list_all has_read_file h ≡ true
+from : (limits : Limits) (h : List Event) (w : World) → IsInOrder w
+    → ((n : ℕ) (e : Event) → slice_get h n ≡ Some e → IsOk (verdict limits (fold step w (take n h)) e)) → list_all has_read_file h ≡ true
     → IsInOrder (fold step w h)
-from max_sites [] w order each files = order
-from max_sites (e ∷ h) w order each files =
-    from max_sites h (step w e)
-    (in_order_after max_sites w order e (each 0 e refl) (first_test (has_read_file e) (list_all has_read_file h) files))
+from limits [] w order each files = order
+from limits (e ∷ h) w order each files =
+    from limits h (step w e)
+    (in_order_after limits w order e (each 0 e refl) (first_test (has_read_file e) (list_all has_read_file h) files))
     (λ n f at. each (suc n) f at) (second_test (has_read_file e) (list_all has_read_file h) files)
 
 at_first : IsInOrder nothing_yet
@@ -154,12 +158,12 @@ at_first = record {
     nothing zero name c h = cc
     nothing (suc l) name c h = cc
 
-pub accepted_in_order : (max_sites : ℕ) (h : List Event) → AreAccepted max_sites h → IsInOrder (world_after h)
-accepted_in_order max_sites h all = from max_sites h nothing_yet at_first all.each all.files
+pub accepted_in_order : (limits : Limits) (h : List Event) → AreAccepted limits h → IsInOrder (world_after h)
+accepted_in_order limits h all = from limits h nothing_yet at_first all.each all.files
 
-pub settled_stays : (max_sites : ℕ) (h : List Event) (e : Event) (s : ℕ) (l : Link) → AreAccepted max_sites h → IsOk (verdict max_sites (world_after h) e)
+pub settled_stays : (limits : Limits) (h : List Event) (e : Event) (s : ℕ) (l : Link) → AreAccepted limits h → IsOk (verdict limits (world_after h) e)
     → Settled h s l
     → retires (world_after h) e s ≡ false → touches (world_after h) e s ≡ false → SiteStays (world_after h) (world_after (h ++ e ∷ [])) s l
-settled_stays max_sites h e s l all accepted settled left none =
+settled_stays limits h e s l all accepted settled left none =
     subst (λ (w : World). SiteStays (world_after h) w s l) (sym (world_more h e))
-    (untouched_stays max_sites (world_after h) (accepted_in_order max_sites h all) e s l accepted left none (settled_now h s l settled))
+    (untouched_stays limits (world_after h) (accepted_in_order limits h all) e s l accepted left none (settled_now h s l settled))

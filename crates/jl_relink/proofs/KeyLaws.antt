@@ -5,6 +5,7 @@ use Rattle.std.proofs.Common.{refl, ap, sym, ◌∙◌}
 use Rattle.std.proofs.lemmas.Bool.{both_ways}
 use Rattle.std.proofs.lemmas.Cmp.{nat_eq_equiv}
 use Rattle.std.proofs.lemmas.Option.{slice_get_within}
+use Rattle.jl_types.specs.declared.limits.Limits.{Limits}
 use Rattle.jl_class.specs.Class.{ClassFile}
 use Rattle.jl_class.specs.Flags.{object}
 use Rattle.jl_types.specs.declared.ids.MethodId.{MethodId}
@@ -106,7 +107,7 @@ module _ (w : World) (order : IsInOrder w) where
         → SiteStays w after s l
     of_rows after later same e = let one = site_keeps w after s later (λ c h. same c) l e in record { link = one.0; rests_on = one.1 }
 
-    untouched : (m : ℕ) (e : Event) → IsOk (verdict m w e) → retires w e s ≡ false → touches w e s ≡ false → scratch w s ≡ Ok l → SiteStays w (step w e) s l
+    untouched : (m : Limits) (e : Event) → IsOk (verdict m w e) → retires w e s ≡ false → touches w e s ≡ false → scratch w s ≡ Ok l → SiteStays w (step w e) s l
     untouched m event.NewLoader accepted left none =
         of_rows (step w event.NewLoader) (record {
           good = good;
@@ -224,7 +225,7 @@ module _ (w : World) (order : IsInOrder w) where
         }) (λ c h. receivers_left_stay w.classes good.ordered loader c (apart (footprint w s) (keys w (event.Retire loader)) (key.Receivers c) none h)) l e in
         record { link = one.0; rests_on = one.1 }
 
-pub untouched_stays : (max_sites : ℕ) (w : World) → IsInOrder w → (e : Event) (s : ℕ) (l : Link) → IsOk (verdict max_sites w e) → retires w e s ≡ false
+pub untouched_stays : (limits : Limits) (w : World) → IsInOrder w → (e : Event) (s : ℕ) (l : Link) → IsOk (verdict limits w e) → retires w e s ≡ false
     → touches w e s ≡ false
     → scratch w s ≡ Ok l → SiteStays w (step w e) s l
-untouched_stays max_sites w order e s l accepted left none = untouched w order s l max_sites e accepted left none
+untouched_stays limits w order e s l accepted left none = untouched w order s l limits e accepted left none

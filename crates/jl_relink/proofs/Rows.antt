@@ -2,6 +2,7 @@
 use Rattle.std.specs.Prelude.{◌≡◌, ◌<◌, ℕ, zero, suc, true, false, List, [], ◌∷◌, ◌++◌, take, slice_get, Some, Result, Ok, IsOk, codes, refl}
 use Rattle.std.proofs.Common.{ap, sym, subst, ◌∙◌, arith}
 use Rattle.std.proofs.lemmas.Option.{same_Some}
+use Rattle.jl_types.specs.Events.Limits.{fixed}
 use Rattle.jl_class.specs.Class.{ClassFile, Method}
 use Rattle.jl_class.specs.declared.site.Kind.{Kind}
 use Rattle.jl_class.specs.declared.site.Kind.TheVariants.{Virtual, Special, Static}
@@ -196,24 +197,24 @@ does_not_run_it h = let e = h by_virtual refl (λ e. cc) in cc
 abbrev classes : List Event
 classes = object ∷ Define 0 (below (codes "java/lang/Object") (codes "A") []) ∷ []
 
-two_classes : AreAccepted 1 classes
+two_classes : AreAccepted (fixed 1) classes
 two_classes = record { each = each; files = refl }
   where
-    each : (k : ℕ) (e : Event) → slice_get classes k ≡ Some e → IsOk (verdict 1 (world_after (take k classes)) e)
-    each zero e at = subst (λ (e : Event). IsOk (verdict 1 nothing_yet e)) (same_Some _ e at) refl
-    each (suc zero) e at = subst (λ (e : Event). IsOk (verdict 1 (world_after (object ∷ [])) e)) (same_Some _ e at) refl
+    each : (k : ℕ) (e : Event) → slice_get classes k ≡ Some e → IsOk (verdict (fixed 1) (world_after (take k classes)) e)
+    each zero e at = subst (λ (e : Event). IsOk (verdict (fixed 1) nothing_yet e)) (same_Some _ e at) refl
+    each (suc zero) e at = subst (λ (e : Event). IsOk (verdict (fixed 1) (world_after (object ∷ [])) e)) (same_Some _ e at) refl
     each (suc (suc k)) e at = cc
 
 -- the second one is refused
-no_such_parent : ¬ AreAccepted 1 (object ∷ Define 0 own ∷ [])
+no_such_parent : ¬ AreAccepted (fixed 1) (object ∷ Define 0 own ∷ [])
 no_such_parent h = let e = h.each 1 (Define 0 own) refl in cc
 
 -- no site more than there may be
-too_many_sites : ¬ AreAccepted 0 (events Virtual)
+too_many_sites : ¬ AreAccepted (fixed 0) (events Virtual)
 too_many_sites h = let e = h.each 4 (Request (record { class = 3; method = 0; pc = 0 })) refl in cc
 
 -- an interface that doesn't extend java/lang/Object
-not_read : ¬ AreAccepted 1 (object ∷ Define 0 (file (codes "I") 1537 []) ∷ [])
+not_read : ¬ AreAccepted (fixed 1) (object ∷ Define 0 (file (codes "I") 1537 []) ∷ [])
 not_read h = let e = h.files in cc
 
 -- ---- the order of classes and points

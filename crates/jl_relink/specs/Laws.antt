@@ -1,6 +1,7 @@
 -- Which events change no link, and what a link rests on.
 use Rattle.std.specs.Prelude.{◌≡◌, ◌≢◌, ◌&&◌, ℕ, nat_lt, length, Bool, true, false, List, take, slice_get, Some, Ok, IsOk}
 use Rattle.std.specs.List.{list_all}
+use Rattle.jl_types.specs.declared.limits.Limits.{Limits}
 use Rattle.jl_class.specs.Flags.{extends_object}
 use Rattle.jl_types.specs.Events.Event.{Event}
 use Rattle.jl_types.specs.declared.event.EventOf.TheVariants as event
@@ -54,8 +55,8 @@ has_read_file (event.Define loader file) = extends_object file.flags file.superc
 has_read_file _ = true
 
 -- Each event was accepted after those before it, where at most so many sites may be requested, and each file was read.
-pub record AreAccepted (max_sites : ℕ) (h : List Event) : Type 0 where
-  pub each : (n : ℕ) (e : Event) → slice_get h n ≡ Some e → IsOk (verdict max_sites (world_after (take n h)) e)
+pub record AreAccepted (limits : Limits) (h : List Event) : Type 0 where
+  pub each : (n : ℕ) (e : Event) → slice_get h n ≡ Some e → IsOk (verdict limits (world_after (take n h)) e)
   pub files : list_all has_read_file h ≡ true
 
 -- the event changes which classes are receivers

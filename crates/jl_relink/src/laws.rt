@@ -1,6 +1,7 @@
 //! The laws of links: each is the contract of a function that does nothing.
 
 ghost use Rattle.std.specs.Prelude.{◌≡◌, ℕ, ◌++◌, ◌∷◌, [], List, Ok, IsOk, true, false};
+ghost use Rattle.jl_types.specs.declared.limits.Limits.{Limits};
 ghost use Rattle.jl_types.specs.Events.Event.{Event};
 ghost use Rattle.jl_types.specs.declared.event.EventOf.TheVariants as event;
 ghost use Rattle.jl_types.specs.declared.ids.Place.{Place};
@@ -34,16 +35,16 @@ pub fn links_stay()
 /// An accepted event that changes nothing of what a site's link rests on, and doesn't retire the site, leaves the link, and what it
 /// rests on: after accepted events that of a settled site, and in any world whose classes came in order that of a site that has one.
 pub fn untouched_links_stay()
-    ensures settled { (max_sites : ℕ) (h : List Event) (e : Event) (s : ℕ) (l : Link) → AreAccepted max_sites h
-        → IsOk (verdict max_sites (world_after h) e) → Settled h s l → retires (world_after h) e s ≡ false
+    ensures settled { (limits : Limits) (h : List Event) (e : Event) (s : ℕ) (l : Link) → AreAccepted limits h
+        → IsOk (verdict limits (world_after h) e) → Settled h s l → retires (world_after h) e s ≡ false
         → touches (world_after h) e s ≡ false → SiteStays (world_after h) (world_after (h ++ e ∷ [])) s l }
-    ensures linked { (max_sites : ℕ) (w : World) (e : Event) (s : ℕ) (l : Link) → IsInOrder w → IsOk (verdict max_sites w e)
+    ensures linked { (limits : Limits) (w : World) (e : Event) (s : ℕ) (l : Link) → IsInOrder w → IsOk (verdict limits w e)
         → retires w e s ≡ false → touches w e s ≡ false → scratch w s ≡ Ok l → SiteStays w (step w e) s l }
 {}
 
 /// After accepted events classes came in order, and each guard has its switch point and each invoker its call site.
 pub fn accepted_events_are_in_order()
-    ensures { (max_sites : ℕ) (h : List Event) → AreAccepted max_sites h → IsInOrder (world_after h) }
+    ensures { (limits : Limits) (h : List Event) → AreAccepted limits h → IsInOrder (world_after h) }
 {}
 
 /// Whether the link of a site that a definition touches stays is told by the link and by what the new class comes to as a receiver,

@@ -13,17 +13,17 @@ use Rattle.jl_types.specs.declared.key.Key.TheVariants as key
 use Rattle.jl_types.specs.Values.World.{Class, Classes}
 use Rattle.jl_types.specs.Values.Members.{is_concrete}
 use Rattle.jl_types.specs.Values.Ancestry.{IsAncestor, itself, over, is_ancestor, ancestors}
-use Rattle.jl_types.specs.Events.Definitions.{FINAL, define_fault, defined}
+use Rattle.jl_types.specs.Events.Definitions.{FINAL, defined}
 use Rattle.jl_types.specs.Events.Footprints.{same_key, has_key, meets, of_class}
 use Rattle.jl_types.proofs.Ancestors.{ancestor_decides}
 use Rattle.jl_types.proofs.Bools.{any-map}
 use Rattle.jl_types.proofs.Grown.{among_ancestors}
 use Rattle.jl_types.proofs.Orders.{IsGood, defined_good}
-use Rattle.jl_hierarchy.specs.Constancy.{AreInOrder, ExtendNoFinal, may_be_extended}
+use Rattle.jl_hierarchy.specs.Constancy.{AreInOrder, ExtendNoFinal, may_be_extended, MayDefine}
 use Rattle.jl_hierarchy.proofs.Finals.{same_extended, still_extended}
 use Rattle.jl_report.specs.Drops.{may_grow}
 
-module _ (cs : Classes) (order : AreInOrder cs) (loader : ℕ) (file : ClassFile) (accepted : define_fault cs loader file ≡ None) where
+module _ (cs : Classes) (order : AreInOrder cs) (loader : ℕ) (file : ClassFile) (accepted : MayDefine cs loader file) where
   abbrev new : Classes
   new = defined cs loader file
 

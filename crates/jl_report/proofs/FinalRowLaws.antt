@@ -50,6 +50,7 @@ use Rattle.jl_report.specs.Drops.{keys_of, row_now, now_without, now_changed}
 use Rattle.jl_report.specs.Methods.{looked_at, run_by_link, run_by}
 use Rattle.jl_report.specs.Finals.{FINAL, AreDerived}
 use Rattle.jl_report.specs.Finals.{is_final_in, is_final_call}
+use Rattle.jl_report.specs.Gathering.{most_classes}
 use Rattle.jl_report.proofs.FinalCallLaws.{IsFinalIn, final_in, final_mark, overrides_itself, settled, no_run, runs_first}
 use Rattle.jl_report.proofs.FindingLaws.{in_world}
 use Rattle.jl_report.proofs.OverrideLaws.{first_declared, runs_final}
@@ -66,7 +67,7 @@ upward_there cs c m h = by_row (slice_get cs.rows c) refl
         let other : false ≡ true = sym (ap (list_any (λ k. k == m.class)) none) ∙ h in cc
     by_row (Some row) is = slice_get_within cs.rows c row is
 
-module _ (cs : Classes) (file : ClassFile) (order : AreInOrder cs) (accepted : define_fault cs 0 file ≡ None) where
+module _ (cs : Classes) (file : ClassFile) (order : AreInOrder cs) (accepted : define_fault most_classes cs 0 file ≡ None) where
   abbrev after : Classes
   after = defined cs 0 file
 

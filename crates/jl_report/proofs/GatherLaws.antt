@@ -12,7 +12,7 @@ use Rattle.jl_types.specs.Values.World.{Classes}
 use Rattle.jl_types.specs.Events.Definitions.{define_fault, defined}
 use Rattle.jl_report.specs.declared.defining.Refused.{Refused}
 use Rattle.jl_report.specs.declared.defining.Waiting.{Waiting}
-use Rattle.jl_report.specs.Gathering.{Gathers, ends, defines, numbers, IsRefused}
+use Rattle.jl_report.specs.Gathering.{most_classes, Gathers, ends, defines, numbers, IsRefused}
 use Rattle.jl_report.specs.ForProofs.Waiting.{AreOf, AreStuck, places}
 
 -- what leads from these waiting files in the end leads there from those at the beginning
@@ -78,7 +78,7 @@ begun cs before =
 
 -- the next one is left
 pub one_left : (first : Classes) (before : List Waiting) (old new : Classes) (waiting : List Waiting) (one : Waiting) (left : List Waiting)
-    → SoFar first before old (waiting ++ one ∷ []) left → is_some (define_fault old 0 one.file) ≡ true → new ≡ old
+    → SoFar first before old (waiting ++ one ∷ []) left → is_some (define_fault most_classes old 0 one.file) ≡ true → new ≡ old
     → SoFar first before new waiting (left ++ one ∷ [])
 one_left first before old new waiting one left s barred is =
     subst (λ cs. SoFar first before cs waiting (left ++ one ∷ [])) (sym is) (record {
@@ -93,7 +93,7 @@ one_left first before old new waiting one left s barred is =
 
 -- the next one becomes a class
 pub one_defined : (first : Classes) (before : List Waiting) (old new : Classes) (waiting : List Waiting) (one : Waiting) (left : List Waiting)
-    → SoFar first before old (waiting ++ one ∷ []) left → define_fault old 0 one.file ≡ None → new ≡ defined old 0 one.file
+    → SoFar first before old (waiting ++ one ∷ []) left → define_fault most_classes old 0 one.file ≡ None → new ≡ defined old 0 one.file
     → SoFar first before new waiting left
 one_defined first before old new waiting one left s free is =
     subst (λ cs. SoFar first before cs waiting left) (sym is) (record {
@@ -183,7 +183,7 @@ one_told cs before waiting one refused r so place is = record {
       ∙ sym (ap (λ (xs : List ℕ). numbers refused ++ xs)
       (ap reverse (map-append (λ (w : Waiting). w.place) waiting (one ∷ [])) ∙ last_first (places waiting) one.place))
       ∙ so.places;
-  stuck = All-front (λ (w : Waiting). is_some (define_fault cs 0 w.file) ≡ true) waiting (one ∷ []) so.stuck;
+  stuck = All-front (λ (w : Waiting). is_some (define_fault most_classes cs 0 w.file) ≡ true) waiting (one ∷ []) so.stuck;
   told = λ files of.
       let both = so.told files of in (
         All-front (λ (w : Waiting). slice_get files w.place ≡ Some w.file) waiting (one ∷ []) both.0,
@@ -192,8 +192,8 @@ one_told cs before waiting one refused r so place is = record {
       );
 }
 
-pub is_stuck : (cs : Classes) (waiting : List Waiting) (one : Waiting) → AreStuck cs (waiting ++ one ∷ []) → is_some (define_fault cs 0 one.file) ≡ true
-is_stuck cs waiting one all = (All-back (λ (w : Waiting). is_some (define_fault cs 0 w.file) ≡ true) waiting (one ∷ []) all).0
+pub is_stuck : (cs : Classes) (waiting : List Waiting) (one : Waiting) → AreStuck cs (waiting ++ one ∷ []) → is_some (define_fault most_classes cs 0 one.file) ≡ true
+is_stuck cs waiting one all = (All-back (λ (w : Waiting). is_some (define_fault most_classes cs 0 w.file) ≡ true) waiting (one ∷ []) all).0
 
 pub all_told : (cs : Classes) (before : List Waiting) (refused : List Refused) → AreToldOf cs before [] refused → numbers refused ≡ reverse (places before)
 all_told cs before refused told = sym (append-nil (numbers refused)) ∙ told.places

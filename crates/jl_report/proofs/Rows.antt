@@ -38,6 +38,7 @@ use Rattle.jl_report.specs.Methods.{is_same, distinct, run_of, run_by, looked_at
 use Rattle.jl_report.specs.Finals.{overrides_final, some_overrides_final, AreDerived, is_final_call}
 use Rattle.jl_report.specs.Made.{class_of, named_result, made, meets_made, marks_of, meets_marks}
 use Rattle.jl_report.specs.Totals.{shape_of, column, count, told, largest}
+use Rattle.jl_report.specs.Gathering.{most_classes}
 
 -- the invocation of this by the first method of class 2
 abbrev invoking : Kind → Reference (List ℕ) → Invocation
@@ -289,7 +290,7 @@ added = (refl, refl, refl, refl)
 given_back : IsAdded (with_a 49) (with_a 49) (further []) (of_a 49 ∷ []) (of_a 49 ∷ []) [] [] (Some (further []))
 given_back = (refl, refl, refl, refl, refl)
 
-final_super : define_fault (with_a 49) 0 (further []) ≡ Some FinalSuper
+final_super : define_fault most_classes (with_a 49) 0 (further []) ≡ Some FinalSuper
 final_super = refl
 
 -- C 3 below a FINAL A

@@ -16,11 +16,12 @@ use Rattle.jl_types.specs.declared.event.Made.TheVariants as made
 use Rattle.jl_types.specs.Values.World.{World, Classes}
 use Rattle.jl_types.specs.Linkage.Links.{scratch}
 use Rattle.jl_types.specs.Events.Definitions.{define_fault, defined}
+use Rattle.jl_types.specs.Events.Limits.{fixed}
 use Rattle.jl_types.specs.Events.Verdict.{verdict, unless}
 use Rattle.jl_types.specs.Events.Footprints.{footprint, meets}
 use Rattle.jl_types.specs.Events.History.{is_link}
 use Rattle.jl_types.proofs.Installed.{is_link_decides}
-use Rattle.jl_hierarchy.specs.Constancy.{AreInOrder}
+use Rattle.jl_hierarchy.specs.Constancy.{AreInOrder, MayDefine}
 use Rattle.jl_relink.specs.Laws.{IsInOrder, SiteStays}
 use Rattle.jl_relink.proofs.KeyLaws.{untouched_stays}
 use Rattle.jl_relink.proofs.OneReceiver.{one_more}
@@ -30,20 +31,24 @@ use Rattle.jl_report.specs.declared.row.Finding.TheVariants as finding
 use Rattle.jl_report.specs.declared.invocation.Invocation.{Invocation}
 use Rattle.jl_report.specs.Reports.{asking, found, finding_in, rests_on, row_of}
 use Rattle.jl_report.specs.Drops.{keys_of, row_now, now_without, now_changed, has_changing_link, may_grow, is_open}
+use Rattle.jl_report.specs.Gathering.{most_classes}
 use Rattle.jl_report.proofs.FinalLaws.{none_met, closed_keys}
 
 found_is : (r : Result Link Unlinked) (l : Link) → found r ≡ finding.Linked l → r ≡ Ok l
 found_is (Ok m) l e = cc
 found_is (Err reason) l e = cc
 
-module _ (cs : Classes) (file : ClassFile) (order : AreInOrder cs) (accepted : define_fault cs 0 file ≡ None) where
+module _ (cs : Classes) (file : ClassFile) (order : AreInOrder cs) (accepted : define_fault most_classes cs 0 file ≡ None) where
   abbrev after : Classes
   after = defined cs 0 file
+
+  may_define : MayDefine cs 0 file
+  may_define = record { most_classes = most_classes; accepted = accepted }
 
   in_order : (place : Place) → IsInOrder (asking cs place)
   in_order place = record { classes = order; points = refl }
 
-  is_accepted : (place : Place) → IsOk (verdict 0 (asking cs place) (event.Define 0 file))
+  is_accepted : (place : Place) → IsOk (verdict (fixed 0) (asking cs place) (event.Define 0 file))
   is_accepted place =
       ap (λ (o : Option DefineFault). is_ok (unless (option_map refusal.Define o) (made.Class (length cs.rows)))) accepted
 
@@ -55,7 +60,7 @@ module _ (cs : Classes) (file : ClassFile) (order : AreInOrder cs) (accepted : d
     new = asking after place
 
     untouched : (l : Link) → meets (footprint old 0) (keys_of cs file) ≡ false → scratch old 0 ≡ Ok l → SiteStays old new 0 l
-    untouched l none is = untouched_stays 0 old (in_order place) (event.Define 0 file) 0 l (is_accepted place) refl none is
+    untouched l none is = untouched_stays (fixed 0) old (in_order place) (event.Define 0 file) 0 l (is_accepted place) refl none is
 
     kept : (l : Link) → meets (footprint old 0) (keys_of cs file) ≡ true → scratch old 0 ≡ Ok l → is_link (scratch new 0) l ≡ true → SiteStays old new 0 l
     kept l met is same = record {
@@ -150,7 +155,7 @@ module _ (cs : Classes) (file : ClassFile) (order : AreInOrder cs) (accepted : d
         → (if meets ks (keys_of cs file) then now_without after row f else None) ≡ None
     unmet f ks e =
         ap (λ (b : Bool). if b then now_without after row f else None)
-        (none_met cs order 0 file accepted ks e)
+        (none_met cs order 0 file may_define ks e)
 
     by_finding : (f : Finding) (ks : List Key) → row.finding ≡ f → row.rests_on ≡ ks → (has_changing_link f && list_any (may_grow cs) ks) ≡ false
         → (if meets ks (keys_of cs file) then now_without after row f else None) ≡ None
@@ -170,7 +175,7 @@ module _ (cs : Classes) (file : ClassFile) (order : AreInOrder cs) (accepted : d
     closed_stays l linked e = undropped_row l linked (closed_row e)
 
     still_closed : (b : Bool) (ks : List Key) → (b && list_any (may_grow cs) ks) ≡ false → (b && list_any (may_grow after) ks) ≡ false
-    still_closed true ks e = closed_keys cs order 0 file accepted ks e
+    still_closed true ks e = closed_keys cs order 0 file may_define ks e
     still_closed false ks e = refl
 
     pub remains_closed : (l : Link) → row.finding ≡ finding.Linked l → is_open cs row ≡ false → is_open after (row_of after invocation) ≡ false

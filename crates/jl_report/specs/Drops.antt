@@ -18,6 +18,7 @@ use Rattle.jl_report.specs.declared.row.Finding.{Finding}
 use Rattle.jl_report.specs.declared.row.Finding.TheVariants as finding
 use Rattle.jl_report.specs.declared.breaking.Dropped.{Dropped}
 use Rattle.jl_report.specs.Reports.{asking, found, row_with}
+use Rattle.jl_report.specs.Gathering.{most_classes}
 
 -- what the class changes that loader 0 makes of the file behind these: the keys of its definition
 abbrev pub keys_of : Classes → ClassFile → List Key
@@ -52,9 +53,9 @@ left_among cs keys rows = filter (λ row. is_none (now_changed cs keys row)) row
 -- were told before, and the others are left; else the file is given back, and nothing changed.
 abbrev pub IsAdded : Classes → Classes → ClassFile → List Row → List Row → List Dropped → List Dropped → Option ClassFile → Type 0
 IsAdded old new file rows left earlier told (Some back) =
-    (back ≡ file) × (is_some (define_fault old 0 file) ≡ true) × (new ≡ old) × (left ≡ rows) × (told ≡ earlier)
+    (back ≡ file) × (is_some (define_fault most_classes old 0 file) ≡ true) × (new ≡ old) × (left ≡ rows) × (told ≡ earlier)
 IsAdded old new file rows left earlier told None =
-    (define_fault old 0 file ≡ None) × (new ≡ defined old 0 file) × (left ≡ left_among new (keys_of old file) rows)
+    (define_fault most_classes old 0 file ≡ None) × (new ≡ defined old 0 file) × (left ≡ left_among new (keys_of old file) rows)
     × (told ≡ earlier ++ dropped_among new (keys_of old file) rows)
 
 -- ---- which a further class may drop at all

@@ -5,13 +5,16 @@ ghost use Rattle.std.specs.List.{range_with_len};
 ghost use Rattle.jl_class.specs.Class.{ClassFile};
 ghost use Rattle.jl_types.specs.Values.World as world;
 ghost use Rattle.jl_types.specs.Events.Definitions.{define_fault, defined};
-ghost use Rattle.jl_report.specs.Gathering.{Gathers, IsRefused, numbers};
+ghost use Rattle.jl_report.specs.Gathering.{most_classes, Gathers, IsRefused, numbers};
 ghost use Rattle.jl_report.specs.ForProofs.Waiting.{AreOf, AreStuck, IsTried, places};
 
 use jl_class::ClassFile;
 use jl_hierarchy::Classes;
 use jl_types::{DefineFault, LoaderId};
 use std::alloc::{AllocError, Global};
+
+/// The most classes of a report.
+pub const MOST_CLASSES: u32 = 65_536;
 
 /// Why the file at this place makes no class.
 #[derive(Debug, Drop)]
@@ -36,9 +39,9 @@ pub(crate) fn first_loader() -> LoaderId
 
 /// Whether loader 0 may not define the class of the file.
 pub(crate) fn is_barred(classes: &Classes, file: &ClassFile) -> bool
-    ensures { result ≡ is_some (define_fault classes.now 0 file.now) }
+    ensures { result ≡ is_some (define_fault most_classes classes.now 0 file.now) }
 {
-    !classes.admits(first_loader(), file)
+    !classes.admits(first_loader(), file, MOST_CLASSES)
 }
 
 /// Loader 0 makes classes of these files, beside those that are there, and of the files that are told it makes none: in the end it may
@@ -128,7 +131,7 @@ pub(crate) fn define_one(
     classes: &mut Classes,
     file: ClassFile,
 ) -> Result<(), AllocError>
-    requires { define_fault classes.old 0 file ≡ None }
+    requires { define_fault most_classes classes.old 0 file ≡ None }
     ensures { OnOk result (classes.new ≡ defined classes.old 0 file) }
 {
     let _class = classes.add(alloc, first_loader(), file)?;
@@ -156,12 +159,14 @@ fn refusals(
 
 /// Why loader 0 may not define the file.
 fn refusal(classes: &Classes, one: Waiting) -> Refused
-    requires { is_some (define_fault classes.now 0 one.file) ≡ true }
+    requires { is_some (define_fault most_classes classes.now 0 one.file) ≡ true }
     ensures place { result.place ≡ one.place }
     ensures fault { (files : List ClassFile) → slice_get files one.place ≡ Some one.file → IsRefused files classes.now result }
 {
     Refused {
         place: one.place,
-        fault: classes.admitted(first_loader(), one.file).unwrap_err(),
+        fault: classes
+            .admitted(first_loader(), one.file, MOST_CLASSES)
+            .unwrap_err(),
     }
 }

@@ -26,6 +26,7 @@ ghost use Rattle.jl_report.specs.Drops.{keys_of, now_changed, has_changing_link,
 ghost use Rattle.jl_report.specs.Methods.{is_same, looked_at, runs, methods_run};
 ghost use Rattle.jl_report.specs.Finals.{overrides_final, AreDerived, is_final_call};
 ghost use Rattle.jl_report.specs.Made.{class_of, made_by, meets_made, marks_of, meets_marks};
+ghost use Rattle.jl_report.specs.Gathering.{most_classes};
 
 /// Whatever else is requested, and whatever call sites there are: in each world of the same classes a site that is bound to none has
 /// the link that a report of its place has, and rests on the same.
@@ -41,24 +42,24 @@ pub fn reported_links_are_from_scratch()
 /// rows that are open: a row with a link that isn't open is the same one whichever class is defined, and isn't open then.
 pub fn undropped_links_stay()
     ensures undropped { (cs : Classes) (file : ClassFile) (invocation : Invocation) (l : Link) → AreInOrder cs
-        → define_fault cs 0 file ≡ None → (row_of cs invocation).finding ≡ finding.Linked l
+        → define_fault most_classes cs 0 file ≡ None → (row_of cs invocation).finding ≡ finding.Linked l
         → now_changed (defined cs 0 file) (keys_of cs file) (row_of cs invocation) ≡ None
         → row_of (defined cs 0 file) invocation ≡ row_of cs invocation }
     ensures untouched { (cs : Classes) (file : ClassFile) (invocation : Invocation) (l : Link) → AreInOrder cs
-        → define_fault cs 0 file ≡ None → (row_of cs invocation).finding ≡ finding.Linked l
+        → define_fault most_classes cs 0 file ≡ None → (row_of cs invocation).finding ≡ finding.Linked l
         → meets (row_of cs invocation).rests_on (keys_of cs file) ≡ false
         → row_of (defined cs 0 file) invocation ≡ row_of cs invocation }
-    ensures unchanging { (cs : Classes) (file : ClassFile) (invocation : Invocation) → AreInOrder cs → define_fault cs 0 file ≡ None
+    ensures unchanging { (cs : Classes) (file : ClassFile) (invocation : Invocation) → AreInOrder cs → define_fault most_classes cs 0 file ≡ None
         → has_changing_link (row_of cs invocation).finding ≡ false
         → now_changed (defined cs 0 file) (keys_of cs file) (row_of cs invocation) ≡ None }
     ensures closed { (cs : Classes) (file : ClassFile) (invocation : Invocation) → AreInOrder cs
-        → define_fault cs 0 file ≡ None → is_open cs (row_of cs invocation) ≡ false
+        → define_fault most_classes cs 0 file ≡ None → is_open cs (row_of cs invocation) ≡ false
         → now_changed (defined cs 0 file) (keys_of cs file) (row_of cs invocation) ≡ None }
     ensures stays { (cs : Classes) (file : ClassFile) (invocation : Invocation) (l : Link) → AreInOrder cs
-        → define_fault cs 0 file ≡ None → (row_of cs invocation).finding ≡ finding.Linked l
+        → define_fault most_classes cs 0 file ≡ None → (row_of cs invocation).finding ≡ finding.Linked l
         → is_open cs (row_of cs invocation) ≡ false → row_of (defined cs 0 file) invocation ≡ row_of cs invocation }
     ensures remains { (cs : Classes) (file : ClassFile) (invocation : Invocation) (l : Link) → AreInOrder cs
-        → define_fault cs 0 file ≡ None → (row_of cs invocation).finding ≡ finding.Linked l
+        → define_fault most_classes cs 0 file ≡ None → (row_of cs invocation).finding ≡ finding.Linked l
         → is_open cs (row_of cs invocation) ≡ false → is_open (defined cs 0 file) (row_of (defined cs 0 file) invocation) ≡ false }
 {}
 
@@ -67,13 +68,13 @@ pub fn undropped_links_stay()
 /// are derived (JVMS SE 17 §5.3.5). They are where the others are derived, the further class overrides no FINAL method, and each ancestor
 /// of a class that isn't an interface is one of its superclasses.
 pub fn final_calls_stay()
-    ensures kept { (cs : Classes) (file : ClassFile) (invocation : Invocation) → AreInOrder cs → define_fault cs 0 file ≡ None
+    ensures kept { (cs : Classes) (file : ClassFile) (invocation : Invocation) → AreInOrder cs → define_fault most_classes cs 0 file ≡ None
         → AreDerived (defined cs 0 file) → is_final_call cs (row_of cs invocation) ≡ true
         → now_changed (defined cs 0 file) (keys_of cs file) (row_of cs invocation) ≡ None }
-    ensures stays { (cs : Classes) (file : ClassFile) (invocation : Invocation) → AreInOrder cs → define_fault cs 0 file ≡ None
+    ensures stays { (cs : Classes) (file : ClassFile) (invocation : Invocation) → AreInOrder cs → define_fault most_classes cs 0 file ≡ None
         → AreDerived (defined cs 0 file) → is_final_call cs (row_of cs invocation) ≡ true
         → row_of (defined cs 0 file) invocation ≡ row_of cs invocation }
-    ensures remains { (cs : Classes) (file : ClassFile) (invocation : Invocation) → AreInOrder cs → define_fault cs 0 file ≡ None
+    ensures remains { (cs : Classes) (file : ClassFile) (invocation : Invocation) → AreInOrder cs → define_fault most_classes cs 0 file ≡ None
         → AreDerived (defined cs 0 file) → is_final_call cs (row_of cs invocation) ≡ true
         → is_final_call (defined cs 0 file) (row_of (defined cs 0 file) invocation) ≡ true }
     ensures derived { (cs : Classes) (file : ClassFile) → AreInOrder cs → AreDerived cs

@@ -27,7 +27,7 @@ mod finals;
 mod laws;
 
 pub use breaking::{Dropped, is_open, keep_open};
-pub use defining::{Refused, define_all};
+pub use defining::{MOST_CLASSES, Refused, define_all};
 pub use finals::{is_final_call, overrides_final, some_overrides_final};
 pub use laws::{
     final_calls_stay, made_objects_are_marked, reported_links_are_from_scratch, told_methods_run,

@@ -1,6 +1,7 @@
 -- What is left of the links and the index once an event has changed the world.
 use Rattle.std.specs.Prelude.{◌≡◌, ◌==◌, ℕ, Bool, true, false, length, ◌&&◌, List, Option, Some, None, Ok, IsOk, is_some, is_none, ⊤}
 use Rattle.std.specs.List.{list_any}
+use Rattle.jl_types.specs.declared.limits.Limits.{Limits}
 use Rattle.jl_types.specs.Events.Event.{Event}
 use Rattle.jl_types.specs.declared.event.EventOf.TheVariants as event
 use Rattle.jl_types.specs.declared.answer.Outcome.TheVariants.{Run, Throws}
@@ -37,7 +38,7 @@ pub record HasChanged (world : World) (keys : List Key) (defined : Option ℕ) (
   pub event : Event
   pub step : world ≡ step before event
   pub order : IsInOrder before
-  pub accepted : (max_sites : ℕ) × IsOk (verdict max_sites before event)
+  pub accepted : (limits : Limits) × IsOk (verdict limits before event)
   pub left : (s : ℕ) (l : Link) → links s ≡ Some l → footprints.retires before event s ≡ false
   pub keys_are : keys ≡ footprints.keys before event
   pub defined_is : defined ≡ defined_by before event

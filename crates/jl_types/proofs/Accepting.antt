@@ -8,6 +8,7 @@ use Rattle.std.proofs.lemmas.Bool.Decides.{Decides-eqb, Decides-ltb, Decides-or}
 use Rattle.std.proofs.lemmas.List.Elements.{All-from_recursion, recursion_from_All}
 use Rattle.std.proofs.lemmas.List.Kept.{AllPairs-cons}
 use Rattle.std.proofs.lemmas.Bool.{cases_lt, or_parts, ne_eqb, both_ways, leb-false, lt-leb}
+use Rattle.jl_types.specs.declared.limits.Limits.{Limits}
 use Rattle.jl_types.specs.declared.link.Link.{Link}
 use Rattle.jl_types.specs.declared.answer.Unlinked.{Unlinked}
 use Rattle.jl_types.specs.declared.event.Made.TheVariants as made
@@ -199,8 +200,8 @@ module _ (w : World) where
   unless_none None e = refl
   unless_none (Some r) e = cc
 
-  pub accepted_installs : (max_sites : ℕ) (rows : List (ℕ × Link)) → (verdict max_sites w (event.Install rows) ≡ Ok made.Nothing) ↔ Accepts w rows
-  accepted_installs max_sites rows = (
+  pub accepted_installs : (limits : Limits) (rows : List (ℕ × Link)) → (verdict limits w (event.Install rows) ≡ Ok made.Nothing) ↔ Accepts w rows
+  accepted_installs limits rows = (
     λ e. accepts rows (unless_none (install_fault w rows) e),
     λ a. ap (λ (o : Option Refusal). unless o made.Nothing) (accepted rows a),
   )

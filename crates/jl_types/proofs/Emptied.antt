@@ -3,6 +3,7 @@ use Rattle.std.specs.Prelude.{◌≡◌, ℕ, zero, suc, ◌+◌, ◌≤◌, ◌
 use Rattle.std.specs.Prelude.{option_map, is_some, is_none, if◌then◌else◌}
 use Rattle.std.specs.List.{range_with_len, cons_option}
 use Rattle.std.proofs.Common.{refl, ap, sym, ◌∙◌, arith}
+use Rattle.jl_types.specs.declared.limits.Limits.{Limits}
 use Rattle.jl_types.specs.declared.link.Link.{Link}
 use Rattle.jl_types.specs.Events.Event.{Event}
 use Rattle.jl_types.specs.Events.Verdict.{verdict}
@@ -47,14 +48,14 @@ range_longer p (suc m) zero a le never = absurd (omega arith)
 range_longer p (suc m) (suc n) a le never =
     ap (λ (xs : List ℕ). cond (p a) (a ∷ xs) xs) (range_longer p m n (a + 1) (omega arith) (λ s h. never s (omega arith)))
 
-pub dropped_are_emptied : (max_sites : ℕ) (h : List Event) (entry : Entry) → IsEntry max_sites h entry → entry.reply.dropped ≡ emptied entry.slots
-dropped_are_emptied max_sites h entry is =
+pub dropped_are_emptied : (limits : Limits) (h : List Event) (entry : Entry) → IsEntry limits h entry → entry.reply.dropped ≡ emptied entry.slots
+dropped_are_emptied limits h entry is =
     let e = entry.event in
     let old = length (world_after h).places in
     let new = length (world_after (h ++ e ∷ [])).places in
     let never : (s : ℕ) → old ≤ s → goes (installed h) (installed (h ++ e ∷ [])) s ≡ false =
     λ s le. ap (λ (o : Option Link). is_some o && is_none (installed (h ++ e ∷ []) s)) (unrequested h s le) in
-    sym (accepted_of (dropped h e) (verdict max_sites (world_after h) e) entry.reply is.answered).1
+    sym (accepted_of (dropped h e) (verdict limits (world_after h) e) entry.reply is.answered).1
     ∙ sym (range_longer (goes (installed h) (installed (h ++ e ∷ []))) old new 0 (places_grow h e) (λ s le. never s (omega arith)))
     ∙ sym (emptied_sites (installed h) (installed (h ++ e ∷ [])) new 0)
     ∙ sym (ap emptied is.slots)

@@ -4,11 +4,12 @@ use Rattle.std.proofs.Common.{refl, ap, sym, subst, arith, inl, inr, append_asso
 use Rattle.std.proofs.lemmas.List.{take-append-le, append-nil}
 use Rattle.std.proofs.lemmas.Option.{slice_get_within}
 use Rattle.std.proofs.Math.Seq.{take-append_seam}
+use Rattle.jl_types.specs.declared.limits.Limits.{Limits}
 use Rattle.jl_types.specs.Events.Event.{Event}
 use Rattle.jl_types.specs.Events.Entries.{Entry, IsEntry, IsLegal, events_of}
 
-pub legal_none : (max_sites : ℕ) → IsLegal max_sites []
-legal_none max_sites = record { each = λ n entry at. absurd (cc at) }
+pub legal_none : (limits : Limits) → IsLegal limits []
+legal_none limits = record { each = λ n entry at. absurd (cc at) }
 
 -- ---- one entry more
 
@@ -19,18 +20,18 @@ at_more [] x (suc n) y at = absurd (cc at)
 at_more (z ∷ xs) x zero y at = inl at
 at_more (z ∷ xs) x (suc n) y at = elim (at_more xs x n y at) [ inl h ↦ inl h | inr h ↦ inr (ap suc h.0, h.1) ]
 
-module _ (max_sites : ℕ) (entries : List Entry) (entry : Entry) (legal : IsLegal max_sites entries) (next : IsEntry max_sites (events_of entries) entry) where
+module _ (limits : Limits) (entries : List Entry) (entry : Entry) (legal : IsLegal limits entries) (next : IsEntry limits (events_of entries) entry) where
   more_at : (n : ℕ) (x : Entry) → (slice_get entries n ≡ Some x) ⊎ ((n ≡ length entries) × (entry ≡ x))
-      → IsEntry max_sites (events_of (take n (entries ++ entry ∷ []))) x
+      → IsEntry limits (events_of (take n (entries ++ entry ∷ []))) x
   more_at n x (inl at) =
       let lt = slice_get_within entries n x at in
-      subst (λ (es : List Entry). IsEntry max_sites (events_of es) x) (sym (take-append-le n entries (entry ∷ []) (omega arith))) (legal.each n x at)
+      subst (λ (es : List Entry). IsEntry limits (events_of es) x) (sym (take-append-le n entries (entry ∷ []) (omega arith))) (legal.each n x at)
   more_at n x (inr same) =
       let whole : take n (entries ++ entry ∷ []) ≡ entries = rw (same.0) (take-append_seam entries (entry ∷ [])) in
-      subst (λ (y : Entry). IsEntry max_sites (events_of (take n (entries ++ entry ∷ []))) y) (same.1)
-      (subst (λ (es : List Entry). IsEntry max_sites (events_of es) entry) (sym whole) next)
+      subst (λ (y : Entry). IsEntry limits (events_of (take n (entries ++ entry ∷ []))) y) (same.1)
+      (subst (λ (es : List Entry). IsEntry limits (events_of es) entry) (sym whole) next)
 
-  pub legal_more : IsLegal max_sites (entries ++ entry ∷ [])
+  pub legal_more : IsLegal limits (entries ++ entry ∷ [])
   legal_more = record { each = λ n x at. more_at n x (at_more entries entry n x at) }
 
 -- ---- beginnings
@@ -41,11 +42,11 @@ taken_at [] (suc n) k x at = absurd (cc at)
 taken_at (y ∷ xs) (suc n) zero x at = (at, refl)
 taken_at (y ∷ xs) (suc n) (suc k) x at = let rest = taken_at xs n k x at in (rest.0, ap (λ ys. y ∷ ys) rest.1)
 
-pub legal_beginning : (max_sites : ℕ) (entries : List Entry) → IsLegal max_sites entries → (n : ℕ) → IsLegal max_sites (take n entries)
-legal_beginning max_sites entries legal n = record {
+pub legal_beginning : (limits : Limits) (entries : List Entry) → IsLegal limits entries → (n : ℕ) → IsLegal limits (take n entries)
+legal_beginning limits entries legal n = record {
   each = λ k entry at.
       let taken = taken_at entries n k entry at in
-      subst (λ (es : List Entry). IsEntry max_sites (events_of es) entry) (sym taken.1) (legal.each k entry taken.0);
+      subst (λ (es : List Entry). IsEntry limits (events_of es) entry) (sym taken.1) (legal.each k entry taken.0);
 }
 
 -- ---- from entry to entry
@@ -59,16 +60,16 @@ events_more [] entry = refl
 events_more (first ∷ entries) entry = ap (λ (h : List Event). first.event ∷ h) (events_more entries entry)
 
 -- what holds of no entries, and stays with each entry, holds of a legal list
-module _ (max_sites : ℕ) (P : List Entry → Type 0)
-    (more : (done : List Entry) (entry : Entry) → IsEntry max_sites (events_of done) entry → P done → P (done ++ entry ∷ [])) where
-  on_from : (rest done : List Entry) → IsLegal max_sites (done ++ rest) → P done → P (done ++ rest)
+module _ (limits : Limits) (P : List Entry → Type 0)
+    (more : (done : List Entry) (entry : Entry) → IsEntry limits (events_of done) entry → P done → P (done ++ entry ∷ [])) where
+  on_from : (rest done : List Entry) → IsLegal limits (done ++ rest) → P done → P (done ++ rest)
   on_from [] done legal so = subst P (sym (append-nil done)) so
   on_from (entry ∷ rest) done legal so =
-      let next : IsEntry max_sites (events_of done) entry =
-      subst (λ (es : List Entry). IsEntry max_sites (events_of es) entry) (take-append_seam done (entry ∷ rest))
+      let next : IsEntry limits (events_of done) entry =
+      subst (λ (es : List Entry). IsEntry limits (events_of es) entry) (take-append_seam done (entry ∷ rest))
       (legal.each (length done) entry (at_seam done rest entry)) in
       let all : (done ++ entry ∷ []) ++ rest ≡ done ++ entry ∷ rest = append_assoc done (entry ∷ []) rest in
-      subst P all (on_from rest (done ++ entry ∷ []) (subst (λ (es : List Entry). IsLegal max_sites es) (sym all) legal) (more done entry next so))
+      subst P all (on_from rest (done ++ entry ∷ []) (subst (λ (es : List Entry). IsLegal limits es) (sym all) legal) (more done entry next so))
 
-  pub by_entries : P [] → (entries : List Entry) → IsLegal max_sites entries → P entries
+  pub by_entries : P [] → (entries : List Entry) → IsLegal limits entries → P entries
   by_entries none entries legal = on_from entries [] legal none

@@ -12,6 +12,7 @@ pub mod Grown
 pub mod Orders
 pub mod Retiring
 pub mod Places
+pub mod Within
 pub mod ClassCounts
 pub mod Settling
 pub mod Installed

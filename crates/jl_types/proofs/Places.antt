@@ -9,6 +9,7 @@ use Rattle.std.proofs.lemmas.List.Sums.{fold-append}
 use Rattle.std.proofs.lemmas.List.Quantifiers.{position-Some}
 use Rattle.std.proofs.lemmas.Option.{slice_get-get_or}
 use Rattle.std.proofs.lemmas.Map.Keys.{any_passes_from_place}
+use Rattle.jl_types.specs.declared.limits.Limits.{Limits}
 use Rattle.jl_class.specs.Site.{Site}
 use Rattle.jl_types.specs.declared.ids.Place.{Place}
 use Rattle.jl_types.specs.Events.Event.{Event}
@@ -54,58 +55,58 @@ places_grow h e = subst (λ (w : World). length (world_after h).places ≤ lengt
 
 -- ---- the limit
 
-module _ (max_sites : ℕ) (w : World) (place : Place) where
-  has_room : (site : Site) (made given : Made) → unless (new_place_fault max_sites w site) made ≡ Ok given → length w.places < max_sites
-  has_room site made given e = by_fault (new_place_fault max_sites w site) refl e
+module _ (limits : Limits) (w : World) (place : Place) where
+  has_room : (site : Site) (made given : Made) → unless (new_place_fault limits w site) made ≡ Ok given → length w.places < limits.sites
+  has_room site made given e = by_fault (new_place_fault limits w site) refl e
     where
-      by_fault : (o : Option Refusal) → new_place_fault max_sites w site ≡ o → unless o made ≡ Ok given → length w.places < max_sites
+      by_fault : (o : Option Refusal) → new_place_fault limits w site ≡ o → unless o made ≡ Ok given → length w.places < limits.sites
       by_fault (Some r) is e = cc
       by_fault None is e =
           let array = first_none (then_some (names_array site.operand) _) _ is in
           let polymorphic = first_none (then_some (is_polymorphic site.operand) _) _ array.1 in
-          let full = first_none (then_some (nat_le max_sites (length w.places)) refusal.SitesFull) [] polymorphic.1 in
-          leb-false max_sites (length w.places) (test_none (nat_le max_sites (length w.places)) refusal.SitesFull full.0)
+          let full = first_none (then_some (nat_le limits.sites (length w.places)) refusal.SitesFull) [] polymorphic.1 in
+          leb-false limits.sites (length w.places) (test_none (nat_le limits.sites (length w.places)) refusal.SitesFull full.0)
 
   known_place : (s : ℕ) → position (same_place place) w.places ≡ Some s → list_any (same_place place) w.places ≡ true
   known_place s at =
       let found = position-Some (same_place place) w.places s place at in
       any_passes_from_place (same_place place) w.places s (get_or w.places s place) (slice_get-get_or w.places s place found.0) found.1
 
-  new_by_place : (o : Option ℕ) (site : Site) (given : Made) → position (same_place place) w.places ≡ o → request_place max_sites w o site ≡ Ok given
-      → list_any (same_place place) w.places ≡ false → length w.places < max_sites
+  new_by_place : (o : Option ℕ) (site : Site) (given : Made) → position (same_place place) w.places ≡ o → request_place limits w o site ≡ Ok given
+      → list_any (same_place place) w.places ≡ false → length w.places < limits.sites
   new_by_place (Some s) site given at e new = absurd (both_ways (list_any (same_place place) w.places) new (known_place s at))
   new_by_place None site given at e new = has_room site (made.Site (length w.places)) given e
 
-  new_by_site : (o : Option Site) (given : Made) → if_invoked max_sites w place o ≡ Ok given
-      → list_any (same_place place) w.places ≡ false → length w.places < max_sites
+  new_by_site : (o : Option Site) (given : Made) → if_invoked limits w place o ≡ Ok given
+      → list_any (same_place place) w.places ≡ false → length w.places < limits.sites
   new_by_site None given e new = cc
   new_by_site (Some site) given e new = new_by_place (position (same_place place) w.places) site given refl e new
 
   -- a place that wasn't requested yet has to have room
-  new_has_room : (b : Bool) (given : Made) → (if b then if_invoked max_sites w place (invocation_at w.classes place) else Err refusal.UnknownClass) ≡ Ok given
-      → list_any (same_place place) w.places ≡ false → length w.places < max_sites
+  new_has_room : (b : Bool) (given : Made) → (if b then if_invoked limits w place (invocation_at w.classes place) else Err refusal.UnknownClass) ≡ Ok given
+      → list_any (same_place place) w.places ≡ false → length w.places < limits.sites
   new_has_room true given e new = new_by_site (invocation_at w.classes place) given e new
   new_has_room false given e new = cc
 
-  within : (b : Bool) → length w.places ≤ max_sites → (b ≡ false → length w.places < max_sites)
-      → length (if b then w.places else w.places ++ place ∷ []) ≤ max_sites
+  within : (b : Bool) → length w.places ≤ limits.sites → (b ≡ false → length w.places < limits.sites)
+      → length (if b then w.places else w.places ++ place ∷ []) ≤ limits.sites
   within true le room = le
   within false le room = let lt = room refl in omega (arith, length-append w.places (place ∷ []))
 
-pub limit_step : (max_sites : ℕ) (w : World) (e : Event) (given : Made) → verdict max_sites w e ≡ Ok given → length w.places ≤ max_sites
-    → length (step w e).places ≤ max_sites
-limit_step max_sites w event.NewLoader given accepted le = le
-limit_step max_sites w (event.Define loader file) given accepted le = le
-limit_step max_sites w (event.Delegate loader name to) given accepted le = le
-limit_step max_sites w (event.Request place) given accepted le =
-    within max_sites w place (list_any (same_place place) w.places) le (new_has_room max_sites w place (is_present w.classes place.class) given accepted)
-limit_step max_sites w (event.NewCallSite kind ty t) given accepted le = le
-limit_step max_sites w (event.SetTarget c t) given accepted le = le
-limit_step max_sites w event.NewSwitch given accepted le = le
-limit_step max_sites w (event.Invalidate points) given accepted le = le
-limit_step max_sites w (event.Bind s c) given accepted le = le
-limit_step max_sites w (event.Install rows) given accepted le = le
-limit_step max_sites w (event.Retire loader) given accepted le = le
+pub limit_step : (limits : Limits) (w : World) (e : Event) (given : Made) → verdict limits w e ≡ Ok given → length w.places ≤ limits.sites
+    → length (step w e).places ≤ limits.sites
+limit_step limits w event.NewLoader given accepted le = le
+limit_step limits w (event.Define loader file) given accepted le = le
+limit_step limits w (event.Delegate loader name to) given accepted le = le
+limit_step limits w (event.Request place) given accepted le =
+    within limits w place (list_any (same_place place) w.places) le (new_has_room limits w place (is_present w.classes place.class) given accepted)
+limit_step limits w (event.NewCallSite kind ty t) given accepted le = le
+limit_step limits w (event.SetTarget c t) given accepted le = le
+limit_step limits w event.NewSwitch given accepted le = le
+limit_step limits w (event.Invalidate points) given accepted le = le
+limit_step limits w (event.Bind s c) given accepted le = le
+limit_step limits w (event.Install rows) given accepted le = le
+limit_step limits w (event.Retire loader) given accepted le = le
 
 -- an event that is answered is accepted, and drops what the answer says
 pub accepted_of : (dropped : List ℕ) (r : Result Made Refusal) (said : Reply) → replied dropped r ≡ Ok said → (r ≡ Ok said.made) × (dropped ≡ said.dropped)
@@ -114,20 +115,20 @@ accepted_of dropped (Ok given) said e =
     (ap (λ (r : Reply). Ok r.made) same, ap (λ (r : Reply). r.dropped) same)
 accepted_of dropped (Err r) said e = cc
 
-abbrev IsWithin : ℕ → List Entry → Type 0
-IsWithin max_sites entries = length (world_after (events_of entries)).places ≤ max_sites
+abbrev KeepsTo : Limits → List Entry → Type 0
+KeepsTo limits entries = length (world_after (events_of entries)).places ≤ limits.sites
 
-module _ (max_sites : ℕ) where
-  limit_more : (done : List Entry) (entry : Entry) → IsEntry max_sites (events_of done) entry → IsWithin max_sites done
-      → IsWithin max_sites (done ++ entry ∷ [])
+module _ (limits : Limits) where
+  limit_more : (done : List Entry) (entry : Entry) → IsEntry limits (events_of done) entry → KeepsTo limits done
+      → KeepsTo limits (done ++ entry ∷ [])
   limit_more done entry next le =
-      let accepted = accepted_of (dropped (events_of done) entry.event) (verdict max_sites (world_after (events_of done)) entry.event) entry.reply next.answered
+      let accepted = accepted_of (dropped (events_of done) entry.event) (verdict limits (world_after (events_of done)) entry.event) entry.reply next.answered
       in
       let world : world_after (events_of (done ++ entry ∷ [])) ≡ step (world_after (events_of done)) entry.event =
       ap world_after (events_more done entry) ∙ world_more (events_of done) entry.event in
-      subst (λ (w : World). length w.places ≤ max_sites) (sym world)
-      (limit_step max_sites (world_after (events_of done)) entry.event entry.reply.made accepted.0 le)
+      subst (λ (w : World). length w.places ≤ limits.sites) (sym world)
+      (limit_step limits (world_after (events_of done)) entry.event entry.reply.made accepted.0 le)
 
   -- the places that a legal list requests
-  pub legal_limit : (entries : List Entry) → IsLegal max_sites entries → length (world_after (events_of entries)).places ≤ max_sites
-  legal_limit entries legal = by_entries max_sites (IsWithin max_sites) limit_more (omega arith) entries legal
+  pub legal_limit : (entries : List Entry) → IsLegal limits entries → length (world_after (events_of entries)).places ≤ limits.sites
+  legal_limit entries legal = by_entries limits (KeepsTo limits) limit_more (omega arith) entries legal

@@ -9,6 +9,7 @@ use Rattle.std.proofs.lemmas.List.{get_or-set_other, get_or-replicate, get_or_pa
 use Rattle.std.proofs.lemmas.List.Sums.{fold-append}
 use Rattle.std.proofs.lemmas.Grind.{get_or-set_at}
 use Rattle.std.proofs.lemmas.Option.{slice_get-get_or}
+use Rattle.jl_types.specs.declared.limits.Limits.{Limits}
 use Rattle.jl_types.specs.declared.link.Link.{Link}
 use Rattle.jl_types.specs.Events.Event.{Event}
 use Rattle.jl_types.specs.ForProofs.SameLink.{link_decides}
@@ -111,48 +112,48 @@ module _ (h : List Event) (e : Event) (s : ℕ) (table : List (Option Link)) (wi
 
 -- ---- a legal list
 
-width : (max_sites : ℕ) (entries : List Entry) (table : List (Option Link)) → length table ≡ max_sites
-    → length (fold (λ links entry. written links entry.slots) table entries) ≡ max_sites
-width max_sites [] table is = is
-width max_sites (entry ∷ entries) table is = width max_sites entries (written table entry.slots) (length_written entry.slots table ∙ is)
+width : (limits : Limits) (entries : List Entry) (table : List (Option Link)) → length table ≡ limits.sites
+    → length (fold (λ links entry. written links entry.slots) table entries) ≡ limits.sites
+width limits [] table is = is
+width limits (entry ∷ entries) table is = width limits entries (written table entry.slots) (length_written entry.slots table ∙ is)
 
 no_links : (n : ℕ) (o : Option Link) → length (replicate n o) ≡ n
 no_links zero o = refl
 no_links (suc n) o = ap suc (no_links n o)
 
-pub length_table : (max_sites : ℕ) (entries : List Entry) → length (table_of max_sites entries) ≡ max_sites
-length_table max_sites entries = width max_sites entries (replicate max_sites None) (no_links max_sites None)
+pub length_table : (limits : Limits) (entries : List Entry) → length (table_of limits entries) ≡ limits.sites
+length_table limits entries = width limits entries (replicate limits.sites None) (no_links limits.sites None)
 
-abbrev Shows : ℕ → List Entry → Type 0
-Shows max_sites entries = (s : ℕ) → s < max_sites → get_or (table_of max_sites entries) s None ≡ installed (events_of entries) s
+abbrev Shows : Limits → List Entry → Type 0
+Shows limits entries = (s : ℕ) → s < limits.sites → get_or (table_of limits entries) s None ≡ installed (events_of entries) s
 
-module _ (max_sites : ℕ) where
-  shows_none : Shows max_sites []
-  shows_none s lt = get_or-replicate max_sites s None None lt
+module _ (limits : Limits) where
+  shows_none : Shows limits []
+  shows_none s lt = get_or-replicate limits.sites s None None lt
 
-  shows_more : (done : List Entry) (entry : Entry) → IsEntry max_sites (events_of done) entry → Shows max_sites done → Shows max_sites (done ++ entry ∷ [])
+  shows_more : (done : List Entry) (entry : Entry) → IsEntry limits (events_of done) entry → Shows limits done → Shows limits (done ++ entry ∷ [])
   shows_more done entry next shows s lt =
       let h = events_of done in
-      let table = table_of max_sites done in
+      let table = table_of limits done in
       ap (λ (links : List (Option Link)). get_or links s None) (fold-append (λ (links : List (Option Link)) (p : Entry). written links p.slots)
-      (replicate max_sites None) done (entry ∷ []))
+      (replicate limits.sites None) done (entry ∷ []))
       ∙ ap (λ (slots : List (ℕ × Option Link)). get_or (written table slots) s None) next.slots
-      ∙ slots_written h entry.event s table (omega (arith, length_table max_sites done)) (shows s lt)
+      ∙ slots_written h entry.event s table (omega (arith, length_table limits done)) (shows s lt)
       ∙ sym (ap (λ (es : List Event). installed es s) (events_more done entry))
 
-  module _ (entries : List Entry) (legal : IsLegal max_sites entries) where
-    below : (s : ℕ) → s < max_sites → get_or (table_of max_sites entries) s None ≡ installed (events_of entries) s
-    below = by_entries max_sites (Shows max_sites) shows_more shows_none entries legal
+  module _ (entries : List Entry) (legal : IsLegal limits entries) where
+    below : (s : ℕ) → s < limits.sites → get_or (table_of limits entries) s None ≡ installed (events_of entries) s
+    below = by_entries limits (Shows limits) shows_more shows_none entries legal
 
-    pub beyond : (s : ℕ) → max_sites ≤ s → installed (events_of entries) s ≡ None
-    beyond s le = unrequested (events_of entries) s (let limit = legal_limit max_sites entries legal in omega arith)
+    pub beyond : (s : ℕ) → limits.sites ≤ s → installed (events_of entries) s ≡ None
+    beyond s le = unrequested (events_of entries) s (let limit = legal_limit limits entries legal in omega arith)
 
-    pub legal_slots : (s : ℕ) → s < max_sites → slice_get (table_of max_sites entries) s ≡ Some (installed (events_of entries) s)
-    legal_slots s lt = slice_get-get_or (table_of max_sites entries) s None (omega (arith, length_table max_sites entries)) ∙ ap Some (below s lt)
+    pub legal_slots : (s : ℕ) → s < limits.sites → slice_get (table_of limits entries) s ≡ Some (installed (events_of entries) s)
+    legal_slots s lt = slice_get-get_or (table_of limits entries) s None (omega (arith, length_table limits entries)) ∙ ap Some (below s lt)
 
     -- the table is what is installed, also where it ends
-    pub legal_shows : (s : ℕ) → get_or (table_of max_sites entries) s None ≡ installed (events_of entries) s
-    legal_shows s = elim (cases_lt s max_sites) [
+    pub legal_shows : (s : ℕ) → get_or (table_of limits entries) s None ≡ installed (events_of entries) s
+    legal_shows s = elim (cases_lt s limits.sites) [
       | inl lt ↦ below s lt
-      | inr le ↦ get_or_past (table_of max_sites entries) s None (omega (arith, length_table max_sites entries)) ∙ sym (beyond s le)
+      | inr le ↦ get_or_past (table_of limits entries) s None (omega (arith, length_table limits entries)) ∙ sym (beyond s le)
     ]

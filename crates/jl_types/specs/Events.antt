@@ -1,4 +1,5 @@
 -- What changes a world, and what is accepted and installed then, in reading order.
+pub mod Limits
 pub mod Definitions
 pub mod Retirement
 pub mod Batches

@@ -4,6 +4,8 @@ ghost use Rattle.std.specs.Prelude.{◌≡◌, ◌↔◌, ◌<◌, ◌≤◌, �
 ghost use Rattle.std.specs.Prelude.{filter, not, ◌==◌, ◌&&◌, Decides, AllPairs, Contains};
 ghost use Rattle.std.specs.List.{list_any};
 ghost use Rattle.std.specs.Option.{option_map_or};
+ghost use Rattle.jl_types.specs.declared.limits.Limits.{Limits};
+ghost use Rattle.jl_types.specs.Events.Limits.{AreAllowed, IsWithin};
 ghost use Rattle.jl_types.specs.declared.ids.MethodId.{MethodId};
 ghost use Rattle.jl_types.specs.declared.answer.Throwable.{Throwable};
 ghost use Rattle.jl_types.specs.declared.answer.Throwable.TheVariants.{NullPointerException};
@@ -113,8 +115,8 @@ pub fn links_give_the_answers()
 /// An install is accepted exactly where its rows are 1 to 256, of requested sites, none of them twice, and each link is the
 /// one from scratch.
 pub fn accepted_installs()
-    ensures { (max_sites : ℕ) (w : World) (rows : List (ℕ × Link))
-        → (verdict max_sites w (event.Install rows) ≡ Ok made.Nothing) ↔ Accepts w rows }
+    ensures { (limits : Limits) (w : World) (rows : List (ℕ × Link))
+        → (verdict limits w (event.Install rows) ≡ Ok made.Nothing) ↔ Accepts w rows }
 {}
 
 /// A site has an installed link exactly where it is settled with it; then the site is requested, and its link from scratch
@@ -141,24 +143,26 @@ pub fn one_event_more()
 
 /// A beginning of a legal list is legal.
 pub fn beginnings_are_legal()
-    ensures { (max_sites : ℕ) (entries : List Entry) → IsLegal max_sites entries → (n : ℕ) → IsLegal max_sites (take n entries) }
+    ensures { (limits : Limits) (entries : List Entry) → IsLegal limits entries → (n : ℕ) → IsLegal limits (take n entries) }
 {}
 
 /// The table of a legal list has a slot for each site that may be requested, with what is installed there after the list's
-/// events. No site past the table was requested, so none has a link.
+/// events. No site past the table was requested, so none has a link. Of no kind there is more than the limits allow.
 pub fn slots_are_the_links()
-    ensures size { (max_sites : ℕ) (entries : List Entry) → length (table_of max_sites entries) ≡ max_sites }
-    ensures links { (max_sites : ℕ) (entries : List Entry) → IsLegal max_sites entries → (s : ℕ) → s < max_sites
-        → slice_get (table_of max_sites entries) s ≡ Some (installed (events_of entries) s) }
-    ensures requested { (max_sites : ℕ) (entries : List Entry) → IsLegal max_sites entries
-        → length (world_after (events_of entries)).places ≤ max_sites }
-    ensures beyond { (max_sites : ℕ) (entries : List Entry) → IsLegal max_sites entries → (s : ℕ) → max_sites ≤ s
+    ensures size { (limits : Limits) (entries : List Entry) → length (table_of limits entries) ≡ limits.sites }
+    ensures links { (limits : Limits) (entries : List Entry) → IsLegal limits entries → (s : ℕ) → s < limits.sites
+        → slice_get (table_of limits entries) s ≡ Some (installed (events_of entries) s) }
+    ensures requested { (limits : Limits) (entries : List Entry) → IsLegal limits entries
+        → length (world_after (events_of entries)).places ≤ limits.sites }
+    ensures within { (limits : Limits) (entries : List Entry) → AreAllowed limits → IsLegal limits entries
+        → IsWithin limits (world_after (events_of entries)) }
+    ensures beyond { (limits : Limits) (entries : List Entry) → IsLegal limits entries → (s : ℕ) → limits.sites ≤ s
         → installed (events_of entries) s ≡ None }
 {}
 
 /// What the reply of an entry drops are the sites of its slots without a link, in order.
 pub fn dropped_are_the_empty_slots()
-    ensures { (max_sites : ℕ) (h : List Event) (entry : Entry) → IsEntry max_sites h entry
+    ensures { (limits : Limits) (h : List Event) (entry : Entry) → IsEntry limits h entry
         → entry.reply.dropped ≡ emptied entry.slots }
 {}
 

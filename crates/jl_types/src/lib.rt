@@ -2,7 +2,7 @@
 //!
 //! What a link is, and what a call comes to, stands in `specs/`, in reading order: in `Values` what a world has (`Target`, `World`,
 //! `Members`, `Ancestry`); in `Linkage` what a site comes to there (`Access`, `Resolution`, `Overriding`, `Selection`, `Targets`,
-//! `Stages`, `Links`, `Calls`); in `Events` what changes it (`Definitions`, `Retirement`, `Batches`, `Event`, `Verdict`,
+//! `Stages`, `Links`, `Calls`); in `Events` what changes it (`Limits`, `Definitions`, `Retirement`, `Batches`, `Event`, `Verdict`,
 //! `Preparation`, `History`, `Entries`, `Footprints`, `Fast`). The laws about them are the contracts of the functions of `laws`.
 #![tactic(auto)]
 
@@ -10,6 +10,7 @@
 mod call_site_id;
 mod class_id;
 mod ids;
+mod limits;
 mod loader_id;
 mod site_no;
 mod switch_id;
@@ -49,6 +50,7 @@ pub use laws::{
     overriding_is_decided, parents_come_first, settled_links, slots_are_the_links,
     superclasses_upward, unlinked_calls,
 };
+pub use limits::Limits;
 pub use link::{Link, TableKind, same_link};
 pub use loader_id::LoaderId;
 pub use never_linked::{is_polymorphic, names_array};

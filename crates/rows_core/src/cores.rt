@@ -8,16 +8,25 @@ use jl_core::Core;
 use jl_relink::{Prepared, Snapshot, World, dispatch, link_of, prepare};
 use jl_types::CallSiteKind::Mutable;
 use jl_types::{
-    Answer, ClassId, Event, Link, Outcome, PrepareFault, Recv, Refusal, SiteNo, Table, TableKind,
-    Unlinked,
+    Answer, ClassId, Event, Limits, Link, Outcome, PrepareFault, Recv, Refusal, SiteNo, Table,
+    TableKind, Unlinked,
 };
 use std::alloc::{AllocError, Global};
 use std::process::Abort;
 
-/// A limit of places, what comes before, so many times, and then one after another events, how what they are answered prints, and whether
+/// The limits of a core.
+#[derive(Clone, Copy)]
+enum Bounds {
+    /// Those of the programs, with so many sites.
+    Sites(u32),
+    /// Its own.
+    Own(Limits),
+}
+
+/// The limits, what comes before, so many times, and then one after another events, how what they are answered prints, and whether
 /// the one link that is installed then is that of site 0 that runs class 1's first method on each object; else none is.
 struct Row(
-    u32,
+    Bounds,
     &'static [Step],
     u32,
     &'static [(Step, &'static str, bool)],
@@ -25,7 +34,7 @@ struct Row(
 
 /// A place keeps its number.
 const REQUESTS: &Row = &Row(
-    1,
+    Bounds::Sites(1),
     &[Define(0, Object), Define(0, M), Define(0, Itself)],
     1,
     &[
@@ -48,7 +57,7 @@ const REQUESTS: &Row = &Row(
 
 /// Installs of a link at sites. Site 0 has no link yet, site 1 another one, and there is no site 2.
 const INSTALLS: &Row = &Row(
-    2,
+    Bounds::Sites(2),
     &[
         Define(0, Object),
         Define(0, M),
@@ -87,7 +96,7 @@ const INSTALLS: &Row = &Row(
 
 /// A link that no preparation gave, which is the one from scratch, and then another one, which isn't.
 const BY_HAND: &Row = &Row(
-    1,
+    Bounds::Sites(1),
     &[Define(0, Object), Define(0, A), Define(0, M), Request(2, 0)],
     1,
     &[
@@ -106,7 +115,7 @@ const BY_HAND: &Row = &Row(
 
 /// There are 1,024 loaders at the most, of which the first one is there.
 const LOADERS: &Row = &Row(
-    1,
+    Bounds::Sites(1),
     &[Loader],
     1022,
     &[
@@ -119,9 +128,63 @@ const LOADERS: &Row = &Row(
     ],
 );
 
+/// A core may have more loaders than the programs have.
+const MORE_LOADERS: &Row = &Row(
+    Bounds::Own(Limits {
+        sites: 1,
+        loaders: 1_025,
+        classes: 1,
+        call_sites: 1,
+        switches: 1,
+    }),
+    &[Loader],
+    1023,
+    &[
+        (
+            Loader,
+            "Ok(Reply { made: Loader(LoaderId(1024)), dropped: Seq { items: [] } })",
+            false,
+        ),
+        (Loader, "Err(LoadersFull)", false),
+    ],
+);
+
+/// Of each kind as many as the limits say, and then no more.
+const OWN_LIMITS: &Row = &Row(
+    Bounds::Own(Limits {
+        sites: 1,
+        loaders: 2,
+        classes: 4,
+        call_sites: 1,
+        switches: 1,
+    }),
+    &[
+        Define(0, Object),
+        Define(0, T),
+        Define(0, M),
+        Define(0, Itself),
+        Point,
+        CallSite(Mutable, "()V", Method((1, 1))),
+        Loader,
+        Request(2, 0),
+    ],
+    1,
+    &[
+        (Define(0, A), "Err(Define(Full))", false),
+        (Point, "Err(CallSite(Full))", false),
+        (
+            CallSite(Mutable, "()V", Method((1, 1))),
+            "Err(CallSite(Full))",
+            false,
+        ),
+        (Loader, "Err(LoadersFull)", false),
+        (Request(3, 0), "Err(SitesFull)", false),
+    ],
+);
+
 /// A refused target goes without a call as deep as it is: the stack has no room for a million calls.
 const DEEP_TARGETS: &Row = &Row(
-    1,
+    Bounds::Sites(1),
     &[
         Define(0, Object),
         Define(0, T),
@@ -143,7 +206,15 @@ const DEEP_TARGETS: &Row = &Row(
     ],
 );
 
-const ROWS: &[&Row] = &[REQUESTS, INSTALLS, BY_HAND, LOADERS, DEEP_TARGETS];
+const ROWS: &[&Row] = &[
+    REQUESTS,
+    INSTALLS,
+    BY_HAND,
+    LOADERS,
+    MORE_LOADERS,
+    OWN_LIMITS,
+    DEEP_TARGETS,
+];
 
 /// How what the step is answered prints.
 fn printed(alloc: Global, core: &mut Core, step: &Step) -> Result<String, AllocError> {
@@ -190,12 +261,21 @@ fn is_so_on(alloc: Global, core: &mut Core, row: &Row) -> bool {
     all
 }
 
-/// Whether the row, whose limit a core may have, is so on a new core.
+/// The limits that these are.
+fn limits_of(bounds: Bounds) -> Limits {
+    match bounds {
+        Bounds::Sites(sites) => Limits::fixed(sites),
+        Bounds::Own(limits) => limits,
+    }
+}
+
+/// Whether the row, whose limits a core may have, is so on a new core.
 fn is_so(alloc: Global, row: &Row) -> bool {
-    if row.0 == 0 {
+    let limits = limits_of(row.0);
+    if !limits.are_allowed() {
         return false;
     }
-    match Core::new(alloc, row.0) {
+    match Core::with_limits(alloc, limits) {
         Ok(mut core) => is_so_on(alloc, &mut core, row),
         Err(_) => false,
     }

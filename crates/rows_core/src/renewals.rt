@@ -1,6 +1,7 @@
 //! Renewals: what stays of a core, under which numbers, and entries that are carried over.
 
 ghost use Rattle.std.specs.Prelude.{◌≡◌};
+ghost use Rattle.jl_types.specs.Events.Limits.{fixed};
 ghost use Rattle.jl_core.specs.State.{empty_core};
 
 use crate::classes::Class::{A, C, D, E, Itself, M, Object, T};
@@ -13,7 +14,10 @@ use jl_renewal::{
     CarryFault, Released, Renumbering, carry, fresh_links, install_all, refill, renew,
 };
 use jl_types::CallSiteKind::{Mutable, Volatile};
-use jl_types::{Answer, CallSiteId, ClassId, LoaderId, MethodId, Recv, Refusal, SiteNo, SwitchId};
+use jl_types::{
+    Answer, CallSiteFault, CallSiteId, ClassId, DefineFault, Limits, LoaderId, MethodId, Recv,
+    Refusal, SiteNo, SwitchId,
+};
 use std::alloc::{AllocError, Global};
 use std::process::Abort;
 
@@ -168,33 +172,138 @@ fn run_so(core: &Core, rows: &[CallRow]) -> bool {
     all
 }
 
-/// Whether a renewal of the old core is this: of its 19 events the last one installs all three links. Two sites are too few for it.
-fn is_renewed(alloc: Global, old: &Core, released: &Released) -> bool {
-    let is_too_small = matches!(renew(alloc, old, released, 2), Err(Refusal::SitesFull));
-    match renew(alloc, old, released, 3) {
+/// As many of each kind as stay.
+const ENOUGH: Limits = Limits {
+    sites: 3,
+    loaders: 2,
+    classes: 6,
+    call_sites: 3,
+    switches: 2,
+};
+
+/// Limits of a fresh core, and of what more stays than they allow.
+struct TooFew(Limits, &'static str);
+
+/// One less of each kind in turn.
+const TOO_FEW: &[TooFew] = &[
+    TooFew(
+        Limits {
+            sites: 2,
+            loaders: 2,
+            classes: 6,
+            call_sites: 3,
+            switches: 2,
+        },
+        "sites",
+    ),
+    TooFew(
+        Limits {
+            sites: 3,
+            loaders: 1,
+            classes: 6,
+            call_sites: 3,
+            switches: 2,
+        },
+        "loaders",
+    ),
+    TooFew(
+        Limits {
+            sites: 3,
+            loaders: 2,
+            classes: 5,
+            call_sites: 3,
+            switches: 2,
+        },
+        "classes",
+    ),
+    TooFew(
+        Limits {
+            sites: 3,
+            loaders: 2,
+            classes: 6,
+            call_sites: 2,
+            switches: 2,
+        },
+        "call sites or switch points",
+    ),
+    TooFew(
+        Limits {
+            sites: 3,
+            loaders: 2,
+            classes: 6,
+            call_sites: 3,
+            switches: 1,
+        },
+        "call sites or switch points",
+    ),
+];
+
+/// Of what more stays than a fresh core may have, by the refusal of a renewal.
+fn more_stay(refusal: &Refusal) -> &'static str {
+    match refusal {
+        Refusal::SitesFull => "sites",
+        Refusal::LoadersFull => "loaders",
+        Refusal::Define(DefineFault::Full) => "classes",
+        Refusal::CallSite(CallSiteFault::Full) => "call sites or switch points",
+        _ => "",
+    }
+}
+
+/// Whether a renewal with these limits, which a core may have, is refused for that.
+fn is_refused(alloc: Global, old: &Core, released: &Released, row: &TooFew) -> bool {
+    let limits = row.0;
+    if !limits.are_allowed() {
+        return false;
+    }
+    match renew(alloc, old, released, limits) {
+        Ok(_) => false,
+        Err(refusal) => more_stay(&refusal) == row.1,
+    }
+}
+
+/// Whether each of these is refused.
+fn are_refused(alloc: Global, old: &Core, released: &Released, rows: &[TooFew]) -> bool {
+    let mut all = true;
+    for row in rows {
+        all = is_refused(alloc, old, released, row) && all;
+    }
+    all
+}
+
+/// Whether a renewal of the old core with these limits, which a core may have, is this: of its 19 events the last one installs all three
+/// links.
+fn is_renewed(alloc: Global, old: &Core, released: &Released, limits: Limits) -> bool {
+    if !limits.are_allowed() {
+        return false;
+    }
+    match renew(alloc, old, released, limits) {
         Ok((fresh, numbers)) => {
             are_numbers(&numbers)
                 && fresh.log().len() == 19
                 && fresh.links().len() == 3
                 && run_so(&fresh, CALLS)
-                && is_too_small
         }
         Err(_) => false,
     }
+}
+
+/// Whether it is so where the fresh core may have as many as stay, and is refused where it may have one less of a kind.
+fn is_by_limits(alloc: Global, old: &Core, released: &Released) -> bool {
+    is_renewed(alloc, old, released, ENOUGH) && are_refused(alloc, old, released, TOO_FEW)
 }
 
 /// The same once the old core has forgotten what is past.
 fn is_renewed_again(alloc: Global, old: &mut Core, released: &Released) -> bool {
     let is_past_there = old.log().kept_from(0).is_some();
     old.forget();
-    is_past_there && old.log().kept_from(0).is_none() && is_renewed(alloc, old, released)
+    is_past_there && old.log().kept_from(0).is_none() && is_by_limits(alloc, old, released)
 }
 
 /// All of it.
 fn renews(alloc: Global) -> bool {
     match (old_core(alloc), released(alloc)) {
         (Ok(mut old), Ok(released)) => {
-            is_renewed(alloc, &old, &released) && is_renewed_again(alloc, &mut old, &released)
+            is_by_limits(alloc, &old, &released) && is_renewed_again(alloc, &mut old, &released)
         }
         _ => false,
     }
@@ -257,9 +366,16 @@ fn carries_on(alloc: Global, fresh: &mut Core, numbers: &mut Renumbering, old: &
 
 /// All of it, from a fresh core that is filled.
 fn fills(alloc: Global, fresh: &mut Core, old: &mut Core, released: &Released) -> bool
-    requires { fresh.old ≡ empty_core 8 }
+    requires { fresh.old ≡ empty_core (fixed 8) }
 {
-    match refill(alloc, fresh, old.world(), old.log(), released, 8) {
+    match refill(
+        alloc,
+        fresh,
+        old.world(),
+        old.log(),
+        released,
+        Limits::fixed(8),
+    ) {
         Ok(mut numbers) => are_numbers(&numbers) && carries_on(alloc, fresh, &mut numbers, old),
         Err(_) => false,
     }

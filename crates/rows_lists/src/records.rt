@@ -27,7 +27,7 @@ fn name_of(alloc: Global, number: u32) -> Result<String, AllocError> {
 fn is_defined(alloc: Global, classes: &mut Classes, name: &str, number: u32) -> bool {
     match class(alloc, name, 33, (number > 0).then_some(OBJECT), &[], &[]) {
         Some(file) => {
-            classes.define(alloc, LoaderId::new(0), file).ok() == Some(ClassId::new(number))
+            classes.define(alloc, LoaderId::new(0), file, 65_536).ok() == Some(ClassId::new(number))
         }
         None => false,
     }

@@ -37,7 +37,10 @@ pub(crate) enum Shape {
 /// Defines the class by loader 0, if there is one.
 fn define(alloc: Global, world: &mut World, file: Option<ClassFile>) -> bool {
     match file {
-        Some(file) => world.classes.define(alloc, LoaderId::new(0), file).is_ok(),
+        Some(file) => world
+            .classes
+            .define(alloc, LoaderId::new(0), file, 65_536)
+            .is_ok(),
         None => false,
     }
 }

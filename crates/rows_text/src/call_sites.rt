@@ -24,7 +24,7 @@ fn kind(told: &mut Told, word: &str) -> CallSiteKind {
 fn new_site(told: &mut Told, world: &mut World, of: &str, ty: &str, to: Target) {
     let kind = kind(told, of);
     if let Some(ty) = named(told, text(ty)) {
-        match world.sites.new_site(&world.classes, kind, ty, to) {
+        match world.sites.new_site(&world.classes, kind, ty, to, 65_536) {
             Ok(site) => told.show(&site.number()),
             Err(fault) => told.not_made(fault),
         }
@@ -82,7 +82,7 @@ fn tell(told: &mut Told, world: &mut World, words: &[&str]) {
 /// Obeys the command, where it changes the call sites and switch points.
 pub(crate) fn obey(told: &mut Told, world: &mut World, words: &[&str]) {
     match *words {
-        ["switch-point"] => match world.sites.new_switch() {
+        ["switch-point"] => match world.sites.new_switch(65_536) {
             Ok(point) => told.show(&point.number()),
             Err(fault) => told.not_made(fault),
         },

@@ -11,7 +11,7 @@ use jl_types::{Class, ClassId, OrMemory};
 fn define(told: &mut Told, classes: &mut Classes, by: &str, name: &str, rest: &[&str]) {
     let by = words::loader(told, by);
     if let Some(file) = definitions::file(told, name, rest) {
-        told.definition(classes.define(told.alloc(), by, file));
+        told.definition(classes.define(told.alloc(), by, file, 65_536));
     }
 }
 
@@ -116,7 +116,7 @@ fn tell(told: &mut Told, classes: &Classes, words: &[&str]) {
 /// Obeys the command, where it changes the loaders and classes.
 pub(crate) fn obey(told: &mut Told, classes: &mut Classes, words: &[&str]) {
     match *words {
-        ["loader"] => match classes.new_loader(told.alloc()) {
+        ["loader"] => match classes.new_loader(told.alloc(), 1_024) {
             Ok(loader) => told.show(&loader.number()),
             Err(fault) => told.show(&fault),
         },

@@ -1,5 +1,5 @@
 -- What a definition adds to what the classes keep. A means of proof.
-use Rattle.std.specs.Prelude.{◌≡◌, ℕ, ◌<◌, ◌≤◌, true, false, if◌then◌else◌, List, ◌∷◌, [], ◌++◌, length, None, IfSome, All}
+use Rattle.std.specs.Prelude.{◌≡◌, ℕ, ◌<◌, ◌≤◌, ◌^◌, true, false, if◌then◌else◌, List, ◌∷◌, [], ◌++◌, length, None, IfSome, All}
 use Rattle.jl_types.specs.Values.World.{Class, Classes}
 use Rattle.jl_types.specs.Values.Members.{is_concrete_row, is_interface}
 use Rattle.jl_types.specs.Values.Ancestry.{ancestors}
@@ -9,7 +9,7 @@ use Rattle.jl_hierarchy.specs.Redeclared.{Marked, has_method, sees_print, line_a
 
 -- as many lists of ancestors and of receivers as classes, which aren't too many
 pub record AreEven (rows : List Class) (above below : List (List ℕ)) : Type 0 where
-  pub few : length rows ≤ 65536
+  pub few : length rows ≤ 2 ^ 20
   pub many_above : length above ≡ length rows
   pub many_below : length below ≡ length rows
 

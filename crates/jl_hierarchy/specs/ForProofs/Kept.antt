@@ -1,5 +1,5 @@
 -- What the classes keep beside what a clause sees. A means of proof.
-use Rattle.std.specs.Prelude.{◌≡◌, ℕ, ◌<◌, ◌≤◌, ◌==◌, Bool, true, ◌&&◌, if◌then◌else◌, List, ◌∷◌, [], ◌++◌, Vec, map, length, get_or, slice_get}
+use Rattle.std.specs.Prelude.{◌≡◌, ℕ, ◌<◌, ◌≤◌, ◌^◌, ◌==◌, Bool, true, ◌&&◌, if◌then◌else◌, List, ◌∷◌, [], ◌++◌, Vec, map, length, get_or, slice_get}
 use Rattle.std.specs.Prelude.{is_none, Some, false, ⊤}
 use Rattle.std.specs.List.{AllByRecursion, list_any}
 use Rattle.std.specs.Vec.{vec_len, vec_capacity}
@@ -35,8 +35,8 @@ pub record IsKept (cs : Classes) (above below : List (List ℕ)) : Type 0 where
   pub object : ObjectComesFirst cs
   pub closed : IsClosed cs
   pub own : AreRecorded cs
-  pub few : length cs.rows ≤ 65536
-  pub few_loaders : length cs.loaders ≤ 1024
+  pub few : length cs.rows ≤ 2 ^ 20
+  pub few_loaders : length cs.loaders ≤ 2 ^ 20
   pub ancestors_kept : above ≡ map (ancestors cs.rows) (numbers cs)
   pub receivers_kept : below ≡ map (receivers cs) (numbers cs)
 

@@ -1,5 +1,6 @@
 -- Call sites and switch points, over the whole history.
 use Rattle.std.specs.Prelude.{◌≡◌, ℕ, Bool, true, false, zero, suc, List, [], ◌∷◌, ◌++◌, Some, Ok, Err, codes, refl}
+use Rattle.jl_types.specs.Events.Limits.{fixed}
 use Rattle.jl_class.specs.Class.{Method}
 use Rattle.jl_class.specs.declared.site.Kind.TheVariants.{Dynamic}
 use Rattle.jl_class.specs.declared.site.Operand.TheVariants as operand
@@ -56,7 +57,7 @@ bound t = begun ++ NewCallSite Mutable (codes "()V") t ∷ Bind 0 0 ∷ []
 prepared : scratch (world_after (bound (target.Method m))) 0 ≡ Ok (Plain m)
 prepared = refl
 
-bound_for_good : verdict 65536 (world_after (bound (target.Method m))) (Bind 0 0) ≡ Err (refusal.AlreadyBound 0)
+bound_for_good : verdict (fixed 65536) (world_after (bound (target.Method m))) (Bind 0 0) ≡ Err (refusal.AlreadyBound 0)
 bound_for_good = refl
 
 -- a new target drops the link, and the old target doesn't bring it back
@@ -94,7 +95,7 @@ runs_fallback = refl
 invalid_for_good : dropped (guarded n ++ Invalidate (0 ∷ []) ∷ []) (Invalidate (0 ∷ [])) ≡ []
 invalid_for_good = refl
 
-no_point : verdict 65536 (world_after begun) (Invalidate (0 ∷ 1 ∷ [])) ≡ Err (refusal.CallSite fault.UnknownSwitch)
+no_point : verdict (fixed 65536) (world_after begun) (Invalidate (0 ∷ 1 ∷ [])) ≡ Err (refusal.CallSite fault.UnknownSwitch)
 no_point = refl
 
 -- ---- targets that aren't taken
@@ -102,13 +103,13 @@ no_point = refl
 abbrev constant : List Event
 constant = begun ++ NewCallSite Constant (codes "()V") (target.Method m) ∷ []
 
-kept_constant : verdict 65536 (world_after constant) (SetTarget 0 (target.Method n)) ≡ Err (refusal.CallSite fault.Constant)
+kept_constant : verdict (fixed 65536) (world_after constant) (SetTarget 0 (target.Method n)) ≡ Err (refusal.CallSite fault.Constant)
 kept_constant = refl
 
-wrong_type : verdict 65536 (world_after begun) (NewCallSite Mutable (codes "()I") (target.Method m)) ≡ Err (refusal.CallSite fault.WrongType)
+wrong_type : verdict (fixed 65536) (world_after begun) (NewCallSite Mutable (codes "()I") (target.Method m)) ≡ Err (refusal.CallSite fault.WrongType)
 wrong_type = refl
 
-no_method : verdict 65536 (world_after begun) (NewCallSite Mutable (codes "()V") (target.Method (record { class = 1; index = 3 }))) ≡ Err
+no_method : verdict (fixed 65536) (world_after begun) (NewCallSite Mutable (codes "()V") (target.Method (record { class = 1; index = 3 }))) ≡ Err
     (refusal.CallSite fault.UnknownMethod)
 no_method = refl
 
@@ -117,10 +118,10 @@ abbrev deep : ℕ → Target
 deep zero = target.Method m
 deep (suc k) = target.Guard 0 (deep k) (target.Method n)
 
-deepest : verdict 65536 (world_after begun) (NewCallSite Mutable (codes "()V") (deep 63)) ≡ Ok (made.CallSite 0)
+deepest : verdict (fixed 65536) (world_after begun) (NewCallSite Mutable (codes "()V") (deep 63)) ≡ Ok (made.CallSite 0)
 deepest = refl
 
-too_deep : verdict 65536 (world_after begun) (NewCallSite Mutable (codes "()V") (deep 64)) ≡ Err (refusal.CallSite fault.TooDeep)
+too_deep : verdict (fixed 65536) (world_after begun) (NewCallSite Mutable (codes "()V") (deep 64)) ≡ Err (refusal.CallSite fault.TooDeep)
 too_deep = refl
 
 -- the same, one in the other's fallback
@@ -128,25 +129,25 @@ abbrev deep_fallback : ℕ → Target
 deep_fallback zero = target.Method m
 deep_fallback (suc k) = target.Guard 0 (target.Method n) (deep_fallback k)
 
-deepest_fallback : verdict 65536 (world_after begun) (NewCallSite Mutable (codes "()V") (deep_fallback 63)) ≡ Ok (made.CallSite 0)
+deepest_fallback : verdict (fixed 65536) (world_after begun) (NewCallSite Mutable (codes "()V") (deep_fallback 63)) ≡ Ok (made.CallSite 0)
 deepest_fallback = refl
 
-too_deep_fallback : verdict 65536 (world_after begun) (NewCallSite Mutable (codes "()V") (deep_fallback 64)) ≡ Err (refusal.CallSite fault.TooDeep)
+too_deep_fallback : verdict (fixed 65536) (world_after begun) (NewCallSite Mutable (codes "()V") (deep_fallback 64)) ≡ Err (refusal.CallSite fault.TooDeep)
 too_deep_fallback = refl
 
 -- ---- new targets that are taken
 
-retargets : reply 65536 linked (SetTarget 0 (target.Method n)) ≡ Ok (record { made = made.Nothing; dropped = 0 ∷ [] })
+retargets : reply (fixed 65536) linked (SetTarget 0 (target.Method n)) ≡ Ok (record { made = made.Nothing; dropped = 0 ∷ [] })
 retargets = refl
 
 -- a volatile call site, bound
 abbrev volatile : List Event → List Event
 volatile more = begun ++ NewCallSite Volatile (codes "()V") (target.Method m) ∷ Bind 0 0 ∷ more
 
-takes_a_target : verdict 65536 (world_after (volatile [])) (SetTarget 0 (target.Method n)) ≡ Ok made.Nothing
+takes_a_target : verdict (fixed 65536) (world_after (volatile [])) (SetTarget 0 (target.Method n)) ≡ Ok made.Nothing
 takes_a_target = refl
 
-takes_a_second : verdict 65536 (world_after (volatile (SetTarget 0 (target.Method n) ∷ []))) (SetTarget 0 (target.Method m)) ≡ Ok made.Nothing
+takes_a_second : verdict (fixed 65536) (world_after (volatile (SetTarget 0 (target.Method n) ∷ []))) (SetTarget 0 (target.Method m)) ≡ Ok made.Nothing
 takes_a_second = refl
 
 runs_the_first : dispatch (world_after (volatile (SetTarget 0 (target.Method n) ∷ []))) 0 Null ≡ answer.Run n
@@ -169,16 +170,16 @@ three more = begun ++ NewSwitch ∷ NewSwitch ∷ more
 abbrev left_by : List Event → List Bool
 left_by events = (world_after (three events)).sites.switches
 
-invalidates : reply 65536 (guarded n) (Invalidate (0 ∷ [])) ≡ Ok (record { made = made.Nothing; dropped = 0 ∷ [] })
+invalidates : reply (fixed 65536) (guarded n) (Invalidate (0 ∷ [])) ≡ Ok (record { made = made.Nothing; dropped = 0 ∷ [] })
 invalidates = refl
 
-none_is_accepted : verdict 65536 (world_after (three [])) (Invalidate []) ≡ Ok made.Nothing
+none_is_accepted : verdict (fixed 65536) (world_after (three [])) (Invalidate []) ≡ Ok made.Nothing
 none_is_accepted = refl
 
-invalid_is_accepted : verdict 65536 (world_after (three (Invalidate (1 ∷ []) ∷ []))) (Invalidate (1 ∷ [])) ≡ Ok made.Nothing
+invalid_is_accepted : verdict (fixed 65536) (world_after (three (Invalidate (1 ∷ []) ∷ []))) (Invalidate (1 ∷ [])) ≡ Ok made.Nothing
 invalid_is_accepted = refl
 
-twice_is_accepted : verdict 65536 (world_after (three [])) (Invalidate (1 ∷ 1 ∷ [])) ≡ Ok made.Nothing
+twice_is_accepted : verdict (fixed 65536) (world_after (three [])) (Invalidate (1 ∷ 1 ∷ [])) ≡ Ok made.Nothing
 twice_is_accepted = refl
 
 none_is_made_invalid : left_by (Invalidate [] ∷ []) ≡ true ∷ true ∷ true ∷ []

@@ -1,5 +1,7 @@
 -- What a loader refuses to define (JVMS 5.3.5), each fault once, and each pair of neighbours in their order.
 use Rattle.std.specs.Prelude.{◌≡◌, ℕ, List, [], ◌∷◌, ◌++◌, Some, None, Ok, Err, Result, length, codes, refl}
+use Rattle.jl_types.specs.declared.limits.Limits.{Limits}
+use Rattle.jl_types.specs.Events.Limits.{fixed}
 use Rattle.jl_types.specs.Events.Event.{Event}
 use Rattle.jl_types.specs.declared.event.EventOf.TheVariants.{NewLoader, Define, Delegate}
 use Rattle.jl_types.specs.declared.event.Made.{Made}
@@ -34,7 +36,7 @@ before = root 0 ∷ NewLoader ∷ Delegate 1 object 0
     ∷ []
 
 abbrev answers : Event → Result Made Refusal
-answers e = verdict 65536 (world_after before) e
+answers e = verdict (fixed 65536) (world_after before) e
 
 -- ---- each alone
 
@@ -102,7 +104,7 @@ no_interfaces_in_file_order = refl
 closed_superclass_first : answers (defines 0 (codes "q/X") 33 (codes "p/A") (codes "p/I" ∷ [])) ≡ Err (refusal.Define (InaccessibleParent (codes "p/A")))
 closed_superclass_first = refl
 
-closed_in_file_order : verdict 65536 (world_after (before ++ defines 0 (codes "r/I") 1536 object [] ∷ []))
+closed_in_file_order : verdict (fixed 65536) (world_after (before ++ defines 0 (codes "r/I") 1536 object [] ∷ []))
     (defines 0 (codes "q/X") 33 object (codes "r/I" ∷ codes "p/I" ∷ []))
     ≡ Err (refusal.Define (InaccessibleParent (codes "r/I")))
 closed_in_file_order = refl
@@ -119,14 +121,26 @@ with_more more =
     record w { classes = record w.classes { rows = w.classes.rows ++ more } }
 
 last_class : (more : List Class) → length (with_more more).classes.rows ≡ 65535
-    → verdict 65536 (with_more more) (defines 0 (codes "X") 33 object []) ≡ Ok (made.Class 65535)
+    → verdict (fixed 65536) (with_more more) (defines 0 (codes "X") 33 object []) ≡ Ok (made.Class 65535)
 last_class more e = rw e refl
 
 too_many_classes : (more : List Class) → length (with_more more).classes.rows ≡ 65536
-    → verdict 65536 (with_more more) (defines 0 (codes "X") 33 object []) ≡ Err (refusal.Define Full)
+    → verdict (fixed 65536) (with_more more) (defines 0 (codes "X") 33 object []) ≡ Err (refusal.Define Full)
 too_many_classes more e = rw e refl
 
+-- where a linker may have more, and where it may have fewer
+abbrev at_most : ℕ → Limits
+at_most most = record (fixed 65536) { classes = most }
+
+last_wide_class : (more : List Class) → length (with_more more).classes.rows ≡ 69999
+    → verdict (at_most 70000) (with_more more) (defines 0 (codes "X") 33 object []) ≡ Ok (made.Class 69999)
+last_wide_class more e = rw e refl
+
+too_many_wide_classes : (more : List Class) → length (with_more more).classes.rows ≡ 70000
+    → verdict (at_most 70000) (with_more more) (defines 0 (codes "X") 33 object []) ≡ Err (refusal.Define Full)
+too_many_wide_classes more e = rw e refl
+
 -- however many there are
-closed_before_too_many : (more : List Class) → verdict 65536 (with_more more) (defines 0 (codes "q/X") 33 (codes "p/A") []) ≡ Err
+closed_before_too_many : (more : List Class) → verdict (fixed 65536) (with_more more) (defines 0 (codes "q/X") 33 (codes "p/A") []) ≡ Err
     (refusal.Define (InaccessibleParent (codes "p/A")))
 closed_before_too_many more = refl

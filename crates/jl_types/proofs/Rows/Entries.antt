@@ -2,6 +2,7 @@
 use Rattle.std.specs.Prelude.{◌≡◌, ℕ, ◌==◌, true, false, map, length, List, [], ◌∷◌, ◌++◌, take, Option, Some, None, Result, Ok, Err, codes, refl}
 use Rattle.std.proofs.Common.{ap}
 use Rattle.std.proofs.lemmas.Bool.{both_ways, eq-eqb}
+use Rattle.jl_types.specs.Events.Limits.{fixed}
 use Rattle.jl_class.specs.declared.site.Kind.TheVariants.{Virtual}
 use Rattle.jl_types.specs.declared.answer.Outcome.TheVariants.{Run}
 use Rattle.jl_types.specs.declared.link.Link.{Link}
@@ -30,11 +31,11 @@ loader = entry NewLoader (Loader 1) [] []
 abbrev switch : Entry
 switch = entry NewSwitch (Switch 0) [] []
 
-loader_is_legal : IsLegal 0 (loader ∷ [])
-loader_is_legal = legal_more 0 [] loader (legal_none 0) (record { answered = refl; slots = refl })
+loader_is_legal : IsLegal (fixed 0) (loader ∷ [])
+loader_is_legal = legal_more (fixed 0) [] loader (legal_none (fixed 0)) (record { answered = refl; slots = refl })
 
-both_are_legal : IsLegal 0 (loader ∷ switch ∷ [])
-both_are_legal = legal_more 0 (loader ∷ []) switch loader_is_legal (record { answered = refl; slots = refl })
+both_are_legal : IsLegal (fixed 0) (loader ∷ switch ∷ [])
+both_are_legal = legal_more (fixed 0) (loader ∷ []) switch loader_is_legal (record { answered = refl; slots = refl })
 
 -- ---- java/lang/Object 0; A 1 with f; M 2, whose two methods call A.f, as sites 0 and 1; and later C 3 below A with its own f
 
@@ -80,45 +81,45 @@ linked = requested ++ install ∷ []
 abbrev all : List Entry
 all = linked ++ again ∷ own ∷ relink ∷ []
 
-object_is_legal : IsLegal 3 (take 1 all)
-object_is_legal = legal_more 3 [] _ (legal_none 3) (record { answered = refl; slots = refl })
+object_is_legal : IsLegal (fixed 3) (take 1 all)
+object_is_legal = legal_more (fixed 3) [] _ (legal_none (fixed 3)) (record { answered = refl; slots = refl })
 
-a_is_legal : IsLegal 3 (take 2 all)
-a_is_legal = legal_more 3 (take 1 all) _ object_is_legal (record { answered = refl; slots = refl })
+a_is_legal : IsLegal (fixed 3) (take 2 all)
+a_is_legal = legal_more (fixed 3) (take 1 all) _ object_is_legal (record { answered = refl; slots = refl })
 
-defined_is_legal : IsLegal 3 defined
-defined_is_legal = legal_more 3 (take 2 all) _ a_is_legal (record { answered = refl; slots = refl })
+defined_is_legal : IsLegal (fixed 3) defined
+defined_is_legal = legal_more (fixed 3) (take 2 all) _ a_is_legal (record { answered = refl; slots = refl })
 
-one_site_is_legal : IsLegal 3 (defined ++ site 0 ∷ [])
-one_site_is_legal = legal_more 3 defined (site 0) defined_is_legal (record { answered = refl; slots = refl })
+one_site_is_legal : IsLegal (fixed 3) (defined ++ site 0 ∷ [])
+one_site_is_legal = legal_more (fixed 3) defined (site 0) defined_is_legal (record { answered = refl; slots = refl })
 
-requested_is_legal : IsLegal 3 requested
-requested_is_legal = legal_more 3 (defined ++ site 0 ∷ []) (site 1) one_site_is_legal (record { answered = refl; slots = refl })
+requested_is_legal : IsLegal (fixed 3) requested
+requested_is_legal = legal_more (fixed 3) (defined ++ site 0 ∷ []) (site 1) one_site_is_legal (record { answered = refl; slots = refl })
 
-linked_is_legal : IsLegal 3 linked
-linked_is_legal = legal_more 3 requested install requested_is_legal (record { answered = refl; slots = refl })
+linked_is_legal : IsLegal (fixed 3) linked
+linked_is_legal = legal_more (fixed 3) requested install requested_is_legal (record { answered = refl; slots = refl })
 
-again_is_legal : IsLegal 3 (linked ++ again ∷ [])
-again_is_legal = legal_more 3 linked again linked_is_legal (record { answered = refl; slots = refl })
+again_is_legal : IsLegal (fixed 3) (linked ++ again ∷ [])
+again_is_legal = legal_more (fixed 3) linked again linked_is_legal (record { answered = refl; slots = refl })
 
-own_is_legal : IsLegal 3 (linked ++ again ∷ own ∷ [])
-own_is_legal = legal_more 3 (linked ++ again ∷ []) own again_is_legal (record { answered = refl; slots = refl })
+own_is_legal : IsLegal (fixed 3) (linked ++ again ∷ own ∷ [])
+own_is_legal = legal_more (fixed 3) (linked ++ again ∷ []) own again_is_legal (record { answered = refl; slots = refl })
 
-all_is_legal : IsLegal 3 all
-all_is_legal = legal_more 3 (linked ++ again ∷ own ∷ []) relink own_is_legal (record { answered = refl; slots = refl })
+all_is_legal : IsLegal (fixed 3) all
+all_is_legal = legal_more (fixed 3) (linked ++ again ∷ own ∷ []) relink own_is_legal (record { answered = refl; slots = refl })
 
 -- ---- the table
 
-empty_table : table_of 3 requested ≡ None ∷ None ∷ None ∷ []
+empty_table : table_of (fixed 3) requested ≡ None ∷ None ∷ None ∷ []
 empty_table = refl
 
-both_linked : table_of 3 linked ≡ Some direct ∷ Some direct ∷ None ∷ []
+both_linked : table_of (fixed 3) linked ≡ Some direct ∷ Some direct ∷ None ∷ []
 both_linked = refl
 
-both_gone : table_of 3 (linked ++ again ∷ own ∷ []) ≡ None ∷ None ∷ None ∷ []
+both_gone : table_of (fixed 3) (linked ++ again ∷ own ∷ []) ≡ None ∷ None ∷ None ∷ []
 both_gone = refl
 
-one_linked : table_of 3 all ≡ None ∷ Some two ∷ None ∷ []
+one_linked : table_of (fixed 3) all ≡ None ∷ Some two ∷ None ∷ []
 one_linked = refl
 
 later_slot_counts : written (None ∷ None ∷ []) ((0, Some direct) ∷ (0, Some two) ∷ []) ≡ Some two ∷ None ∷ []
@@ -180,32 +181,32 @@ first_site (slot ∷ slots) = slot.0
 
 -- ---- by the reply
 
-wrong_number : ¬ IsLegal 0 (entry NewSwitch (Switch 1) [] [] ∷ loader ∷ [])
+wrong_number : ¬ IsLegal (fixed 0) (entry NewSwitch (Switch 1) [] [] ∷ loader ∷ [])
 wrong_number legal = apart switch_number _ _ refl (legal.each 0 _ refl).answered
 
 -- the number that it would have without the entry before it
-number_of_the_first : ¬ IsLegal 0 (switch ∷ switch ∷ [])
+number_of_the_first : ¬ IsLegal (fixed 0) (switch ∷ switch ∷ [])
 number_of_the_first legal = apart switch_number _ _ refl (legal.each 1 _ refl).answered
 
-one_drop_left_out : ¬ IsLegal 3 (linked ++ entry own.event (Class 3) (0 ∷ []) own.slots ∷ [])
+one_drop_left_out : ¬ IsLegal (fixed 3) (linked ++ entry own.event (Class 3) (0 ∷ []) own.slots ∷ [])
 one_drop_left_out legal = apart dropped_count _ _ refl (legal.each 6 _ refl).answered
 
-is_refused_event : ¬ IsLegal 3 (linked ++ entry (Install []) Nothing [] [] ∷ [])
+is_refused_event : ¬ IsLegal (fixed 3) (linked ++ entry (Install []) Nothing [] [] ∷ [])
 is_refused_event legal = apart is_refused _ _ refl (legal.each 6 _ refl).answered
 
-one_site_too_many : ¬ IsLegal 1 requested
+one_site_too_many : ¬ IsLegal (fixed 1) requested
 one_site_too_many legal = apart is_refused _ _ refl (legal.each 4 _ refl).answered
 
 -- ---- by the slots
 
-one_left_out : ¬ IsLegal 3 (requested ++ entry install.event Nothing [] ((0, Some direct) ∷ []) ∷ [])
+one_left_out : ¬ IsLegal (fixed 3) (requested ++ entry install.event Nothing [] ((0, Some direct) ∷ []) ∷ [])
 one_left_out legal = apart length _ _ refl (legal.each 5 _ refl).slots
 
-one_unchanged : ¬ IsLegal 3 (linked ++ entry again.event Nothing [] ((0, Some direct) ∷ []) ∷ [])
+one_unchanged : ¬ IsLegal (fixed 3) (linked ++ entry again.event Nothing [] ((0, Some direct) ∷ []) ∷ [])
 one_unchanged legal = apart length _ _ refl (legal.each 6 _ refl).slots
 
-falling : ¬ IsLegal 3 (requested ++ entry install.event Nothing [] ((1, Some direct) ∷ (0, Some direct) ∷ []) ∷ [])
+falling : ¬ IsLegal (fixed 3) (requested ++ entry install.event Nothing [] ((1, Some direct) ∷ (0, Some direct) ∷ []) ∷ [])
 falling legal = apart first_site _ _ refl (legal.each 5 _ refl).slots
 
-links_before : ¬ IsLegal 3 (requested ++ entry install.event Nothing [] ((0, None) ∷ (1, None) ∷ []) ∷ [])
+links_before : ¬ IsLegal (fixed 3) (requested ++ entry install.event Nothing [] ((0, None) ∷ (1, None) ∷ []) ∷ [])
 links_before legal = apart (λ slots. length (emptied slots)) _ _ refl (legal.each 5 _ refl).slots

@@ -1,5 +1,6 @@
 -- A site is linked, a class comes, and the link goes: over the whole history.
 use Rattle.std.specs.Prelude.{◌≡◌, ℕ, true, false, List, [], ◌∷◌, ◌++◌, Some, None, Ok, Err, codes, refl}
+use Rattle.jl_types.specs.Events.Limits.{fixed}
 use Rattle.jl_class.specs.Class.{Method}
 use Rattle.jl_class.specs.declared.site.Kind.TheVariants.{Virtual}
 use Rattle.jl_types.specs.declared.answer.Outcome.TheVariants.{Run}
@@ -70,7 +71,7 @@ is_installed = refl
 abbrev own : Event
 own = below (codes "A") (codes "C") 33 (method 1 (codes "f") ∷ [])
 
-is_defined : verdict 65536 (world_after linked) own ≡ Ok (made.Class 4)
+is_defined : verdict (fixed 65536) (world_after linked) own ≡ Ok (made.Class 4)
 is_defined = refl
 
 is_dropped : dropped linked own ≡ 0 ∷ []
@@ -79,7 +80,7 @@ is_dropped = refl
 runs_own : dispatch (world_after (linked ++ own ∷ [])) 0 (Of 4) ≡ answer.Run (first 4)
 runs_own = refl
 
-is_stale : verdict 65536 (world_after (linked ++ own ∷ [])) install
+is_stale : verdict (fixed 65536) (world_after (linked ++ own ∷ [])) install
     ≡ Err (refusal.Stale 0 (Table kind.Virtual ((1, Run (first 1)) ∷ (2, Run (first 1)) ∷ (4, Run (first 4)) ∷ [])))
 is_stale = refl
 
@@ -102,31 +103,31 @@ table_after = refl
 
 -- ---- definitions that are refused
 
-no_parent : verdict 65536 nothing_yet (below (codes "java/lang/Object") (codes "A") 33 []) ≡ Err (refusal.Define (MissingParent (codes "java/lang/Object")))
+no_parent : verdict (fixed 65536) nothing_yet (below (codes "java/lang/Object") (codes "A") 33 []) ≡ Err (refusal.Define (MissingParent (codes "java/lang/Object")))
 no_parent = refl
 
-twice : verdict 65536 (world_after before) (below (codes "java/lang/Object") (codes "A") 33 []) ≡ Err (refusal.Define AlreadyRecorded)
+twice : verdict (fixed 65536) (world_after before) (below (codes "java/lang/Object") (codes "A") 33 []) ≡ Err (refusal.Define AlreadyRecorded)
 twice = refl
 
 -- ---- installs
 
-batch : verdict 65536 (world_after linked) (Install []) ≡ Err refusal.BatchSize
+batch : verdict (fixed 65536) (world_after linked) (Install []) ≡ Err refusal.BatchSize
 batch = refl
 
-repeated : verdict 65536 (world_after linked) (Install ((0, Direct (Run (first 1))) ∷ (0, Direct (Run (first 1))) ∷ [])) ≡ Err (refusal.Repeated 0)
+repeated : verdict (fixed 65536) (world_after linked) (Install ((0, Direct (Run (first 1))) ∷ (0, Direct (Run (first 1))) ∷ [])) ≡ Err (refusal.Repeated 0)
 repeated = refl
 
-unknown : verdict 65536 (world_after linked) (Install ((0, Direct (Run (first 1))) ∷ (1, Mega) ∷ [])) ≡ Err (refusal.UnknownSite 1)
+unknown : verdict (fixed 65536) (world_after linked) (Install ((0, Direct (Run (first 1))) ∷ (1, Mega) ∷ [])) ≡ Err (refusal.UnknownSite 1)
 unknown = refl
 
 -- a place that is requested already keeps its number, where no other may be requested
-again : verdict 1 (world_after before) (Request (record { class = 3; method = 0; pc = 0 })) ≡ Ok (made.Site 0)
+again : verdict (fixed 1) (world_after before) (Request (record { class = 3; method = 0; pc = 0 })) ≡ Ok (made.Site 0)
 again = refl
 
-no_place : verdict 65536 (world_after before) (Request (record { class = 3; method = 0; pc = 1 })) ≡ Err refusal.NoSuchPlace
+no_place : verdict (fixed 65536) (world_after before) (Request (record { class = 3; method = 0; pc = 1 })) ≡ Err refusal.NoSuchPlace
 no_place = refl
 
-no_class : verdict 65536 (world_after before) (Request (record { class = 9; method = 0; pc = 0 })) ≡ Err refusal.UnknownClass
+no_class : verdict (fixed 65536) (world_after before) (Request (record { class = 9; method = 0; pc = 0 })) ≡ Err refusal.UnknownClass
 no_class = refl
 
 -- ---- one event more

@@ -1,5 +1,6 @@
 -- What an install refuses: each fault alone, each pair of neighbours in their order, and what goes row by row.
 use Rattle.std.specs.Prelude.{◌≡◌, ℕ, List, [], ◌∷◌, Some, Ok, Err, Result, replicate, codes, refl}
+use Rattle.jl_types.specs.Events.Limits.{fixed}
 use Rattle.jl_class.specs.declared.site.Kind.TheVariants.{Static}
 use Rattle.jl_types.specs.declared.answer.Unlinked.TheVariants.{Unbound}
 use Rattle.jl_types.specs.declared.link.Link.{Link}
@@ -27,7 +28,7 @@ before = Define 0 (file (codes "java/lang/Object") 33 [])
     ∷ []
 
 abbrev answers : List (ℕ × Link) → Result Made Refusal
-answers rows = verdict 65536 (world_after before) (Install rows)
+answers rows = verdict (fixed 65536) (world_after before) (Install rows)
 
 is_ready : scratch (world_after before) 0 ≡ Ok (Plain (first 1))
 is_ready = refl

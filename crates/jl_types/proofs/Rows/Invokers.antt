@@ -1,5 +1,6 @@
 -- Targets that run whatever another call site runs (java.lang.invoke: CallSite.dynamicInvoker), over the whole history.
 use Rattle.std.specs.Prelude.{◌≡◌, ℕ, zero, suc, true, List, [], ◌∷◌, ◌++◌, Some, None, Result, Ok, Err, codes, refl}
+use Rattle.jl_types.specs.Events.Limits.{fixed}
 use Rattle.jl_types.specs.declared.answer.Recv.TheVariants.{Null}
 use Rattle.jl_types.specs.declared.answer.Answer.TheVariants as answer
 use Rattle.jl_types.specs.declared.link.Link.TheVariants.{Plain}
@@ -58,13 +59,13 @@ comes_by_both = refl
 one_evaluation : bound linked (SetTarget 0 (Of n)) ≡ 1
 one_evaluation = refl
 
-of_a_later_one : verdict 65536 (world_after linked) (SetTarget 0 (Invoker 1)) ≡ Err (CallSite (InvokerOrder 1))
+of_a_later_one : verdict (fixed 65536) (world_after linked) (SetTarget 0 (Invoker 1)) ≡ Err (CallSite (InvokerOrder 1))
 of_a_later_one = refl
 
-of_itself : verdict 65536 (world_after linked) (SetTarget 0 (Invoker 0)) ≡ Err (CallSite (InvokerOrder 0))
+of_itself : verdict (fixed 65536) (world_after linked) (SetTarget 0 (Invoker 0)) ≡ Err (CallSite (InvokerOrder 0))
 of_itself = refl
 
-constant_before_its_target : verdict 65536 (world_after linked) (SetTarget 1 (Invoker 9)) ≡ Err (CallSite KeepsIts)
+constant_before_its_target : verdict (fixed 65536) (world_after linked) (SetTarget 1 (Invoker 9)) ≡ Err (CallSite KeepsIts)
 constant_before_its_target = refl
 
 -- ---- an invoker behind a guard
@@ -144,7 +145,7 @@ three = record (world_after (begun ++ site Mutable (Of m) ∷ site Mutable (Of m
 }
 
 abbrev answers : Event → Result Made Refusal
-answers e = verdict 65536 three e
+answers e = verdict (fixed 65536) three e
 
 of_an_earlier_one : answers (SetTarget 1 (Invoker 0)) ≡ Ok made.Nothing
 of_an_earlier_one = refl
@@ -198,7 +199,7 @@ many_parts = refl
 size_before_order : answers (SetTarget 0 (Guard 0 (tree 7) (Of m))) ≡ Err (CallSite TooDeep)
 size_before_order = refl
 
-of_a_deep_one : verdict 65536 (world_after (begun ++ site Mutable (deep 63 (Of m)) ∷ [])) (site Mutable (Guard 0 (Invoker 0) (Of m))) ≡ Ok (made.CallSite 1)
+of_a_deep_one : verdict (fixed 65536) (world_after (begun ++ site Mutable (deep 63 (Of m)) ∷ [])) (site Mutable (Guard 0 (Invoker 0) (Of m))) ≡ Ok (made.CallSite 1)
 of_a_deep_one = refl
 
 -- ---- what no event leaves: an invoker of no earlier call site stands for nothing, and ends the way

@@ -1,5 +1,7 @@
 -- What there is room for, and places that are never linked.
 use Rattle.std.specs.Prelude.{◌≡◌, ℕ, List, [], ◌∷◌, ◌++◌, Some, None, Ok, Err, length, replicate, codes, refl}
+use Rattle.jl_types.specs.declared.limits.Limits.{Limits}
+use Rattle.jl_types.specs.Events.Limits.{fixed}
 use Rattle.jl_class.specs.declared.site.Kind.TheVariants.{Virtual, Static}
 use Rattle.jl_types.specs.declared.ids.Place.{Place}
 use Rattle.jl_types.specs.declared.event.EventOf.TheVariants.{NewLoader, NewSwitch, NewCallSite, Request}
@@ -20,16 +22,16 @@ use Rattle.jl_types.proofs.Rows.CallSites.{begun, m}
 
 -- ---- loaders, call sites, switch points
 
-last_loader : (max_sites : ℕ) (w : World) → length w.classes.loaders ≡ 1023 → verdict max_sites w NewLoader ≡ Ok (made.Loader 1023)
-last_loader max_sites w e = rw e refl
+last_loader : (sites : ℕ) (w : World) → length w.classes.loaders ≡ 1023 → verdict (fixed sites) w NewLoader ≡ Ok (made.Loader 1023)
+last_loader sites w e = rw e refl
 
-too_many_loaders : (max_sites : ℕ) (w : World) → length w.classes.loaders ≡ 1024 → verdict max_sites w NewLoader ≡ Err refusal.LoadersFull
-too_many_loaders max_sites w e = rw e refl
+too_many_loaders : (sites : ℕ) (w : World) → length w.classes.loaders ≡ 1024 → verdict (fixed sites) w NewLoader ≡ Err refusal.LoadersFull
+too_many_loaders sites w e = rw e refl
 
 -- whatever the target is
-too_many_call_sites : (max_sites : ℕ) (w : World) (ty : List ℕ) (t : Target) → length w.sites.call_sites ≡ 65536
-    → verdict max_sites w (NewCallSite Mutable ty t) ≡ Err (refusal.CallSite fault.Full)
-too_many_call_sites max_sites w ty t e = rw e refl
+too_many_call_sites : (sites : ℕ) (w : World) (ty : List ℕ) (t : Target) → length w.sites.call_sites ≡ 65536
+    → verdict (fixed sites) w (NewCallSite Mutable ty t) ≡ Err (refusal.CallSite fault.Full)
+too_many_call_sites sites w ty t e = rw e refl
 
 -- with these call sites
 abbrev with_call_sites : List CallSite → World
@@ -38,14 +40,42 @@ with_call_sites call_sites =
     record w { sites = record w.sites { call_sites = call_sites } }
 
 last_call_site : (call_sites : List CallSite) → length call_sites ≡ 65535
-    → verdict 65536 (with_call_sites call_sites) (NewCallSite Mutable (codes "()V") (Method m)) ≡ Ok (made.CallSite 65535)
+    → verdict (fixed 65536) (with_call_sites call_sites) (NewCallSite Mutable (codes "()V") (Method m)) ≡ Ok (made.CallSite 65535)
 last_call_site call_sites e = rw e refl
 
-last_switch : (max_sites : ℕ) (w : World) → length w.sites.switches ≡ 65535 → verdict max_sites w NewSwitch ≡ Ok (made.Switch 65535)
-last_switch max_sites w e = rw e refl
+last_switch : (sites : ℕ) (w : World) → length w.sites.switches ≡ 65535 → verdict (fixed sites) w NewSwitch ≡ Ok (made.Switch 65535)
+last_switch sites w e = rw e refl
 
-too_many_switches : (max_sites : ℕ) (w : World) → length w.sites.switches ≡ 65536 → verdict max_sites w NewSwitch ≡ Err (refusal.CallSite fault.Full)
-too_many_switches max_sites w e = rw e refl
+too_many_switches : (sites : ℕ) (w : World) → length w.sites.switches ≡ 65536 → verdict (fixed sites) w NewSwitch ≡ Err (refusal.CallSite fault.Full)
+too_many_switches sites w e = rw e refl
+
+-- ---- limits of a linker's own
+
+abbrev wide : Limits
+wide = record { sites = 7; loaders = 2000; classes = 70000; call_sites = 80000; switches = 90000 }
+
+past_the_fixed_loaders : (w : World) → length w.classes.loaders ≡ 1024 → verdict wide w NewLoader ≡ Ok (made.Loader 1024)
+past_the_fixed_loaders w e = rw e refl
+
+last_wide_loader : (w : World) → length w.classes.loaders ≡ 1999 → verdict wide w NewLoader ≡ Ok (made.Loader 1999)
+last_wide_loader w e = rw e refl
+
+too_many_wide_loaders : (w : World) → length w.classes.loaders ≡ 2000 → verdict wide w NewLoader ≡ Err refusal.LoadersFull
+too_many_wide_loaders w e = rw e refl
+
+last_wide_call_site : (call_sites : List CallSite) → length call_sites ≡ 79999
+    → verdict wide (with_call_sites call_sites) (NewCallSite Mutable (codes "()V") (Method m)) ≡ Ok (made.CallSite 79999)
+last_wide_call_site call_sites e = rw e refl
+
+too_many_wide_call_sites : (w : World) (ty : List ℕ) (t : Target) → length w.sites.call_sites ≡ 80000
+    → verdict wide w (NewCallSite Mutable ty t) ≡ Err (refusal.CallSite fault.Full)
+too_many_wide_call_sites w ty t e = rw e refl
+
+last_wide_switch : (w : World) → length w.sites.switches ≡ 89999 → verdict wide w NewSwitch ≡ Ok (made.Switch 89999)
+last_wide_switch w e = rw e refl
+
+too_many_wide_switches : (w : World) → length w.sites.switches ≡ 90000 → verdict wide w NewSwitch ≡ Err (refusal.CallSite fault.Full)
+too_many_wide_switches w e = rw e refl
 
 -- ---- places
 
@@ -59,23 +89,23 @@ calls owner =
 abbrev other : Place
 other = record { class = 1; method = 1; pc = 0 }
 
-room_for_one_more : verdict 2 (calls (codes "A")) (Request other) ≡ Ok (made.Site 1)
+room_for_one_more : verdict (fixed 2) (calls (codes "A")) (Request other) ≡ Ok (made.Site 1)
 room_for_one_more = refl
 
-no_room : verdict 1 (calls (codes "A")) (Request other) ≡ Err refusal.SitesFull
+no_room : verdict (fixed 1) (calls (codes "A")) (Request other) ≡ Err refusal.SitesFull
 no_room = refl
 
-of_an_array : verdict 1 (calls (codes "[LColor;")) (Request other) ≡ Err (refusal.NotLinkable ArrayReceiver)
+of_an_array : verdict (fixed 1) (calls (codes "[LColor;")) (Request other) ≡ Err (refusal.NotLinkable ArrayReceiver)
 of_an_array = refl
 
-of_method_handles : verdict 1 (calls (codes "java/lang/invoke/MethodHandle")) (Request other) ≡ Err (refusal.NotLinkable PolymorphicSignature)
+of_method_handles : verdict (fixed 1) (calls (codes "java/lang/invoke/MethodHandle")) (Request other) ≡ Err (refusal.NotLinkable PolymorphicSignature)
 of_method_handles = refl
 
-of_var_handles : verdict 1 (calls (codes "java/lang/invoke/VarHandle")) (Request other) ≡ Err (refusal.NotLinkable PolymorphicSignature)
+of_var_handles : verdict (fixed 1) (calls (codes "java/lang/invoke/VarHandle")) (Request other) ≡ Err (refusal.NotLinkable PolymorphicSignature)
 of_var_handles = refl
 
 -- a place that is requested keeps its number, linkable or not
-requested_before : verdict 1 (calls (codes "[LColor;")) (Request (record { class = 1; method = 0; pc = 0 })) ≡ Ok (made.Site 0)
+requested_before : verdict (fixed 1) (calls (codes "[LColor;")) (Request (record { class = 1; method = 0; pc = 0 })) ≡ Ok (made.Site 0)
 requested_before = refl
 
 -- ---- preparations: site 0 isn't ready, since A isn't there

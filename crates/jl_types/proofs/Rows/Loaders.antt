@@ -1,5 +1,6 @@
 -- Loaders: what they refuse to define and to delegate.
 use Rattle.std.specs.Prelude.{◌≡◌, ℕ, List, [], ◌∷◌, ◌++◌, Option, Some, None, Ok, Err, codes, refl}
+use Rattle.jl_types.specs.Events.Limits.{fixed}
 use Rattle.jl_types.specs.Events.Event.{Event}
 use Rattle.jl_types.specs.declared.event.EventOf.TheVariants.{NewLoader, Define, Delegate}
 use Rattle.jl_types.specs.declared.event.Made.TheVariants as made
@@ -22,54 +23,54 @@ object = codes "java/lang/Object"
 abbrev two : List Event
 two = defines 0 object 33 None ∷ NewLoader ∷ []
 
-no_parent : verdict 65536 (world_after two) (defines 1 (codes "A") 33 (Some object)) ≡ Err (refusal.Define (MissingParent object))
+no_parent : verdict (fixed 65536) (world_after two) (defines 1 (codes "A") 33 (Some object)) ≡ Err (refusal.Define (MissingParent object))
 no_parent = refl
 
-second_object : verdict 65536 (world_after two) (defines 1 object 33 None) ≡ Err (refusal.Define SecondObject)
+second_object : verdict (fixed 65536) (world_after two) (defines 1 object 33 None) ≡ Err (refusal.Define SecondObject)
 second_object = refl
 
-its_own_parent : verdict 65536 (world_after two) (defines 0 (codes "A") 33 (Some (codes "A"))) ≡ Err (refusal.Define NamesItself)
+its_own_parent : verdict (fixed 65536) (world_after two) (defines 0 (codes "A") 33 (Some (codes "A"))) ≡ Err (refusal.Define NamesItself)
 its_own_parent = refl
 
 -- loader 1 finds java/lang/Object in loader 0
 abbrev shared : List Event
 shared = two ++ Delegate 1 object 0 ∷ []
 
-may_delegate : verdict 65536 (world_after two) (Delegate 1 object 0) ≡ Ok made.Nothing
+may_delegate : verdict (fixed 65536) (world_after two) (Delegate 1 object 0) ≡ Ok made.Nothing
 may_delegate = refl
 
 is_found : lookup ((world_after shared).classes) 1 object ≡ Some 0
 is_found = refl
 
-delegated_twice : verdict 65536 (world_after shared) (Delegate 1 object 0) ≡ Err (refusal.Delegate delegate.AlreadyRecorded)
+delegated_twice : verdict (fixed 65536) (world_after shared) (Delegate 1 object 0) ≡ Err (refusal.Delegate delegate.AlreadyRecorded)
 delegated_twice = refl
 
-not_recorded : verdict 65536 (world_after shared) (Delegate 1 (codes "X") 0) ≡ Err (refusal.Delegate delegate.NotRecorded)
+not_recorded : verdict (fixed 65536) (world_after shared) (Delegate 1 (codes "X") 0) ≡ Err (refusal.Delegate delegate.NotRecorded)
 not_recorded = refl
 
-no_loader : verdict 65536 (world_after shared) (Delegate 2 object 0) ≡ Err (refusal.Delegate delegate.UnknownLoader)
+no_loader : verdict (fixed 65536) (world_after shared) (Delegate 2 object 0) ≡ Err (refusal.Delegate delegate.UnknownLoader)
 no_loader = refl
 
 -- ---- delegations, each pair of neighbours in their order
 
-unknown_before_not_recorded : verdict 65536 (world_after shared) (Delegate 2 (codes "X") 0) ≡ Err (refusal.Delegate delegate.UnknownLoader)
+unknown_before_not_recorded : verdict (fixed 65536) (world_after shared) (Delegate 2 (codes "X") 0) ≡ Err (refusal.Delegate delegate.UnknownLoader)
 unknown_before_not_recorded = refl
 
-to_unknown_before_not_recorded : verdict 65536 (world_after shared) (Delegate 0 (codes "X") 2) ≡ Err (refusal.Delegate delegate.UnknownLoader)
+to_unknown_before_not_recorded : verdict (fixed 65536) (world_after shared) (Delegate 0 (codes "X") 2) ≡ Err (refusal.Delegate delegate.UnknownLoader)
 to_unknown_before_not_recorded = refl
 
 -- loader 1 has an A of its own
 abbrev apart : List Event
 apart = shared ++ defines 1 (codes "A") 33 (Some object) ∷ []
 
-not_recorded_before_recorded : verdict 65536 (world_after apart) (Delegate 1 (codes "A") 0) ≡ Err (refusal.Delegate delegate.NotRecorded)
+not_recorded_before_recorded : verdict (fixed 65536) (world_after apart) (Delegate 1 (codes "A") 0) ≡ Err (refusal.Delegate delegate.NotRecorded)
 not_recorded_before_recorded = refl
 
-another_is_recorded : verdict 65536 (world_after (apart ++ defines 0 (codes "A") 33 (Some object) ∷ [])) (Delegate 1 (codes "A") 0) ≡ Err
+another_is_recorded : verdict (fixed 65536) (world_after (apart ++ defines 0 (codes "A") 33 (Some object) ∷ [])) (Delegate 1 (codes "A") 0) ≡ Err
     (refusal.Delegate delegate.AlreadyRecorded)
 another_is_recorded = refl
 
-delegated_to_itself : verdict 65536 (world_after shared) (Delegate 0 object 0) ≡ Err (refusal.Delegate delegate.AlreadyRecorded)
+delegated_to_itself : verdict (fixed 65536) (world_after shared) (Delegate 0 object 0) ≡ Err (refusal.Delegate delegate.AlreadyRecorded)
 delegated_to_itself = refl
 
 -- ---- run-time packages
@@ -78,13 +79,13 @@ delegated_to_itself = refl
 abbrev closed : List Event
 closed = shared ++ defines 0 (codes "p/A") 32 (Some object) ∷ Delegate 1 (codes "p/A") 0 ∷ []
 
-other_package : verdict 65536 (world_after closed) (defines 0 (codes "q/B") 33 (Some (codes "p/A"))) ≡ Err (refusal.Define (InaccessibleParent (codes "p/A")))
+other_package : verdict (fixed 65536) (world_after closed) (defines 0 (codes "q/B") 33 (Some (codes "p/A"))) ≡ Err (refusal.Define (InaccessibleParent (codes "p/A")))
 other_package = refl
 
-same_package : verdict 65536 (world_after closed) (defines 0 (codes "p/B") 33 (Some (codes "p/A"))) ≡ Ok (made.Class 2)
+same_package : verdict (fixed 65536) (world_after closed) (defines 0 (codes "p/B") 33 (Some (codes "p/A"))) ≡ Ok (made.Class 2)
 same_package = refl
 
-other_loader : verdict 65536 (world_after closed) (defines 1 (codes "p/B") 33 (Some (codes "p/A"))) ≡ Err (refusal.Define (InaccessibleParent (codes "p/A")))
+other_loader : verdict (fixed 65536) (world_after closed) (defines 1 (codes "p/B") 33 (Some (codes "p/A"))) ≡ Err (refusal.Define (InaccessibleParent (codes "p/A")))
 other_loader = refl
 
 -- ---- a loader's own parents
@@ -112,10 +113,10 @@ with_parents loader =
       methods = [];
     })
 
-own_parents : verdict 65536 (world_after same_names) (with_parents 1) ≡ Ok (made.Class 5)
+own_parents : verdict (fixed 65536) (world_after same_names) (with_parents 1) ≡ Ok (made.Class 5)
 own_parents = refl
 
-other_parents : verdict 65536 (world_after same_names) (with_parents 0) ≡ Err (refusal.Define SuperIsInterface)
+other_parents : verdict (fixed 65536) (world_after same_names) (with_parents 0) ≡ Err (refusal.Define SuperIsInterface)
 other_parents = refl
 
 own_superclass : superclass_of (world_after (same_names ++ with_parents 1 ∷ [])).classes 5 ≡ Some 3

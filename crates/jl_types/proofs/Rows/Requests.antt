@@ -1,5 +1,6 @@
 -- Which places are one, and which are two.
 use Rattle.std.specs.Prelude.{◌≡◌, ℕ, List, [], ◌∷◌, Ok, Err, Result, codes, refl}
+use Rattle.jl_types.specs.Events.Limits.{fixed}
 use Rattle.jl_types.specs.Events.Event.{Event}
 use Rattle.jl_types.specs.declared.event.EventOf.TheVariants.{Request}
 use Rattle.jl_types.specs.declared.event.Made.{Made}
@@ -26,7 +27,7 @@ after more = object
     ∷ more
 
 abbrev answers : List Event → Event → Result Made Refusal
-answers more e = verdict 65536 (world_after (after more)) e
+answers more e = verdict (fixed 65536) (world_after (after more)) e
 
 first_place : answers [] (request 1 0) ≡ Ok (Site 0)
 first_place = refl

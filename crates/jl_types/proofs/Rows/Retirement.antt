@@ -1,5 +1,6 @@
 -- A loader is retired: what refuses it, what goes with it, and what is left, over the whole history.
 use Rattle.std.specs.Prelude.{◌≡◌, ℕ, true, false, List, [], ◌∷◌, ◌++◌, map, Some, None, Ok, Err, codes, refl}
+use Rattle.jl_types.specs.Events.Limits.{fixed}
 use Rattle.jl_class.specs.Class.{Method}
 use Rattle.jl_class.specs.declared.site.Kind.TheVariants.{Virtual, Special, Static, Interface}
 use Rattle.jl_types.specs.declared.answer.Outcome.TheVariants.{Run}
@@ -62,7 +63,7 @@ two = Table kind.Virtual ((1, Run (first 1)) ∷ (2, Run (first 1)) ∷ (4, Run 
 abbrev again : List Event
 again = shared ++ own ∷ Install ((0, two) ∷ []) ∷ []
 
-may_go : verdict 65536 (world_after again) (Retire 1) ≡ Ok made.Nothing
+may_go : verdict (fixed 65536) (world_after again) (Retire 1) ≡ Ok made.Nothing
 may_go = refl
 
 is_dropped : dropped again (Retire 1) ≡ 0 ∷ []
@@ -96,13 +97,13 @@ bad_receiver = refl
 receivers_left : receivers (world_after after).classes 1 ≡ 1 ∷ 2 ∷ []
 receivers_left = refl
 
-goes_once : verdict 65536 (world_after after) (Retire 1) ≡ Err (refusal.Retire UnknownLoader)
+goes_once : verdict (fixed 65536) (world_after after) (Retire 1) ≡ Err (refusal.Retire UnknownLoader)
 goes_once = refl
 
-first_stays : verdict 65536 (world_after after) (Retire 0) ≡ Err (refusal.Retire FirstLoader)
+first_stays : verdict (fixed 65536) (world_after after) (Retire 0) ≡ Err (refusal.Retire FirstLoader)
 first_stays = refl
 
-never_made : verdict 65536 (world_after after) (Retire 2) ≡ Err (refusal.Retire UnknownLoader)
+never_made : verdict (fixed 65536) (world_after after) (Retire 2) ≡ Err (refusal.Retire UnknownLoader)
 never_made = refl
 
 -- ---- C without methods
@@ -130,25 +131,25 @@ still_a_number = refl
 not_present : is_present (world_after after).classes 4 ≡ false
 not_present = refl
 
-no_definition : verdict 65536 (world_after after) (defines 1 (codes "A") (codes "D") []) ≡ Err (refusal.Define define.UnknownLoader)
+no_definition : verdict (fixed 65536) (world_after after) (defines 1 (codes "A") (codes "D") []) ≡ Err (refusal.Define define.UnknownLoader)
 no_definition = refl
 
-no_delegation : verdict 65536 (world_after after) (Delegate 1 (codes "A") 0) ≡ Err (refusal.Delegate delegate.UnknownLoader)
+no_delegation : verdict (fixed 65536) (world_after after) (Delegate 1 (codes "A") 0) ≡ Err (refusal.Delegate delegate.UnknownLoader)
 no_delegation = refl
 
-no_delegation_to : verdict 65536 (world_after after) (Delegate 0 (codes "C") 1) ≡ Err (refusal.Delegate delegate.UnknownLoader)
+no_delegation_to : verdict (fixed 65536) (world_after after) (Delegate 0 (codes "C") 1) ≡ Err (refusal.Delegate delegate.UnknownLoader)
 no_delegation_to = refl
 
-no_request : verdict 65536 (world_after after) (Request (record { class = 4; method = 0; pc = 0 })) ≡ Err refusal.UnknownClass
+no_request : verdict (fixed 65536) (world_after after) (Request (record { class = 4; method = 0; pc = 0 })) ≡ Err refusal.UnknownClass
 no_request = refl
 
-no_target : verdict 65536 (world_after after) (NewCallSite Mutable (codes "()V") (target.Method (first 4))) ≡ Err (refusal.CallSite call_site.UnknownMethod)
+no_target : verdict (fixed 65536) (world_after after) (NewCallSite Mutable (codes "()V") (target.Method (first 4))) ≡ Err (refusal.CallSite call_site.UnknownMethod)
 no_target = refl
 
-numbers_count : verdict 65536 (world_after after) NewLoader ≡ Ok (made.Loader 2)
+numbers_count : verdict (fixed 65536) (world_after after) NewLoader ≡ Ok (made.Loader 2)
 numbers_count = refl
 
-classes_count : verdict 65536 (world_after after) (defines 0 (codes "A") (codes "D") []) ≡ Ok (made.Class 5)
+classes_count : verdict (fixed 65536) (world_after after) (defines 0 (codes "A") (codes "D") []) ≡ Ok (made.Class 5)
 classes_count = refl
 
 -- ---- a site in a class that goes
@@ -183,14 +184,14 @@ call_is_gone = refl
 rests_on_nothing : footprint (world_after (inside ++ Retire 1 ∷ [])) 1 ≡ []
 rests_on_nothing = refl
 
-not_installed : verdict 65536 (world_after (inside ++ Retire 1 ∷ [])) (Install ((1, Direct (Run (first 1))) ∷ [])) ≡ Err (refusal.NotReady 1)
+not_installed : verdict (fixed 65536) (world_after (inside ++ Retire 1 ∷ [])) (Install ((1, Direct (Run (first 1))) ∷ [])) ≡ Err (refusal.NotReady 1)
 not_installed = refl
 
-not_bound : verdict 65536 (world_after (inside ++ Retire 1 ∷ [])) (Bind 1 0) ≡ Err (refusal.UnknownSite 1)
+not_bound : verdict (fixed 65536) (world_after (inside ++ Retire 1 ∷ [])) (Bind 1 0) ≡ Err (refusal.UnknownSite 1)
 not_bound = refl
 
 -- the request that was answered before isn't answered any more
-not_requested : verdict 65536 (world_after (inside ++ Retire 1 ∷ [])) (Request (record { class = 4; method = 0; pc = 0 })) ≡ Err refusal.UnknownClass
+not_requested : verdict (fixed 65536) (world_after (inside ++ Retire 1 ∷ [])) (Request (record { class = 4; method = 0; pc = 0 })) ≡ Err refusal.UnknownClass
 not_requested = refl
 
 -- ---- sites of each instruction in a class that goes
@@ -229,7 +230,7 @@ each_call_is_gone : map (λ s. dispatch (world_after (of_each ++ Retire 1 ∷ []
 each_call_is_gone = refl
 
 -- it was bound, and that isn't asked any more
-bound_is_not_bound : verdict 65536 (world_after (of_each ++ Retire 1 ∷ [])) (Bind 1 0) ≡ Err (refusal.UnknownSite 1)
+bound_is_not_bound : verdict (fixed 65536) (world_after (of_each ++ Retire 1 ∷ [])) (Bind 1 0) ≡ Err (refusal.UnknownSite 1)
 bound_is_not_bound = refl
 
 -- ---- another loader that needs it
@@ -238,33 +239,33 @@ bound_is_not_bound = refl
 abbrev recording : List Event
 recording = again ++ NewLoader ∷ Delegate 2 object 0 ∷ Delegate 2 (codes "C") 1 ∷ []
 
-is_recorded : verdict 65536 (world_after recording) (Retire 1) ≡ Err (refusal.Retire (Recorded 2))
+is_recorded : verdict (fixed 65536) (world_after recording) (Retire 1) ≡ Err (refusal.Retire (Recorded 2))
 is_recorded = refl
 
 -- E 5 below C in loader 2
 abbrev inheriting : List Event
 inheriting = recording ++ defines 2 (codes "C") (codes "E") [] ∷ []
 
-is_inherited : verdict 65536 (world_after inheriting) (Retire 1) ≡ Err (refusal.Retire (Inherited 5))
+is_inherited : verdict (fixed 65536) (world_after inheriting) (Retire 1) ≡ Err (refusal.Retire (Inherited 5))
 is_inherited = refl
 
 -- the least one of several: loader 3 records C, too; then E 5 below C is defined in it, and F 6 below C in loader 2
 abbrev recording_twice : List Event
 recording_twice = recording ++ NewLoader ∷ Delegate 3 object 0 ∷ Delegate 3 (codes "C") 1 ∷ []
 
-least_recorder : verdict 65536 (world_after recording_twice) (Retire 1) ≡ Err (refusal.Retire (Recorded 2))
+least_recorder : verdict (fixed 65536) (world_after recording_twice) (Retire 1) ≡ Err (refusal.Retire (Recorded 2))
 least_recorder = refl
 
 abbrev inheriting_twice : List Event
 inheriting_twice = recording_twice ++ defines 3 (codes "C") (codes "E") [] ∷ defines 2 (codes "C") (codes "F") [] ∷ []
 
-least_heir : verdict 65536 (world_after inheriting_twice) (Retire 1) ≡ Err (refusal.Retire (Inherited 5))
+least_heir : verdict (fixed 65536) (world_after inheriting_twice) (Retire 1) ≡ Err (refusal.Retire (Inherited 5))
 least_heir = refl
 
-other_may_go : verdict 65536 (world_after inheriting) (Retire 2) ≡ Ok made.Nothing
+other_may_go : verdict (fixed 65536) (world_after inheriting) (Retire 2) ≡ Ok made.Nothing
 other_may_go = refl
 
-goes_then : verdict 65536 (world_after (inheriting ++ Retire 2 ∷ [])) (Retire 1) ≡ Ok made.Nothing
+goes_then : verdict (fixed 65536) (world_after (inheriting ++ Retire 2 ∷ [])) (Retire 1) ≡ Ok made.Nothing
 goes_then = refl
 
 -- ---- a target that names it
@@ -280,9 +281,9 @@ targeting = shared
     ∷ NewCallSite Mutable (codes "()V") (target.Method (first 4))
     ∷ []
 
-is_targeted : verdict 65536 (world_after targeting) (Retire 1) ≡ Err (refusal.Retire (Targeted 1))
+is_targeted : verdict (fixed 65536) (world_after targeting) (Retire 1) ≡ Err (refusal.Retire (Targeted 1))
 is_targeted = refl
 
 -- a class that inherits comes before the loader that records, and that before the target
-recorded_before_targeted : verdict 65536 (world_after (targeting ++ NewLoader ∷ Delegate 2 (codes "C") 1 ∷ [])) (Retire 1) ≡ Err (refusal.Retire (Recorded 2))
+recorded_before_targeted : verdict (fixed 65536) (world_after (targeting ++ NewLoader ∷ Delegate 2 (codes "C") 1 ∷ [])) (Retire 1) ≡ Err (refusal.Retire (Recorded 2))
 recorded_before_targeted = refl

@@ -1,5 +1,6 @@
 -- Why targets and bindings aren't taken (java.lang.invoke), each reason once, and in their order.
 use Rattle.std.specs.Prelude.{◌≡◌, ℕ, zero, suc, List, [], ◌∷◌, ◌++◌, Some, Ok, Err, Result, codes, refl}
+use Rattle.jl_types.specs.Events.Limits.{fixed}
 use Rattle.jl_class.specs.Class.{Method}
 use Rattle.jl_class.specs.declared.site.Kind.TheVariants.{Dynamic, Static}
 use Rattle.jl_class.specs.declared.site.Operand.TheVariants as operand
@@ -51,7 +52,7 @@ before = Define 0 (file (codes "java/lang/Object") 33 [])
     ∷ []
 
 abbrev answers : Event → Result Made Refusal
-answers e = verdict 65536 (world_after before) e
+answers e = verdict (fixed 65536) (world_after before) e
 
 abbrev of : ℕ → Target
 of index = target.Method (record { class = 1; index = index })
@@ -129,8 +130,8 @@ another_type : answers (Bind 0 2) ≡ Err refusal.TypeMismatch
 another_type = refl
 
 -- once it is bound, that comes first
-bound_before_unknown : verdict 65536 (world_after (before ++ Bind 0 1 ∷ [])) (Bind 0 9) ≡ Err (refusal.AlreadyBound 1)
+bound_before_unknown : verdict (fixed 65536) (world_after (before ++ Bind 0 1 ∷ [])) (Bind 0 9) ≡ Err (refusal.AlreadyBound 1)
 bound_before_unknown = refl
 
-bound_before_type : verdict 65536 (world_after (before ++ Bind 0 1 ∷ [])) (Bind 0 2) ≡ Err (refusal.AlreadyBound 1)
+bound_before_type : verdict (fixed 65536) (world_after (before ++ Bind 0 1 ∷ [])) (Bind 0 2) ≡ Err (refusal.AlreadyBound 1)
 bound_before_type = refl

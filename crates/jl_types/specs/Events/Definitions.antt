@@ -52,9 +52,9 @@ is_open_to cs made c = class_test (λ row. has_flag row.file.flags PUBLIC || sha
 abbrev pub is_open_parent : Classes → ℕ → ClassFile → List ℕ → Bool
 is_open_parent cs loader file name = named_test (is_open_to cs (class_made cs loader file)) cs loader name
 
--- the first fault; of one kind, the superclass's comes first, and then those of the superinterfaces in order
-abbrev pub define_fault : Classes → ℕ → ClassFile → Option DefineFault
-define_fault cs loader file = first_of (
+-- the first fault, where there are at most so many classes; of one kind, the superclass's comes first, and then those of the superinterfaces in order
+abbrev pub define_fault : ℕ → Classes → ℕ → ClassFile → Option DefineFault
+define_fault most_classes cs loader file = first_of (
     then_some (is_unknown cs loader) define.UnknownLoader
     ∷ then_some (bytes_eq file.name object && not (loader == 0)) define.SecondObject
     ∷ then_some (is_some (lookup cs loader file.name)) define.AlreadyRecorded
@@ -64,7 +64,7 @@ define_fault cs loader file = first_of (
     ∷ then_some (list_any (named_test (is_final cs) cs loader) (option_to_list file.superclass)) define.FinalSuper
     ∷ option_map define.NotAnInterface (find (λ name. not (named_test (is_interface cs) cs loader name)) file.interfaces)
     ∷ option_map define.InaccessibleParent (find (λ name. not (is_open_parent cs loader file name)) (parent_names file))
-    ∷ then_some (nat_le 65536 (length cs.rows)) define.Full
+    ∷ then_some (nat_le most_classes (length cs.rows)) define.Full
     ∷ [])
 
 -- the loader records the class under the name

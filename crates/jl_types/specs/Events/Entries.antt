@@ -1,6 +1,7 @@
 -- Lists of accepted events with all that they change, and the table of links that such a list makes.
 use Rattle.std.specs.Prelude.{◌≡◌, ℕ, Bool, true, false, List, [], ◌∷◌, ◌++◌, map, filter, filter_map, fold, take, length, replicate, slice_get}
 use Rattle.std.specs.Prelude.{slice_set, Option, Some, None, option_map, is_none, Ok, if◌then◌else◌}
+use Rattle.jl_types.specs.declared.limits.Limits.{Limits}
 use Rattle.jl_types.specs.declared.link.Link.{Link}
 use Rattle.jl_types.specs.Events.Event.{Event}
 use Rattle.jl_types.specs.declared.event.EventOf.TheVariants as event
@@ -33,13 +34,13 @@ slots_changed h e =
     filter_map (λ s. option_map (λ slot. (s, slot)) (change (installed h s) (installed (h ++ e ∷ []) s))) (site_numbers (h ++ e ∷ []))
 
 -- After the events h the entry's event is accepted with the entry's reply, and changes the entry's slots.
-pub record IsEntry (max_sites : ℕ) (h : List Event) (entry : Entry) : Type 0 where
-  pub answered : reply max_sites h entry.event ≡ Ok entry.reply
+pub record IsEntry (limits : Limits) (h : List Event) (entry : Entry) : Type 0 where
+  pub answered : reply limits h entry.event ≡ Ok entry.reply
   pub slots : entry.slots ≡ slots_changed h entry.event
 
 -- Each entry is one after the events before it.
-pub record IsLegal (max_sites : ℕ) (entries : List Entry) : Type 0 where
-  pub each : (n : ℕ) (entry : Entry) → slice_get entries n ≡ Some entry → IsEntry max_sites (events_of (take n entries)) entry
+pub record IsLegal (limits : Limits) (entries : List Entry) : Type 0 where
+  pub each : (n : ℕ) (entry : Entry) → slice_get entries n ≡ Some entry → IsEntry limits (events_of (take n entries)) entry
 
 -- ---- the table that a list makes
 
@@ -48,8 +49,8 @@ abbrev pub written : List (Option Link) → List (ℕ × Option Link) → List (
 written table slots = fold (λ links slot. slice_set links slot.0 slot.1) table slots
 
 -- the slots of each entry, one entry after another, over a table without links
-abbrev pub table_of : ℕ → List Entry → List (Option Link)
-table_of max_sites entries = fold (λ table entry. written table entry.slots) (replicate max_sites None) entries
+abbrev pub table_of : Limits → List Entry → List (Option Link)
+table_of limits entries = fold (λ table entry. written table entry.slots) (replicate limits.sites None) entries
 
 -- the sites of the slots without a link
 abbrev pub emptied : List (ℕ × Option Link) → List ℕ

@@ -3,6 +3,7 @@ use Rattle.std.specs.Prelude.{◌≡◌, ℕ, zero, suc, Bool, true, false, ◌&
 use Rattle.std.specs.Prelude.{filter, filter_map, slice_get, fold, Option, Some, None, option_map, Result, Ok, Err, is_some, is_none, if◌then◌else◌}
 use Rattle.std.specs.Option.{option_map_or}
 use Rattle.std.specs.List.{list_any, range_with_len}
+use Rattle.jl_types.specs.declared.limits.Limits.{Limits}
 use Rattle.jl_types.specs.declared.link.Link.{Link}
 use Rattle.jl_types.specs.declared.answer.Unlinked.{Unlinked}
 use Rattle.jl_types.specs.declared.event.Made.{Made}
@@ -84,8 +85,8 @@ abbrev pub dropped : List Event → Event → List ℕ
 dropped h e = filter (λ s. is_some (installed h s) && is_none (installed (h ++ e ∷ []) s)) (site_numbers h)
 
 -- what the event is answered after h: the first refusal, or what it gives a number to and what it drops
-abbrev pub reply : ℕ → List Event → Event → Result Reply Refusal
-reply max_sites h e = replied (dropped h e) (verdict max_sites (world_after h) e)
+abbrev pub reply : Limits → List Event → Event → Result Reply Refusal
+reply limits h e = replied (dropped h e) (verdict limits (world_after h) e)
 
 -- ---- one event more
 

@@ -9,6 +9,7 @@ use Rattle.jl_class.specs.declared.site.Operand.{Operand}
 use Rattle.jl_class.specs.declared.site.Operand.TheVariants as operand
 use Rattle.jl_class.specs.Site.{Site}
 use Rattle.jl_types.specs.declared.ids.Place.{Place}
+use Rattle.jl_types.specs.declared.limits.Limits.{Limits}
 use Rattle.jl_types.specs.declared.link.Link.{Link}
 use Rattle.jl_types.specs.declared.answer.Unlinked.{Unlinked}
 use Rattle.jl_types.specs.declared.target.CallSiteKind.TheVariants.{Constant, Mutable, Volatile}
@@ -59,25 +60,25 @@ is_polymorphic (operand.Method ref) =
     || bytes_eq ref.owner (codes "java/lang/invoke/VarHandle")
 is_polymorphic (operand.CallSite specifier) = false
 
-abbrev pub new_place_fault : ℕ → World → Site → Option Refusal
-new_place_fault max_sites w site = first_of (
+abbrev pub new_place_fault : Limits → World → Site → Option Refusal
+new_place_fault limits w site = first_of (
     then_some (names_array site.operand) (NotLinkable ArrayReceiver)
     ∷ then_some (is_polymorphic site.operand) (NotLinkable PolymorphicSignature)
-    ∷ then_some (nat_le max_sites (length w.places)) SitesFull
+    ∷ then_some (nat_le limits.sites (length w.places)) SitesFull
     ∷ [])
 
 -- a place that is requested already keeps its number
-abbrev pub request_place : ℕ → World → Option ℕ → Site → Result Made Refusal
-request_place max_sites w (Some s) site = Ok (made.Site s)
-request_place max_sites w None site = unless (new_place_fault max_sites w site) (made.Site (length w.places))
+abbrev pub request_place : Limits → World → Option ℕ → Site → Result Made Refusal
+request_place limits w (Some s) site = Ok (made.Site s)
+request_place limits w None site = unless (new_place_fault limits w site) (made.Site (length w.places))
 
-abbrev pub if_invoked : ℕ → World → Place → Option Site → Result Made Refusal
-if_invoked max_sites w place None = Err NoSuchPlace
-if_invoked max_sites w place (Some site) = request_place max_sites w (position (same_place place) w.places) site
+abbrev pub if_invoked : Limits → World → Place → Option Site → Result Made Refusal
+if_invoked limits w place None = Err NoSuchPlace
+if_invoked limits w place (Some site) = request_place limits w (position (same_place place) w.places) site
 
-abbrev pub request_at : ℕ → World → Place → Result Made Refusal
-request_at max_sites w place =
-    if is_present w.classes place.class then if_invoked max_sites w place (invocation_at w.classes place)
+abbrev pub request_at : Limits → World → Place → Result Made Refusal
+request_at limits w place =
+    if is_present w.classes place.class then if_invoked limits w place (invocation_at w.classes place)
     else Err UnknownClass
 
 abbrev pub requested : List Place → Place → List Place
@@ -85,12 +86,10 @@ requested places place = if list_any (same_place place) places then places else 
 
 -- ---- call sites and switch points
 
-abbrev pub most_of_a_kind : ℕ
-most_of_a_kind = 65536
-
-abbrev pub new_call_site_fault : World → List ℕ → Target → Option CallSiteFault
-new_call_site_fault w ty t = first_of (
-    then_some (nat_le most_of_a_kind (length w.sites.call_sites)) fault.Full
+-- where there are at most so many call sites
+abbrev pub new_call_site_fault : ℕ → World → List ℕ → Target → Option CallSiteFault
+new_call_site_fault most_call_sites w ty t = first_of (
+    then_some (nat_le most_call_sites (length w.sites.call_sites)) fault.Full
     ∷ target_fault w (length w.sites.call_sites) ty t
     ∷ [])
 
@@ -161,27 +160,27 @@ pub record Accepts (w : World) (rows : List (ℕ × Link)) : Type 0 where
   pub once : AllPairs (λ a b. a.0 ≢ b.0) rows
   pub present : All (λ row. scratch w row.0 ≡ Ok row.1) rows
 
--- ---- the verdict on an event, where at most so many sites may be requested: the first refusal, else what it makes
+-- ---- the verdict on an event, where a linker has these limits: the first refusal, else what it makes
 
-abbrev pub verdict : ℕ → World → Event → Result Made Refusal
-verdict max_sites w event.NewLoader =
-    unless (then_some (nat_le 1024 (length w.classes.loaders)) LoadersFull) (made.Loader (length w.classes.loaders))
-verdict max_sites w (event.Define loader file) =
-    unless (option_map Define (define_fault w.classes loader file)) (made.Class (length w.classes.rows))
-verdict max_sites w (event.Delegate loader name to) =
+abbrev pub verdict : Limits → World → Event → Result Made Refusal
+verdict limits w event.NewLoader =
+    unless (then_some (nat_le limits.loaders (length w.classes.loaders)) LoadersFull) (made.Loader (length w.classes.loaders))
+verdict limits w (event.Define loader file) =
+    unless (option_map Define (define_fault limits.classes w.classes loader file)) (made.Class (length w.classes.rows))
+verdict limits w (event.Delegate loader name to) =
     unless (option_map Delegate (delegate_fault w.classes loader name to)) made.Nothing
-verdict max_sites w (event.Request place) = request_at max_sites w place
-verdict max_sites w (event.NewCallSite kind ty t) =
-    unless (option_map CallSite (new_call_site_fault w ty t)) (made.CallSite (length w.sites.call_sites))
-verdict max_sites w (event.SetTarget c t) =
+verdict limits w (event.Request place) = request_at limits w place
+verdict limits w (event.NewCallSite kind ty t) =
+    unless (option_map CallSite (new_call_site_fault limits.call_sites w ty t)) (made.CallSite (length w.sites.call_sites))
+verdict limits w (event.SetTarget c t) =
     unless (option_map CallSite (set_target_fault w c (slice_get w.sites.call_sites c) t)) made.Nothing
-verdict max_sites w event.NewSwitch =
-    unless (then_some (nat_le most_of_a_kind (length w.sites.switches)) (CallSite fault.Full))
+verdict limits w event.NewSwitch =
+    unless (then_some (nat_le limits.switches (length w.sites.switches)) (CallSite fault.Full))
     (made.Switch (length w.sites.switches))
-verdict max_sites w (event.Invalidate points) = unless (option_map CallSite (invalidate_fault w points)) made.Nothing
-verdict max_sites w (event.Bind s c) = unless (bind_fault w s c (slice_get w.places s)) made.Nothing
-verdict max_sites w (event.Install rows) = unless (install_fault w rows) made.Nothing
-verdict max_sites w (event.Retire loader) = unless (option_map Retire (retire_fault w loader)) made.Nothing
+verdict limits w (event.Invalidate points) = unless (option_map CallSite (invalidate_fault w points)) made.Nothing
+verdict limits w (event.Bind s c) = unless (bind_fault w s c (slice_get w.places s)) made.Nothing
+verdict limits w (event.Install rows) = unless (install_fault w rows) made.Nothing
+verdict limits w (event.Retire loader) = unless (option_map Retire (retire_fault w loader)) made.Nothing
 
 -- ---- the world after an event
 

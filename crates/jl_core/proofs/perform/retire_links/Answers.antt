@@ -15,7 +15,7 @@ pub settle-requires-clause-fits : goal.settle-requires-clause-fits
 settle-requires-clause-fits c =
     fits_left c.args.world.now c.args.keys.now c.args.loader c.args.links.now c.args.index.now c.requires.led c.args.retired.now c.requires.gone
     c.forget.new.links c.forget.new.index c.len-sites.ensures.rising c.in_ok-gone.ensures.links c.in_ok-gone.ensures.index
-    (subst (λ (w : World). length w.classes.rows ≤ 65536) c.world.view_is c.count_in_order-classes.ensures.few) c.args.work.now c.requires.small
+    (subst (λ (w : World). length w.classes.rows ≤ 1048576) c.world.view_is c.count_in_order-classes.ensures.few) c.args.work.now c.requires.small
 
 pub returns-clause-up_to_date : goal.returns-clause-up_to_date
 returns-clause-up_to_date c =

@@ -6,7 +6,7 @@ pub returns-clause-touched : goal.returns-clause-touched
 returns-clause-touched c = touched_of
 
 pub returns-clause-others : goal.returns-clause-others
-returns-clause-others c = λ max_sites w e links index order accepted rising is_index linked left s none. others_stay w e links index rising is_index max_sites
+returns-clause-others c = λ limits w e links index order accepted rising is_index linked left s none. others_stay w e links index rising is_index limits
     order accepted linked left s none
 
 pub returns-clause-counted : goal.returns-clause-counted

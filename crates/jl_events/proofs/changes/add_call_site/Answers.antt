@@ -1,4 +1,4 @@
-use Rattle.std.specs.Prelude.{◌≡◌, ◌<◌, true, length, option_map}
+use Rattle.std.specs.Prelude.{◌≡◌, ◌<◌, ◌^◌, true, length, option_map}
 use Rattle.std.proofs.Common.{rules, sym, ap, subst}
 use Rattle.jl_types.specs.Values.Target.{Target}
 use Rattle.jl_types.specs.Values.World.{World}
@@ -13,7 +13,7 @@ use Rattle.jl_events.proofs.changes.add_call_site.Goals as goal
 
 pub add_site-requires-clause-room : goal.add_site-requires-clause-room
 add_site-requires-clause-room c =
-    subst (λ (w : World). length w.sites.call_sites < 65536) (sym c.world.view_is)
+    subst (λ (w : World). length w.sites.call_sites < 2 ^ 20) (sym c.world.view_is)
     (site_room c.args.world.now c.args.kind c.args.ty.now c.args.target.now c.requires)
 
 pub add_site-requires-clause-known : goal.add_site-requires-clause-known
@@ -27,7 +27,7 @@ returns c =
     let count : c.in_ok-site.site ≡ length c.args.world.now.sites.call_sites = search rules in
     record {
       made_is = λ m.
-          made_so (option_map CallSite (new_call_site_fault c.args.world.now c.args.ty.now c.args.target.now))
+          made_so (option_map CallSite (new_call_site_fault m.call_sites c.args.world.now c.args.ty.now c.args.target.now))
           (made.CallSite (length c.args.world.now.sites.call_sites)) (made.CallSite c.in_ok-site.site) (ap (λ n. made.CallSite n) count);
       step = search rules;
       constant = subst (λ (w : World). IsConstant w.classes c.world.inside.classes) c.world.view_is (constant_itself c.world.inside.classes);

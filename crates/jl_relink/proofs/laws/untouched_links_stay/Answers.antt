@@ -6,4 +6,4 @@ pub returns-clause-settled : goal.returns-clause-settled
 returns-clause-settled c = settled_stays
 
 pub returns-clause-linked : goal.returns-clause-linked
-returns-clause-linked c = λ max_sites w e s l order accepted left none is. untouched_stays max_sites w order e s l accepted left none is
+returns-clause-linked c = λ limits w e s l order accepted left none is. untouched_stays limits w order e s l accepted left none is

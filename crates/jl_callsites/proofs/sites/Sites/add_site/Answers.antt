@@ -1,4 +1,4 @@
-use Rattle.std.specs.Prelude.{◌≡◌, ◌<◌, true, List, [], ◌∷◌, ◌++◌, length}
+use Rattle.std.specs.Prelude.{◌≡◌, ◌<◌, ◌^◌, true, List, [], ◌∷◌, ◌++◌, length}
 use Rattle.std.proofs.Common.{ap, sym, subst, ◌∙◌, arith, length-append}
 use Rattle.jl_types.specs.Values.World.{Sites, CallSite}
 use Rattle.jl_callsites.specs.Known.{is_known, all_known, RunAsBefore}
@@ -13,7 +13,7 @@ invariant_of-self-2 c =
       subst (λ (sites : List CallSite). all_known n 0 sites ≡ true) (sym pushed)
           (one_more_known n c.self.inside.call_sites.items site c.self.invariant.0
           (subst (λ (old : Sites). is_known (length old.switches) (length old.call_sites) c.args.target ≡ true) (sym c.self.view_is) c.requires.known)),
-      (let room = subst (λ (old : Sites). length old.call_sites < 65536) (sym c.self.view_is) c.requires.room in
+      (let room = subst (λ (old : Sites). length old.call_sites < 2 ^ 20) (sym c.self.view_is) c.requires.room in
           let longer = ap length pushed ∙ length-append c.self.inside.call_sites.items (site ∷ []) in
           omega (arith, room, longer)),
       c.self.invariant.2,

@@ -1,4 +1,4 @@
-use Rattle.std.specs.Prelude.{◌≡◌, ◌<◌, true, Bool, List, [], ◌∷◌, length}
+use Rattle.std.specs.Prelude.{◌≡◌, ◌<◌, ◌^◌, true, Bool, List, [], ◌∷◌, length}
 use Rattle.std.proofs.Common.{ap, sym, subst, ◌∙◌, arith, length-append}
 use Rattle.jl_types.specs.Values.World.{Sites}
 use Rattle.jl_callsites.specs.Known.{are_known, RunAsBefore}
@@ -11,7 +11,7 @@ invariant_of-self-2 c =
       subst (λ (switches : List Bool). are_known (record { call_sites = c.self.inside.call_sites.items; switches = switches }) ≡ true)
           (sym c.in_ok-push.ensures.items) (one_switch_more inside c.self.invariant.0),
       c.self.invariant.1,
-      (let room = subst (λ (old : Sites). length old.switches < 65536) (sym c.self.view_is) c.requires in
+      (let room = subst (λ (old : Sites). length old.switches < 2 ^ 20) (sym c.self.view_is) c.requires in
           let longer = ap length c.in_ok-push.ensures.items ∙ length-append c.self.inside.switches.items (true ∷ []) in
           omega (arith, room, longer)),
     )

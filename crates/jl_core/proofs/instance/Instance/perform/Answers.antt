@@ -11,15 +11,16 @@ use Rattle.jl_core.proofs.WorkLaws.{are_bounded}
 use Rattle.jl_core.proofs.instance.Instance.perform.Goals as goal
 
 pub perform-requires-clause-accepted : goal.perform-requires-clause-accepted
-perform-requires-clause-accepted c = (
-  c.self.inside.max_sites,
-  accepted_inside c.self.inside.max_sites c.self.inside.world.value c.self.inside.log c.args.self c.args.event c.self.invariant.0 c.self.view_is
-      c.requires.accepted,
-)
+perform-requires-clause-accepted c = record {
+  limits = c.self.inside.limits;
+  allowed = c.self.invariant.9;
+  accepted = accepted_inside c.self.inside.limits c.self.inside.world.value c.self.inside.log c.args.self c.args.event c.self.invariant.0 c.self.view_is
+      c.requires.accepted;
+}
 
 pub perform-requires-clause-sound : goal.perform-requires-clause-sound
 perform-requires-clause-sound c = record {
-  scratch = exact_links c.self.inside.max_sites c.self.inside.world.value c.self.inside.links c.self.inside.log
+  scratch = exact_links c.self.inside.limits c.self.inside.world.value c.self.inside.links c.self.inside.log
       (exact_inside _ _ _ _ _ c.self.invariant);
   indexed = c.self.invariant.6;
   rising = c.len-sites.ensures.rising;
@@ -28,26 +29,36 @@ perform-requires-clause-sound c = record {
 
 pub invariant_of-next : goal.invariant_of-next
 invariant_of-next c =
-    let next = kept_after c.self.inside.max_sites c.self.inside.world.value c.perform.new.world.value
+    let next = kept_after c.self.inside.limits c.self.inside.world.value c.perform.new.world.value
     c.self.inside.links c.perform.new.links c.self.inside.log c.perform.new.log c.args.event c.in_ok-reply.reply
     (exact_inside _ _ _ _ _ c.self.invariant)
-    (accepted_inside c.self.inside.max_sites c.self.inside.world.value c.self.inside.log c.args.self c.args.event c.self.invariant.0 c.self.view_is
-    c.requires.accepted) c.in_ok-reply.ensures.done c.note_file.ensures c.self.invariant.3 in
-    (next.0.world, next.0.links, next.0.told, next.1, c.self.invariant.4, next.0.answered, c.in_ok-reply.ensures.indexed, next.0.told_then, next.0.files)
+    (accepted_inside c.self.inside.limits c.self.inside.world.value c.self.inside.log c.args.self c.args.event c.self.invariant.0 c.self.view_is
+    c.requires.accepted) c.in_ok-reply.ensures.done c.note_file.ensures c.self.invariant.3 in (
+      next.0.world,
+      next.0.links,
+      next.0.told,
+      next.1,
+      c.self.invariant.4,
+      next.0.answered,
+      c.in_ok-reply.ensures.indexed,
+      next.0.told_then,
+      next.0.files,
+      c.self.invariant.9,
+    )
 
 pub returns-clause-accepted : goal.returns-clause-accepted
 returns-clause-accepted c =
-    subst (λ (core : State). IsAccepted core (core_of c.self.inside.max_sites c.perform.new.world.value c.perform.new.log) c.args.event
+    subst (λ (core : State). IsAccepted core (core_of c.self.inside.limits c.perform.new.world.value c.perform.new.log) c.args.event
     c.in_ok-reply.reply) c.self.view_is
-    (accepted_after c.self.inside.max_sites c.self.inside.world.value c.perform.new.world.value
+    (accepted_after c.self.inside.limits c.self.inside.world.value c.perform.new.world.value
     c.self.inside.links c.perform.new.links c.self.inside.log c.perform.new.log c.args.event c.in_ok-reply.reply
     (exact_inside _ _ _ _ _ c.self.invariant)
-    (accepted_inside c.self.inside.max_sites c.self.inside.world.value c.self.inside.log c.args.self c.args.event c.self.invariant.0 c.self.view_is
+    (accepted_inside c.self.inside.limits c.self.inside.world.value c.self.inside.log c.args.self c.args.event c.self.invariant.0 c.self.view_is
     c.requires.accepted) c.in_ok-reply.ensures.done)
 
 pub returns-clause-bounded : goal.returns-clause-bounded
 returns-clause-bounded c =
-    let core = core_of c.self.inside.max_sites c.self.inside.world.value c.self.inside.log in
+    let core = core_of c.self.inside.limits c.self.inside.world.value c.self.inside.log in
     let judged : c.args.work.now ≤ most_to_judge c.self.inside.world.value c.args.event =
     subst (λ (w : World). c.args.work.now ≤ most_to_judge w c.args.event) (sym (c.self.invariant.0 ∙ ap world_of c.self.view_is)) c.requires.judged in
     let most = are_bounded (events core) c.self.inside.world.value (link_at c.self.inside.links) c.self.inside.index

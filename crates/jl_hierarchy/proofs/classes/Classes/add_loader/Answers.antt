@@ -1,4 +1,4 @@
-use Rattle.std.specs.Prelude.{ℕ, ◌<◌, List, [], ◌∷◌, ◌++◌, length}
+use Rattle.std.specs.Prelude.{ℕ, ◌<◌, ◌^◌, List, [], ◌∷◌, ◌++◌, length}
 use Rattle.std.proofs.Common.{refl, ap, sym, subst, ◌∙◌}
 use Rattle.jl_types.specs.Values.World.{Classes}
 use Rattle.jl_hierarchy.specs.Constancy.{Stays}
@@ -16,7 +16,7 @@ invariant_of-self-2 c =
           c.self.inside.above.items (lists c.self.inside.below.items))
           (sym (c.in_ok-push.ensures.items ∙ ap (λ (records : List (List ℕ × ℕ)). loaders ++ records ∷ []) c.in_ok-made.ensures))
           (kept_with_loader inside c.self.inside.above.items (lists c.self.inside.below.items) c.self.invariant.0
-          (subst (λ (k : Classes). length k.loaders < 1024) (sym c.self.view_is) c.requires)),
+          (subst (λ (k : Classes). length k.loaders < 2 ^ 20) (sym c.self.view_is) c.requires)),
       c.self.invariant.1,
     )
 

@@ -17,5 +17,5 @@ invariant_of-self c = still_kept c.in_err-add_all.ensures.err c.in_err-add_all.e
 pub invariant_of-self-2 : goal.invariant_of-self-2
 invariant_of-self-2 c =
     let added = c.in_ok-add_all.ensures in
-    all_grown c.self.view_is c.requires.accepted c.in_ok-new_class.ensures c.requires.made c.requires.interface c.self.invariant
+    all_grown c.self.view_is c.requires.accepted c.in_ok-new_class.ensures c.requires.made c.requires.interface c.requires.room c.self.invariant
     added.loaders added.rows added.above added.below added.kept added.marks
