@@ -6,6 +6,7 @@ use Rattle.std.specs.Option.{option_map_or}
 use Rattle.std.proofs.Common.{refl, sym, ap, subst, subst₂, ◌∙◌, arith}
 use Rattle.std.proofs.lemmas.Bool.{ne_eqb}
 use Rattle.std.proofs.lemmas.Option.{slice_get_within}
+use Rattle.jl_types.specs.declared.limits.Limits.{Limits}
 use Rattle.jl_types.specs.declared.event.EventOf.TheVariants as event
 use Rattle.jl_types.specs.declared.event.Made.TheVariants as made
 use Rattle.jl_types.specs.declared.refusal.Refusal.{Refusal}
@@ -26,7 +27,7 @@ use Rattle.jl_renewal.proofs.StayLaws.{number_of, renumbered_once, renumbered_at
 use Rattle.jl_renewal.proofs.StayLaws.{in_middle, in_front, passing_more, passing_less}
 use Rattle.jl_renewal.proofs.FreshClasses.{fresh_present, fresh_invocation}
 
-module _ (max_sites : ℕ) (w : World) (released : Released) where
+module _ (limits : Limits) (w : World) (released : Released) where
   abbrev n : Numbers
   n = numbers_of w released
 
@@ -89,7 +90,7 @@ module _ (max_sites : ℕ) (w : World) (released : Released) where
         ∙ (λ i. first_of (option_map AlreadyBound (option_map (λ a. a.1) (new i)) ∷ type_fault bound.specifier.ty (call_site_at i) ∷ []))
         ∙ ap (λ (t : Bool). first_of (then_some (not t) TypeMismatch ∷ [])) bound.type
 
-    one_binding : OneStep max_sites after (Some (event.Bind (renumbered n.sites b.0) (renumbered n.call_sites b.1)))
+    one_binding : OneStep limits after (Some (event.Bind (renumbered n.sites b.0) (renumbered n.call_sites b.1)))
         (with_bindings (bindings ++ renumbered_binding n b ∷ []))
     one_binding = (ap (λ (o : Option Refusal). is_ok (unless o made.Nothing)) no_fault, refl)
 
@@ -97,13 +98,13 @@ module _ (max_sites : ℕ) (w : World) (released : Released) where
 
   module _ (fit : IsFit w) where
     each_binding : (front : List (ℕ × ℕ)) (b : ℕ × ℕ) (rest : List (ℕ × ℕ)) → w.bindings ≡ front ++ b ∷ rest
-        → OneStep max_sites (with_bindings (fresh_bindings front)) (binding n b) (with_bindings (fresh_bindings (front ++ b ∷ [])))
+        → OneStep limits (with_bindings (fresh_bindings front)) (binding n b) (with_bindings (fresh_bindings (front ++ b ∷ [])))
     each_binding front b rest e = by_test (is_kept b) refl
       where
         by_test : (t : Bool) → is_kept b ≡ t
-            → OneStep max_sites (with_bindings (fresh_bindings front)) (binding n b) (with_bindings (fresh_bindings (front ++ b ∷ [])))
+            → OneStep limits (with_bindings (fresh_bindings front)) (binding n b) (with_bindings (fresh_bindings (front ++ b ∷ [])))
         by_test false gone =
-            subst (λ o. OneStep max_sites (with_bindings (fresh_bindings front)) o (with_bindings (fresh_bindings (front ++ b ∷ []))))
+            subst (λ o. OneStep limits (with_bindings (fresh_bindings front)) o (with_bindings (fresh_bindings (front ++ b ∷ []))))
             (sym (ap (option_and_then (λ s. option_map (event.Bind s) (new_number n.call_sites b.1))) (site_gone w b.0 gone)))
             (ap with_bindings (passing_less (renumbered_binding n) is_kept front b gone))
         by_test true kept =
@@ -112,7 +113,7 @@ module _ (max_sites : ℕ) (w : World) (released : Released) where
             let stays = bound_stays w released (length front) b bound.call_site at bound.there kept in
             let site_number = number_of (staying_sites w.classes w.places) b.0 (site_stays w b.0 kept) in
             let call_site_number = number_of (staying_call_sites w released) b.1 stays in
-            subst₂ (λ (o : Option Event) (bindings : List (ℕ × ℕ)). OneStep max_sites (with_bindings (fresh_bindings front)) o (with_bindings bindings))
+            subst₂ (λ (o : Option Event) (bindings : List (ℕ × ℕ)). OneStep limits (with_bindings (fresh_bindings front)) o (with_bindings bindings))
             (λ i. option_and_then (λ s. option_map (event.Bind s) (sym call_site_number i)) (sym site_number i))
             (sym (passing_more (renumbered_binding n) is_kept front b kept))
             (one_binding (fresh_bindings front) b kept bound stays
@@ -122,5 +123,5 @@ module _ (max_sites : ℕ) (w : World) (released : Released) where
             omega (arith, before, within))))
 
     -- the bindings of sites that stay
-    pub bindings_lead : Leads max_sites (with_bindings []) (filter_map (binding n) w.bindings) fresh
-    bindings_lead = leads_through max_sites (binding n) (λ front. with_bindings (fresh_bindings front)) w.bindings each_binding
+    pub bindings_lead : Leads limits (with_bindings []) (filter_map (binding n) w.bindings) fresh
+    bindings_lead = leads_through limits (binding n) (λ front. with_bindings (fresh_bindings front)) w.bindings each_binding

@@ -1,11 +1,12 @@
 -- The fresh core's call sites: those that stay, with their targets.
-use Rattle.std.specs.Prelude.{◌≡◌, ◌<◌, ◌+◌, ℕ, zero, suc, Bool, true, false, nat_le, List, [], ◌∷◌, ◌++◌, map, take, length, slice_get}
+use Rattle.std.specs.Prelude.{◌≡◌, ◌<◌, ◌≤◌, ◌+◌, ℕ, zero, suc, Bool, true, false, nat_le, List, [], ◌∷◌, ◌++◌, map, take, length, slice_get}
 use Rattle.std.specs.Prelude.{Option, Some, None, option_map, option_and_then, is_ok}
 use Rattle.std.specs.Bool.{then_some}
 use Rattle.std.proofs.Common.{refl, sym, ap, subst, subst₂, ◌∙◌, arith, length-take-le, take_all}
 use Rattle.std.proofs.lemmas.Bool.{lt-leb}
 use Rattle.std.proofs.lemmas.List.{take_more, nil_from_length, map_push, length-map}
 use Rattle.std.proofs.lemmas.Option.{get_or_from_slice_get}
+use Rattle.jl_types.specs.declared.limits.Limits.{Limits}
 use Rattle.jl_types.specs.declared.event.EventOf.TheVariants as event
 use Rattle.jl_types.specs.declared.event.Made.TheVariants as made
 use Rattle.jl_types.specs.declared.refusal.CallSiteFault.{CallSiteFault}
@@ -17,12 +18,13 @@ use Rattle.jl_types.specs.Events.Event.{Event}
 use Rattle.jl_types.specs.Events.Verdict.{unless, new_call_site_fault}
 use Rattle.jl_types.proofs.Lists.{element_at}
 use Rattle.jl_renewal.specs.declared.released.Released.{Released}
-use Rattle.jl_renewal.specs.Numbers.{Numbers, renumbered_target, staying}
+use Rattle.jl_renewal.specs.Numbers.{Numbers, renumbered_target, staying, how_many}
 use Rattle.jl_renewal.specs.Staying.{numbers_of, staying_call_sites}
 use Rattle.jl_renewal.specs.Renewal.{new_call_site, new_call_sites}
 use Rattle.jl_renewal.specs.Renewed.{renewed, renumbered_call_site}
 use Rattle.jl_renewal.proofs.Fit.{IsFit}
 use Rattle.jl_renewal.proofs.NumberLaws.{before, number_gone, renumbered_is, before_rises, staying_more, staying_less, staying_length, staying_fewer}
+use Rattle.jl_renewal.proofs.NumberLaws.{before_many}
 use Rattle.jl_renewal.proofs.Phases.{Leads, OneStep, leads_over}
 use Rattle.jl_renewal.proofs.StayLaws.{number_of, renumbered_at, call_sites_length, invoked_stays, guard_stays}
 use Rattle.jl_renewal.proofs.TargetLaws.{with_call_sites, target_kept}
@@ -39,7 +41,8 @@ module _ {A : Type 0} where
   among_taken (y ∷ xs) (suc k) zero x lt e = e
   among_taken (y ∷ xs) (suc k) (suc d) x lt e = among_taken xs k d x (omega (arith, lt)) e
 
-module _ (max_sites : ℕ) (w : World) (released : Released) (fit : IsFit w) where
+module _ (limits : Limits) (w : World) (released : Released) (fit : IsFit w)
+    (few_stay : how_many (staying_call_sites w released) ≤ limits.call_sites) where
   abbrev n : Numbers
   n = numbers_of w released
 
@@ -67,15 +70,13 @@ module _ (max_sites : ℕ) (w : World) (released : Released) (fit : IsFit w) whe
         ∙ staying_length stays (take k all) (omega (arith, long, lt, total))
         ∙ ap (before stays) long
 
-    few : nat_le 65536 (length (kept k)) ≡ false
+    few : nat_le limits.call_sites (length (kept k)) ≡ false
     few =
-        let same = length-map (staying stays (take k all)) (renumbered_call_site n) in
-        let fewer = staying_fewer stays (take k all) in
-        let long = taken k lt in
-        let most = fit.few_call_sites in
-        lt-leb 65536 (length (kept k)) (omega (arith, same, fewer, long, lt, most))
+        let same = kept_before in
+        let one_more = before_many stays k site_stays in
+        lt-leb limits.call_sites (length (kept k)) (omega (arith, same, one_more, few_stay))
 
-    no_fault : new_call_site_fault (with_call_sites w released (kept k)) site.ty (renumbered_target n site.target) ≡ None
+    no_fault : new_call_site_fault limits.call_sites (with_call_sites w released (kept k)) site.ty (renumbered_target n site.target) ≡ None
     no_fault =
         let taken_target = target_kept w released (kept k) k (length (kept k))
         (λ d other below d_stays d_there.
@@ -93,7 +94,7 @@ module _ (max_sites : ℕ) (w : World) (released : Released) (fit : IsFit w) whe
         (fit.targets k site there) in
         λ i. first_of (then_some (few i) fault.Full ∷ taken_target i ∷ [])
 
-    one_call_site : OneStep max_sites (with_call_sites w released (kept k)) (Some (event.NewCallSite site.kind site.ty (renumbered_target n site.target)))
+    one_call_site : OneStep limits (with_call_sites w released (kept k)) (Some (event.NewCallSite site.kind site.ty (renumbered_target n site.target)))
         (with_call_sites w released (kept k ++ renumbered_call_site n site ∷ []))
     one_call_site = (
       ap (λ (o : Option CallSiteFault). is_ok (unless (option_map CallSite o) (made.CallSite (length (kept k))))) no_fault,
@@ -103,7 +104,7 @@ module _ (max_sites : ℕ) (w : World) (released : Released) (fit : IsFit w) whe
   -- ---- all of them
 
   each_call_site : (k : ℕ) → k < length all
-      → OneStep max_sites (with_call_sites w released (kept k)) (new_call_site w.sites n k) (with_call_sites w released (kept (k + 1)))
+      → OneStep limits (with_call_sites w released (kept k)) (new_call_site w.sites n k) (with_call_sites w released (kept (k + 1)))
   each_call_site k lt =
       let here = element_at all k lt in
       let total = call_sites_length w released in
@@ -111,16 +112,16 @@ module _ (max_sites : ℕ) (w : World) (released : Released) (fit : IsFit w) whe
       by_test here.0 here.1 stay.0 stay.1
     where
       by_test : (site : CallSiteRow) → slice_get all k ≡ Some site → (b : Bool) → slice_get stays k ≡ Some b
-          → OneStep max_sites (with_call_sites w released (kept k)) (new_call_site w.sites n k) (with_call_sites w released (kept (k + 1)))
+          → OneStep limits (with_call_sites w released (kept k)) (new_call_site w.sites n k) (with_call_sites w released (kept (k + 1)))
       by_test site there false gone =
-          subst (λ o. OneStep max_sites (with_call_sites w released (kept k)) o (with_call_sites w released (kept (k + 1))))
+          subst (λ o. OneStep limits (with_call_sites w released (kept k)) o (with_call_sites w released (kept (k + 1))))
           (sym (ap (option_and_then (λ j. option_map (λ site. event.NewCallSite site.kind site.ty (renumbered_target n site.target)) (slice_get all k)))
           (number_gone stays k gone)))
           (ap (λ (sites : List CallSiteRow). with_call_sites w released (map (renumbered_call_site n) sites))
           (ap (staying stays) (take_next all k site lt there) ∙ staying_less stays (take k all) site (ap (slice_get stays) (taken k lt) ∙ gone)))
       by_test site there true site_stays =
           let number = number_of stays k site_stays in
-          subst₂ (λ (o : Option Event) (sites : List CallSiteRow). OneStep max_sites (with_call_sites w released (kept k)) o (with_call_sites w released sites))
+          subst₂ (λ (o : Option Event) (sites : List CallSiteRow). OneStep limits (with_call_sites w released (kept k)) o (with_call_sites w released sites))
           (λ i. option_and_then (λ j. option_map (λ site. event.NewCallSite site.kind site.ty (renumbered_target n site.target)) (sym there i)) (sym number i))
           (sym (ap (map (renumbered_call_site n))
           (ap (staying stays) (take_next all k site lt there) ∙ staying_more stays (take k all) site (ap (slice_get stays) (taken k lt) ∙ site_stays))
@@ -128,10 +129,10 @@ module _ (max_sites : ℕ) (w : World) (released : Released) (fit : IsFit w) whe
           (one_call_site k lt site there site_stays)
 
   -- the call sites that stay, with their targets under new numbers
-  pub call_sites_lead : Leads max_sites (with_call_sites w released []) (new_call_sites w.sites n)
+  pub call_sites_lead : Leads limits (with_call_sites w released []) (new_call_sites w.sites n)
       (with_call_sites w released (renewed w released).sites.call_sites)
   call_sites_lead = subst₂ (λ (first last : List CallSiteRow).
-      Leads max_sites (with_call_sites w released first) (new_call_sites w.sites n) (with_call_sites w released last))
+      Leads limits (with_call_sites w released first) (new_call_sites w.sites n) (with_call_sites w released last))
       (ap (map (renumbered_call_site n)) (nil_from_length (staying stays []) (let none = staying_fewer stays (take 0 all) in omega (arith, none))))
       (ap (λ (sites : List CallSiteRow). map (renumbered_call_site n) (staying stays sites)) (take_all (length all) all (omega arith)))
-      (leads_over max_sites (new_call_site w.sites n) (λ k. with_call_sites w released (kept k)) (length all) each_call_site)
+      (leads_over limits (new_call_site w.sites n) (λ k. with_call_sites w released (kept k)) (length all) each_call_site)

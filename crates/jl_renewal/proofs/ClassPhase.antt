@@ -11,6 +11,7 @@ use Rattle.std.proofs.lemmas.Bool.Decides.{Decides-eqb, nat_tests}
 use Rattle.std.proofs.lemmas.List.{append-nil}
 use Rattle.std.proofs.lemmas.List.Sums.{fold-append}
 use Rattle.std.proofs.lemmas.Option.{slice_get_within}
+use Rattle.jl_types.specs.declared.limits.Limits.{Limits}
 use Rattle.jl_class.specs.Class.{ClassFile}
 use Rattle.jl_types.specs.declared.event.EventOf.TheVariants as event
 use Rattle.jl_types.specs.declared.event.Made.{Made}
@@ -35,13 +36,13 @@ use Rattle.jl_hierarchy.specs.Constancy.{IsClosed}
 use Rattle.jl_relink.proofs.Closing.{no_fault, free_classes}
 use Rattle.jl_memo.proofs.Staying.{StaysOn, all_events}
 use Rattle.jl_renewal.specs.declared.released.Released.{Released}
-use Rattle.jl_renewal.specs.Numbers.{Numbers, new_number, renumbered}
-use Rattle.jl_renewal.specs.Staying.{numbers_of, staying_loaders}
+use Rattle.jl_renewal.specs.Numbers.{Numbers, new_number, renumbered, how_many}
+use Rattle.jl_renewal.specs.Staying.{numbers_of, staying_loaders, staying_classes}
 use Rattle.jl_renewal.specs.Renewal.{class_event, definer}
 use Rattle.jl_renewal.proofs.Fit.{IsFit}
 use Rattle.jl_renewal.proofs.NumberLaws.{number_is, renumbered_is, number_gone}
 use Rattle.jl_renewal.proofs.Phases.{OneStep, Leads, leads_through}
-use Rattle.jl_renewal.proofs.ClassLaws.{fresh_of, loader_stays, loader_goes}
+use Rattle.jl_renewal.proofs.ClassLaws.{fresh_of, loader_stays, loader_goes, class_stays}
 use Rattle.jl_renewal.proofs.ClassSteps.{IsEarlier, l_stays, finds, known_still, define_accepted, is_free}
 use Rattle.jl_renewal.proofs.DefinedLaws.{defined_same, defined_gone, delegated_same, delegated_gone, retired_gone, loader_more}
 
@@ -164,10 +165,10 @@ of_classes cs = record { classes = cs; places = []; bindings = []; sites = recor
 
 -- ---- one event of the old log
 
-module _ (old_sites : ℕ) (h : List Event) (released : Released) (closed : IsClosed (world_after h).classes)
+module _ (old_limits : Limits) (h : List Event) (released : Released) (closed : IsClosed (world_after h).classes)
     (fits : (front rest : List Event) → h ≡ front ++ rest → IsFit (world_after front))
-    (accepted : (front : List Event) (e : Event) (rest : List Event) → h ≡ front ++ e ∷ rest → IsOk (verdict old_sites (world_after front) e))
-    (max_sites : ℕ) where
+    (accepted : (front : List Event) (e : Event) (rest : List Event) → h ≡ front ++ e ∷ rest → IsOk (verdict old_limits (world_after front) e))
+    (limits : Limits) (few : how_many (staying_classes (world_after h).classes) ≤ limits.classes) where
   abbrev w : World
   w = world_after h
 
@@ -239,7 +240,7 @@ module _ (old_sites : ℕ) (h : List Event) (released : Released) (closed : IsCl
     none_gone l gone there = number_gone (staying_loaders w.classes) l (loader_goes w.classes l (let le = fewer in omega (arith, there, le)) gone)
 
     -- an event that changes no class
-    quiet : next.classes ≡ mid.classes → OneStep max_sites (G front) None (G (front ++ e ∷ []))
+    quiet : next.classes ≡ mid.classes → OneStep limits (G front) None (G (front ++ e ∷ []))
     quiet same = leaves (ap (fresh_of w released) same)
 
   -- ---- a definition
@@ -248,34 +249,40 @@ module _ (old_sites : ℕ) (h : List Event) (released : Released) (closed : IsCl
     abbrev before : Classes
     before = (world_after front).classes
 
-    free : define_fault before l file ≡ None
-    free = no_fault refusal.Define (define_fault before l file) _ (accepted front (event.Define l file) rest split)
+    free : define_fault old_limits.classes before l file ≡ None
+    free = no_fault refusal.Define (define_fault old_limits.classes before l file) _ (accepted front (event.Define l file) rest split)
 
     l_there : l < length before.loaders
-    l_there = known_there before l (is_free before l file free).known
+    l_there = known_there before l (is_free old_limits.classes before l file free).known
 
     last : slice_get w.classes.rows (length before.rows) ≡ Some (class_made before l file)
     last =
         (on_next front (event.Define l file) rest split).classes.rows (length before.rows) (class_made before l file)
         (at_end before.rows (class_made before l file))
 
-    define_step : OneStep max_sites (G front) (class_event w n (event.Define l file)) (G (front ++ event.Define l file ∷ []))
+    -- it is of a loader that stays, and so stays
+    its : is_retired w.classes l ≡ false → slice_get (staying_classes w.classes) (length before.rows) ≡ Some true
+    its live =
+        class_stays w.classes (length before.rows)
+        (ap (λ (o : Option Class). option_map_or (λ row. not (is_retired w.classes row.loader)) o false) last ∙ ap not live)
+
+    define_step : OneStep limits (G front) (class_event w n (event.Define l file)) (G (front ++ event.Define l file ∷ []))
     define_step = by_live (is_retired w.classes l) refl
       where
         is : IsEarlier w before
         is = earlier front (event.Define l file) rest split
 
         by_live : (b : Bool) → is_retired w.classes l ≡ b
-            → OneStep max_sites (G front) (class_event w n (event.Define l file)) (G (front ++ event.Define l file ∷ []))
+            → OneStep limits (G front) (class_event w n (event.Define l file)) (G (front ++ event.Define l file ∷ []))
         by_live true gone =
-            subst (λ (o : Option ℕ). OneStep max_sites (G front) (option_map (λ k. event.Define k file) o) (G (front ++ event.Define l file ∷ [])))
+            subst (λ (o : Option ℕ). OneStep limits (G front) (option_map (λ k. event.Define k file) o) (G (front ++ event.Define l file ∷ [])))
             (sym (none_gone front (event.Define l file) rest split l gone l_there))
             (leaves front (event.Define l file) rest split
             (defined_gone w released before l gone (let le = is.loaders in let there = l_there in omega (arith, le, there)) l_there file last))
         by_live false live =
-            subst (λ (o : Option ℕ). OneStep max_sites (G front) (option_map (λ k. event.Define k file) o) (G (front ++ event.Define l file ∷ [])))
+            subst (λ (o : Option ℕ). OneStep limits (G front) (option_map (λ k. event.Define k file) o) (G (front ++ event.Define l file ∷ [])))
             (sym (renumbered_live front (event.Define l file) rest split l live l_there)) (
-              accepted_by refusal.Define _ _ (define_accepted w released before is l live l_there file free),
+              accepted_by refusal.Define _ _ (define_accepted w released before is l live l_there file limits.classes few (its live) old_limits.classes free),
               leads_to front (event.Define l file) rest split _ (defined_same w released before is l live l_there file last),
             )
 
@@ -384,20 +391,20 @@ module _ (old_sites : ℕ) (h : List Event) (released : Released) (closed : IsCl
           some_map None = refl
           some_map (Some c) = refl
 
-      live_step : OneStep max_sites (G front) (class_event w n e) (G (front ++ e ∷ []))
+      live_step : OneStep limits (G front) (class_event w n e) (G (front ++ e ∷ []))
       live_step =
-          subst (λ (o : Option Event). OneStep max_sites (G front) o (G (front ++ e ∷ []))) (sym is_delegation) (
+          subst (λ (o : Option Event). OneStep limits (G front) o (G (front ++ e ∷ []))) (sym is_delegation) (
             accepted_by refusal.Delegate _ _ no_delegate_fault,
             leads_to front e rest split _
                 (delegated_same w released sooner is l live loader_there name to (renumbered n.loaders d) given.0 given.1 fresh_finds),
           )
 
-    delegate_step : OneStep max_sites (G front) (class_event w n e) (G (front ++ e ∷ []))
+    delegate_step : OneStep limits (G front) (class_event w n e) (G (front ++ e ∷ []))
     delegate_step = by_live (is_retired w.classes l) refl
       where
-        by_live : (b : Bool) → is_retired w.classes l ≡ b → OneStep max_sites (G front) (class_event w n e) (G (front ++ e ∷ []))
+        by_live : (b : Bool) → is_retired w.classes l ≡ b → OneStep limits (G front) (class_event w n e) (G (front ++ e ∷ []))
         by_live true gone =
-            subst (λ (o : Option ℕ). OneStep max_sites (G front)
+            subst (λ (o : Option ℕ). OneStep limits (G front)
             (option_and_then (λ j. option_map (event.Delegate j name) (option_and_then (new_number n.loaders) (definer w.classes l name))) o)
             (G (front ++ e ∷ [])))
             (sym (none_gone front e rest split l gone loader_there))
@@ -408,7 +415,7 @@ module _ (old_sites : ℕ) (h : List Event) (released : Released) (closed : IsCl
   -- ---- a retirement, and a loader more
 
   retire_step : (front : List Event) (l : ℕ) (rest : List Event) → h ≡ front ++ event.Retire l ∷ rest
-      → OneStep max_sites (G front) None (G (front ++ event.Retire l ∷ []))
+      → OneStep limits (G front) None (G (front ++ event.Retire l ∷ []))
   retire_step front l rest split =
       leaves front (event.Retire l) rest split
       (retired_gone w released before l gone (let le = fewer front (event.Retire l) rest split in let there = l_there in omega (arith, le, there)) l_there)
@@ -436,7 +443,7 @@ module _ (old_sites : ℕ) (h : List Event) (released : Released) (closed : IsCl
           by_live true is = refl
           by_live false is = absurd (both_ways (is_retired (retired before l) l) ((on_next front (event.Retire l) rest split).alive l is) now)
 
-  loader_step : (front rest : List Event) → h ≡ front ++ event.NewLoader ∷ rest → OneStep max_sites (G front) None (G (front ++ event.NewLoader ∷ []))
+  loader_step : (front rest : List Event) → h ≡ front ++ event.NewLoader ∷ rest → OneStep limits (G front) None (G (front ++ event.NewLoader ∷ []))
   loader_step front rest split =
       leaves front event.NewLoader rest split
       (loader_more w released (world_after front).classes
@@ -447,7 +454,7 @@ module _ (old_sites : ℕ) (h : List Event) (released : Released) (closed : IsCl
   -- ---- all of them
 
   each : (front : List Event) (e : Event) (rest : List Event) → h ≡ front ++ e ∷ rest
-      → OneStep max_sites (G front) (class_event w n e) (G (front ++ e ∷ []))
+      → OneStep limits (G front) (class_event w n e) (G (front ++ e ∷ []))
   each front event.NewLoader rest split = loader_step front rest split
   each front (event.Define l file) rest split = define_step front l file rest split
   each front (event.Delegate l name to) rest split = delegate_step front l name to rest split
@@ -460,5 +467,5 @@ module _ (old_sites : ℕ) (h : List Event) (released : Released) (closed : IsCl
   each front (event.Install rows) rest split = quiet front (event.Install rows) rest split refl
   each front (event.Retire l) rest split = retire_step front l rest split
 
-  pub classes_lead : Leads max_sites (G []) (filter_map (class_event w n) h) (G h)
-  classes_lead = leads_through max_sites (class_event w n) G h each
+  pub classes_lead : Leads limits (G []) (filter_map (class_event w n) h) (G h)
+  classes_lead = leads_through limits (class_event w n) G h each

@@ -21,16 +21,16 @@ use Rattle.jl_types.specs.Events.Definitions.{define_fault, parent_names, class_
 use Rattle.jl_types.proofs.Firsts.{first_none, test_none}
 use Rattle.jl_types.proofs.Lists.{element_at}
 use Rattle.jl_renewal.specs.declared.released.Released.{Released}
-use Rattle.jl_renewal.specs.Numbers.{Numbers, numbered, staying, renumbered}
+use Rattle.jl_renewal.specs.Numbers.{Numbers, numbered, staying, how_many, renumbered}
 use Rattle.jl_renewal.specs.Staying.{numbers_of, staying_loaders, staying_classes}
 use Rattle.jl_renewal.specs.Renewed.{renumbered_record, renumbered_class}
-use Rattle.jl_renewal.proofs.NumberLaws.{before, renumbered_is, staying_at, before_once, staying_fewer}
+use Rattle.jl_renewal.proofs.NumberLaws.{before, renumbered_is, staying_at, before_once, staying_length, before_many}
 use Rattle.jl_renewal.proofs.ClassLaws.{fresh_of, padded, padded_at, lookup_same, class_same, class_stays, loader_stays}
 
 -- ---- why a class is defined
 
--- each fault of a definition is none
-pub record IsFree (cs : Classes) (loader : ℕ) (file : ClassFile) : Type 0 where
+-- each fault of a definition is none, where there are at most so many classes
+pub record IsFree (most : ℕ) (cs : Classes) (loader : ℕ) (file : ClassFile) : Type 0 where
   pub known : is_unknown cs loader ≡ false
   pub object : (bytes_eq file.name object && not (loader == 0)) ≡ false
   pub new : is_some (lookup cs loader file.name) ≡ false
@@ -40,14 +40,14 @@ pub record IsFree (cs : Classes) (loader : ℕ) (file : ClassFile) : Type 0 wher
   pub final : list_any (named_test (is_final cs) cs loader) (option_to_list file.superclass) ≡ false
   pub interfaces : find (λ name. not (named_test (is_interface cs) cs loader name)) file.interfaces ≡ None
   pub accessible : find (λ name. not (is_open_parent cs loader file name)) (parent_names file) ≡ None
-  pub room : nat_le 65536 (length cs.rows) ≡ false
+  pub room : nat_le most (length cs.rows) ≡ false
 
 map_none : {A B : Type 0} (f : A → B) (o : Option A) → option_map f o ≡ None → o ≡ None
 map_none f None e = refl
 map_none f (Some a) e = cc
 
-pub is_free : (cs : Classes) (loader : ℕ) (file : ClassFile) → define_fault cs loader file ≡ None → IsFree cs loader file
-is_free cs loader file none =
+pub is_free : (most : ℕ) (cs : Classes) (loader : ℕ) (file : ClassFile) → define_fault most cs loader file ≡ None → IsFree most cs loader file
+is_free most cs loader file none =
     let a = first_none _ _ none in
     let b = first_none _ _ a.1 in
     let c = first_none _ _ b.1 in
@@ -79,8 +79,8 @@ none_test : {A : Type 0} (b : Bool) (x : A) → b ≡ false → then_some b x �
 none_test true x e = cc
 none_test false x e = refl
 
-pub no_fault : (cs : Classes) (loader : ℕ) (file : ClassFile) → IsFree cs loader file → define_fault cs loader file ≡ None
-no_fault cs loader file free =
+pub no_fault : (most : ℕ) (cs : Classes) (loader : ℕ) (file : ClassFile) → IsFree most cs loader file → define_fault most cs loader file ≡ None
+no_fault most cs loader file free =
     none_first _ _ (none_test _ _ free.known)
     (none_first _ _ (none_test _ _ free.object)
     (none_first _ _ (none_test _ _ free.new)
@@ -108,9 +108,6 @@ or_false false b ea eb = eb
 
 le_false : (a b : ℕ) → b < a → nat_le a b ≡ false
 le_false a b lt = grind (arith, nat_tests, lt)
-
-not_le : (a b : ℕ) → nat_le a b ≡ false → b < a
-not_le a b e = grind (arith, nat_tests, e)
 
 -- two that stay have one number where they are one
 pub number_same : (stays : List Bool) (a b : ℕ) → slice_get stays a ≡ Some true → slice_get stays b ≡ Some true
@@ -237,8 +234,8 @@ module _ (w : World) (released : Released) (mid : Classes) (earlier : IsEarlier 
         none_before [] = refl
         none_before (b ∷ stays) = refl
 
-    pub still_free : IsFree mid l file → IsFree fresh k file
-    still_free free = record {
+    pub still_free : (most limit : ℕ) → length fresh.rows < limit → IsFree most mid l file → IsFree limit fresh k file
+    still_free most limit has_room free = record {
       known = known_still;
       object = ap (λ (b : Bool). bytes_eq file.name object && not b) zero_same ∙ free.object;
       new = ap is_some (finds file.name) ∙ (is_some_map (renumbered n.classes) (lookup mid l file.name) ∙ free.new);
@@ -249,13 +246,19 @@ module _ (w : World) (released : Released) (mid : Classes) (earlier : IsEarlier 
       final = ap (λ (p : List ℕ → Bool). list_any p (option_to_list file.superclass)) (λ i name. final_same name i) ∙ free.final;
       interfaces = ap (λ (p : List ℕ → Bool). find p file.interfaces) (λ i name. not (interface_same name i)) ∙ free.interfaces;
       accessible = ap (λ (p : List ℕ → Bool). find p (parent_names file)) (λ i name. not (accessible_same name i)) ∙ free.accessible;
-      room = le_false 65536 (length fresh.rows)
-          (let fewer = staying_fewer (staying_classes w.classes) mid.rows in
-          let as_many = length-map (staying (staying_classes w.classes) mid.rows) (renumbered_class n) in
-          let room = not_le 65536 (length mid.rows) free.room in
-          omega (arith, fewer, as_many, room));
+      room = le_false limit (length fresh.rows) has_room;
     }
 
-    -- it is accepted
-    pub define_accepted : define_fault mid l file ≡ None → define_fault fresh k file ≡ None
-    define_accepted none = no_fault fresh k file (still_free (is_free mid l file none))
+    -- there is room for it where as many may be there as stay
+    module _ (limit : ℕ) (few : how_many (staying_classes w.classes) ≤ limit) (its : slice_get (staying_classes w.classes) (length mid.rows) ≡ Some true) where
+      has_room : length fresh.rows < limit
+      has_room =
+          let within = slice_get_within (staying_classes w.classes) (length mid.rows) true its in
+          let as_many = length-map (staying (staying_classes w.classes) mid.rows) (renumbered_class n) in
+          let long = staying_length (staying_classes w.classes) mid.rows (omega (arith, within)) in
+          let one_more = before_many (staying_classes w.classes) (length mid.rows) its in
+          omega (arith, as_many, long, one_more, few)
+
+      -- it is accepted
+      pub define_accepted : (most : ℕ) → define_fault most mid l file ≡ None → define_fault limit fresh k file ≡ None
+      define_accepted most none = no_fault limit fresh k file (still_free most limit has_room (is_free most mid l file none))

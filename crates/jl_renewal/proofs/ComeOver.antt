@@ -1,5 +1,5 @@
 -- What the laws of a renewal say, of every core whose events were accepted.
-use Rattle.std.specs.Prelude.{◌≡◌, ◌↔◌, ◌≤◌, ◌&&◌, ℕ, zero, suc, Bool, true, false, List, [], ◌∷◌, ◌++◌, fold, map, filter_map, drop, take, length, not}
+use Rattle.std.specs.Prelude.{◌≡◌, ◌↔◌, ◌&&◌, ℕ, zero, suc, Bool, true, false, List, [], ◌∷◌, ◌++◌, fold, map, filter_map, drop, take, length, not}
 use Rattle.std.specs.Prelude.{◌==◌, slice_get, Option, Some, None, Result, Ok, Err, IsOk, Contains}
 use Rattle.std.specs.Prelude.{option_map, option_and_then, option_to_list}
 use Rattle.std.specs.Bool.{then_some}
@@ -9,6 +9,7 @@ use Rattle.std.proofs.Common.{refl, sym, ap, subst, subst₂, ◌∙◌, arith}
 use Rattle.std.proofs.lemmas.Bool.{and_parts}
 use Rattle.std.proofs.lemmas.Option.{same_Some}
 use Rattle.std.proofs.lemmas.List.Folds.{list_all-append}
+use Rattle.jl_types.specs.declared.limits.Limits.{Limits}
 use Rattle.jl_types.specs.declared.answer.Unlinked.{Unlinked}
 use Rattle.jl_types.specs.declared.event.EventOf.TheVariants as event
 use Rattle.jl_types.specs.declared.link.Link.{Link}
@@ -26,10 +27,10 @@ use Rattle.jl_relink.proofs.InOrder.{accepted_in_order}
 use Rattle.jl_core.specs.State.{State, events, world_of, links_of}
 use Rattle.jl_core.specs.Logs.{Entry}
 use Rattle.jl_renewal.specs.declared.released.Released.{Released}
-use Rattle.jl_renewal.specs.Numbers.{Numbers, how_many, new_number, renumbered_target}
+use Rattle.jl_renewal.specs.Numbers.{Numbers, new_number, renumbered_target}
 use Rattle.jl_renewal.specs.Staying.{numbers_of, staying_sites, staying_call_sites}
 use Rattle.jl_renewal.specs.Renewal.{definer, class_event, new_loaders, new_switches, new_call_site, new_call_sites, request, binding, invalid_points}
-use Rattle.jl_renewal.specs.Renewal.{invalidation, site_events, renewal, AreBatches, fresh_rows, logged, IsRefilled, IsRenewal, CameFrom}
+use Rattle.jl_renewal.specs.Renewal.{invalidation, site_events, renewal, renewal_fault, AreBatches, fresh_rows, logged, IsRefilled, IsRenewal, CameFrom}
 use Rattle.jl_renewal.specs.Renewed.{renewed, renumbered_link, renumbered_result}
 use Rattle.jl_renewal.specs.Adds.{Follow, Installs}
 use Rattle.jl_renewal.specs.Moved.{HaveSameLinks}
@@ -45,6 +46,7 @@ use Rattle.jl_renewal.proofs.QuietLaws.{IsQuiet, is_quiet}
 use Rattle.jl_renewal.proofs.ScratchLaws.{scratch_same}
 use Rattle.jl_renewal.proofs.RenewedSites.{is_set, in_class, sites_alike}
 use Rattle.jl_renewal.proofs.RenewalPhases.{renewal_leads}
+use Rattle.jl_renewal.proofs.RoomLaws.{as_many, has_as_many, has_room}
 
 same_ok : (l m : Link) → ◌≡◌ {A = Result Link Unlinked} (Ok l) (Ok m) → l ≡ m
 same_ok l m e = ap linked e
@@ -55,11 +57,11 @@ same_ok l m e = ap linked e
 
 -- ---- each event of a list that is accepted
 
-pub each_follows : (max_sites : ℕ) (w : World) (es : List Event) → Follow max_sites w es
-    → (k : ℕ) (e : Event) → slice_get es k ≡ Some e → IsOk (verdict max_sites (fold step w (take k es)) e)
-each_follows max_sites w [] follow k e at = cc
-each_follows max_sites w (f ∷ es) follow zero e at = subst (λ (x : Event). IsOk (verdict max_sites w x)) (same_Some f e at) follow.0
-each_follows max_sites w (f ∷ es) follow (suc k) e at = each_follows max_sites (step w f) es follow.1 k e at
+pub each_follows : (limits : Limits) (w : World) (es : List Event) → Follow limits w es
+    → (k : ℕ) (e : Event) → slice_get es k ≡ Some e → IsOk (verdict limits (fold step w (take k es)) e)
+each_follows limits w [] follow k e at = cc
+each_follows limits w (f ∷ es) follow zero e at = subst (λ (x : Event). IsOk (verdict limits w x)) (same_Some f e at) follow.0
+each_follows limits w (f ∷ es) follow (suc k) e at = each_follows limits (step w f) es follow.1 k e at
 
 -- ---- the files of a renewal are read ones
 
@@ -139,7 +141,7 @@ read_sites w n =
 
 -- ---- a core whose events were accepted
 
-module _ (old : State) (released : Released) (accepted : AreAccepted old.max_sites (events old)) where
+module _ (old : State) (released : Released) (accepted : AreAccepted old.limits (events old)) where
   abbrev w : World
   w = world_of old
 
@@ -147,14 +149,14 @@ module _ (old : State) (released : Released) (accepted : AreAccepted old.max_sit
   n = numbers_of w released
 
   order : IsInOrder w
-  order = accepted_in_order old.max_sites (events old) accepted
+  order = accepted_in_order old.limits (events old) accepted
 
   pub fit : IsFit w
-  fit = fit_after old.max_sites (events old) accepted.each
+  fit = fit_after old.limits (events old) accepted.each
 
   pub renewal_world : world_after (renewal old released) ≡ renewed w released
   renewal_world =
-      (renewal_leads old released accepted.each order.classes.closed (how_many (staying_sites w.classes w.places)) (omega arith)).after
+      (renewal_leads old released accepted.each order.classes.closed (as_many w released) (has_as_many w released)).after
 
   pub alike : AreAlike n w.classes (renewed w released).classes
   alike =
@@ -163,9 +165,10 @@ module _ (old : State) (released : Released) (accepted : AreAccepted old.max_sit
       (let more = loaders_after (events old) nothing_yet in omega (arith, more))
       (subst (λ (v : World). AreOrdered v.classes.rows) renewal_world (world_good (renewal old released)).ordered))
 
-  pub renewal_accepted : (max_sites : ℕ) → how_many (staying_sites w.classes w.places) ≤ max_sites → AreAccepted max_sites (renewal old released)
-  renewal_accepted max_sites few = record {
-    each = each_follows max_sites nothing_yet (renewal old released) (renewal_leads old released accepted.each order.classes.closed max_sites few).follow;
+  pub renewal_accepted : (limits : Limits) → renewal_fault limits w released ≡ None → AreAccepted limits (renewal old released)
+  renewal_accepted limits fits = record {
+    each = each_follows limits nothing_yet (renewal old released)
+        (renewal_leads old released accepted.each order.classes.closed limits (has_room limits w released fits)).follow;
     files =
         read_both (new_loaders n.loaders) (filter_map (class_event w n) (events old) ++ site_events w n)
         (read_some (option_map (λ (m : ℕ). event.NewLoader)) (λ number. read_map (λ (m : ℕ). event.NewLoader) (λ m. refl) number) (drop 1 n.loaders))
@@ -213,9 +216,9 @@ module _ (old : State) (released : Released) (accepted : AreAccepted old.max_sit
     links_are_those = (come, go)
 
   -- so it is after a renewal
-  pub links_are_these : (fresh : State) (max_sites : ℕ) (numbers : Numbers) → IsRenewal old released max_sites (fresh, numbers)
+  pub links_are_these : (fresh : State) (limits : Limits) (numbers : Numbers) → IsRenewal old released limits (fresh, numbers)
       → HaveSameLinks old fresh numbers
-  links_are_these fresh max_sites numbers is k l =
+  links_are_these fresh limits numbers is k l =
       subst₂ (λ (es : List Event) (m : Numbers). Contains (installed_links es) (k, l) ↔ CameFrom (links_of old) m k l) (sym is.events) (sym is.numbers)
       (links_are_those (renewal old released) (λ j. is_quiet j w n (events old)) renewal_world is.batches is.are_batches k l)
 
@@ -226,6 +229,6 @@ module _ (old : State) (released : Released) (accepted : AreAccepted old.max_sit
       subst₂ (λ (es : List Event) (m : Numbers). Contains (installed_links es) (k, l) ↔ CameFrom (links_of old) m k l)
       (sym installs.adds.events) (sym refilled.numbers)
       (links_are_those (events between)
-      (λ j. subst (IsQuiet j) (sym refilled.events) (is_quiet j w n (events (logged before.max_sites w entries))))
+      (λ j. subst (IsQuiet j) (sym refilled.events) (is_quiet j w n (events (logged before.limits w entries))))
       refilled.world installs.batches
       (subst (λ (m : Numbers). AreBatches installs.batches (fresh_rows (world_of between) m (links_of old))) refilled.numbers installs.are_batches) k l)

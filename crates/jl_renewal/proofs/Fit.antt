@@ -1,6 +1,7 @@
 -- What holds of a world after accepted events, of which a renewal makes use.
-use Rattle.std.specs.Prelude.{◌≡◌, ◌≤◌, ℕ, true, false, List, length, slice_get, Some, None, IsOk, take}
+use Rattle.std.specs.Prelude.{◌≡◌, ℕ, true, false, List, slice_get, Some, None, IsOk, take}
 use Rattle.std.specs.Str.{bytes_eq}
+use Rattle.jl_types.specs.declared.limits.Limits.{Limits}
 use Rattle.jl_pool.specs.declared.reference.CallSiteSpecifier.{CallSiteSpecifier}
 use Rattle.jl_class.specs.Site.{Site}
 use Rattle.jl_class.specs.declared.site.Operand.TheVariants as operand
@@ -14,8 +15,8 @@ use Rattle.jl_types.specs.Events.Verdict.{verdict, names_array, is_polymorphic, 
 use Rattle.jl_types.specs.Events.History.{world_after}
 
 -- each event was accepted after those before it
-abbrev pub AllAccepted : ℕ → List Event → Type 0
-AllAccepted max_sites h = (n : ℕ) (e : Event) → slice_get h n ≡ Some e → IsOk (verdict max_sites (world_after (take n h)) e)
+abbrev pub AllAccepted : Limits → List Event → Type 0
+AllAccepted limits h = (n : ℕ) (e : Event) → slice_get h n ≡ Some e → IsOk (verdict limits (world_after (take n h)) e)
 
 -- an invocation stands at the place that may be requested
 pub record IsInvoked (w : World) (place : Place) : Type 0 where
@@ -43,10 +44,6 @@ pub record IsFit (w : World) : Type 0 where
   -- a loader that isn't retired finds what it has defined
   pub found : (c : ℕ) (row : Class) → slice_get w.classes.rows c ≡ Some row → is_retired w.classes row.loader ≡ false
       → lookup w.classes row.loader row.file.name ≡ Some c
-  pub few_loaders : length w.classes.loaders ≤ 1024
-  pub few_classes : length w.classes.rows ≤ 65536
-  pub few_call_sites : length w.sites.call_sites ≤ 65536
-  pub few_switches : length w.sites.switches ≤ 65536
   -- each call site's target would be taken now
   pub targets : (c : ℕ) (site : CallSite) → slice_get w.sites.call_sites c ≡ Some site → target_fault w c site.ty site.target ≡ None
   pub places : (s : ℕ) (place : Place) → slice_get w.places s ≡ Some place → IsInvoked w place

@@ -1,30 +1,26 @@
 -- What holds of the classes after accepted events, of which a renewal makes use, through each event of classes.
-use Rattle.std.specs.Prelude.{◌≡◌, ◌<◌, ◌≤◌, ℕ, zero, suc, Bool, true, false, cond, List, [], ◌∷◌, ◌++◌, length, slice_get, slice_set, find}
+use Rattle.std.specs.Prelude.{◌≡◌, ℕ, zero, suc, Bool, true, false, cond, List, [], ◌∷◌, ◌++◌, length, slice_get, slice_set, find}
 use Rattle.std.specs.Prelude.{Option, Some, None, option_map, option_and_then}
 use Rattle.std.specs.Option.{option_map_or}
 use Rattle.std.specs.Str.{bytes_eq}
-use Rattle.std.proofs.Common.{refl, ap, sym, subst, ◌∙◌, arith, length-append}
-use Rattle.std.proofs.lemmas.List.{length-set}
+use Rattle.std.proofs.Common.{refl, ap, sym, subst, ◌∙◌}
 use Rattle.std.proofs.lemmas.Option.{same_Some}
 use Rattle.std.proofs.lemmas.Slice.Eq.{bytes_eq-Decides}
 use Rattle.jl_class.specs.Class.{ClassFile}
 use Rattle.jl_types.specs.Values.World.{Class, Classes}
 use Rattle.jl_types.specs.Values.Members.{is_retired, recorded, lookup}
-use Rattle.jl_types.specs.Events.Definitions.{class_made, define_fault, with_record, defined, delegated}
+use Rattle.jl_types.specs.Events.Definitions.{class_made, with_record, defined, delegated}
 use Rattle.jl_types.specs.Events.Retirement.{retired}
+use Rattle.jl_hierarchy.specs.Constancy.{MayDefine}
 use Rattle.jl_types.proofs.Lists.{before_end, at_end}
 use Rattle.jl_types.proofs.Orders.{IsGood, looked_up}
 use Rattle.jl_types.proofs.Retiring.{found_before}
-use Rattle.jl_hierarchy.proofs.FaultLaws.{has_room}
-use Rattle.jl_hierarchy.proofs.NewClass.{as_many_loaders}
 use Rattle.jl_hierarchy.proofs.OwnRecords.{own_with_loader, own_with_record, own_defined, own_retired}
 
 -- what `IsFit` says of the classes alone
 pub record AreFit (cs : Classes) : Type 0 where
   pub named : (loader : ℕ) (name : List ℕ) (c : ℕ) (row : Class) → lookup cs loader name ≡ Some c → slice_get cs.rows c ≡ Some row → row.file.name ≡ name
   pub found : (c : ℕ) (row : Class) → slice_get cs.rows c ≡ Some row → is_retired cs row.loader ≡ false → lookup cs row.loader row.file.name ≡ Some c
-  pub few_loaders : length cs.loaders ≤ 1024
-  pub few_classes : length cs.rows ≤ 65536
 
 -- ---- look-ups once one record more is there
 
@@ -76,12 +72,10 @@ nothing_more (x ∷ loaders) (suc k) name c e = nothing_more loaders k name c e
 -- ---- the events
 
 module _ (cs : Classes) (good : IsGood cs) (fit : AreFit cs) where
-  pub fit_with_loader : length cs.loaders < 1024 → AreFit (record cs { loaders = cs.loaders ++ [] ∷ [] })
-  fit_with_loader lt = record {
+  pub fit_with_loader : AreFit (record cs { loaders = cs.loaders ++ [] ∷ [] })
+  fit_with_loader = record {
     named = λ k name c row e at. fit.named k name c row (nothing_more cs.loaders k name c e) at;
     found = own_with_loader cs good fit.found;
-    few_loaders = let n = length-append cs.loaders ([] ∷ []) in omega (arith, n, lt);
-    few_classes = fit.few_classes;
   }
 
   -- the name that is recorded is the class's
@@ -91,8 +85,6 @@ module _ (cs : Classes) (good : IsGood cs) (fit : AreFit cs) where
     named = λ k other c row e at. found_so (λ n x. (r : Class) → slice_get cs.rows x ≡ Some r → r.file.name ≡ n) name d so cs.loaders loader k other c
         (λ f r there. fit.named k other c r f there) e row at;
     found = own_with_record cs good fit.found loader name d;
-    few_loaders = let n = as_many_loaders cs.loaders loader name d in let few = fit.few_loaders in omega (arith, n, few);
-    few_classes = fit.few_classes;
   }
 
   pub fit_delegated : (loader : ℕ) (name : List ℕ) (to : ℕ) → AreFit (delegated cs loader name to)
@@ -102,12 +94,10 @@ module _ (cs : Classes) (good : IsGood cs) (fit : AreFit cs) where
       by_found None is = fit
       by_found (Some c) is = fit_with_record loader name c (λ row at. fit.named to name c row is at)
 
-  pub fit_defined : (loader : ℕ) (file : ClassFile) → define_fault cs loader file ≡ None → AreFit (defined cs loader file)
-  fit_defined loader file none = record {
+  pub fit_defined : (loader : ℕ) (file : ClassFile) → MayDefine cs loader file → AreFit (defined cs loader file)
+  fit_defined loader file may = record {
     named = λ k name c row e at. found_so Named file.name (length cs.rows) made_so cs.loaders loader k name c (old_so k name c) e row at;
-    found = own_defined cs good fit.found loader file none;
-    few_loaders = let n = as_many_loaders cs.loaders loader file.name (length cs.rows) in let few = fit.few_loaders in omega (arith, n, few);
-    few_classes = let n = length-append cs.rows (class_made cs loader file ∷ []) in let lt = has_room cs loader file none in omega (arith, n, lt);
+    found = own_defined cs good fit.found loader file may;
   }
     where
       Named : List ℕ → ℕ → Type 0
@@ -124,6 +114,4 @@ module _ (cs : Classes) (good : IsGood cs) (fit : AreFit cs) where
   fit_retired loader = record {
     named = λ k name c row e at. fit.named k name c row (found_before cs loader k name c e) at;
     found = own_retired cs good fit.found loader;
-    few_loaders = let n = length-set cs.loaders loader [] in let few = fit.few_loaders in omega (arith, n, few);
-    few_classes = fit.few_classes;
   }

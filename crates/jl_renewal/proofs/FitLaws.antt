@@ -1,24 +1,23 @@
 -- After accepted events a world is fit for a renewal.
-use Rattle.std.specs.Prelude.{◌≡◌, ◌≤◌, ◌+◌, ◌&&◌, ℕ, zero, suc, true, false, not, nat_le, List, [], ◌∷◌, ◌++◌, length, take, slice_get, Some, None}
+use Rattle.std.specs.Prelude.{◌≡◌, ◌≤◌, ◌+◌, ◌&&◌, ℕ, zero, suc, true, false, not, List, [], ◌∷◌, ◌++◌, length, take, slice_get, Some, None}
 use Rattle.std.specs.Prelude.{option_map, IsOk}
-use Rattle.std.specs.Bool.{then_some}
 use Rattle.std.proofs.Common.{ap, sym, subst, ◌∙◌, arith, length-append}
-use Rattle.std.proofs.lemmas.Bool.{leb-false, or_parts}
+use Rattle.std.proofs.lemmas.Bool.{or_parts}
 use Rattle.std.proofs.lemmas.List.{take_more, take_all}
 use Rattle.std.proofs.lemmas.Option.{slice_get_within, get_or_from_slice_get}
+use Rattle.jl_types.specs.declared.limits.Limits.{Limits}
 use Rattle.jl_types.specs.declared.event.EventOf.TheVariants as event
 use Rattle.jl_types.specs.declared.event.Made.TheVariants as made
-use Rattle.jl_types.specs.declared.refusal.CallSiteFault.TheVariants as fault
-use Rattle.jl_types.specs.declared.refusal.Refusal.TheVariants.{Define, CallSite, LoadersFull, Retire}
+use Rattle.jl_types.specs.declared.refusal.Refusal.TheVariants.{Define, CallSite, Retire}
 use Rattle.jl_types.specs.declared.refusal.RetireFault.TheVariants.{Targeted}
 use Rattle.jl_types.specs.Values.Target.{Target, Method, Guard, Invoker}
 use Rattle.jl_types.specs.Values.World.{World, CallSite as CallSiteRow, nothing_yet}
 use Rattle.jl_types.specs.Events.Definitions.{define_fault}
 use Rattle.jl_types.specs.Events.Retirement.{names_from, classes_fault, targeted, retire_fault}
 use Rattle.jl_types.specs.Events.Event.{Event}
-use Rattle.jl_types.specs.Events.Verdict.{most_of_a_kind, new_call_site_fault, set_target_fault, invalidated, bind_fault, verdict, step}
+use Rattle.jl_types.specs.Events.Verdict.{new_call_site_fault, set_target_fault, invalidated, bind_fault, verdict, step}
 use Rattle.jl_types.specs.Events.History.{world_after}
-use Rattle.jl_types.proofs.Firsts.{first_none, first_alone, test_none}
+use Rattle.jl_types.proofs.Firsts.{first_none, first_alone}
 use Rattle.jl_types.proofs.Lists.{element_at}
 use Rattle.jl_types.proofs.Orders.{IsGood, world_good}
 use Rattle.jl_types.proofs.Places.{world_more}
@@ -56,42 +55,37 @@ module _ (w : World) (loader : ℕ) where
 -- ---- each event
 
 -- what is fit stays so through an accepted event, where what loaders have recorded is there
-pub fit_step : (max_sites : ℕ) (w : World) (e : Event) → IsGood w.classes → IsFit w → IsOk (verdict max_sites w e) → IsFit (step w e)
-fit_step max_sites w event.NewLoader good fit accepted =
+pub fit_step : (limits : Limits) (w : World) (e : Event) → IsGood w.classes → IsFit w → IsOk (verdict limits w e) → IsFit (step w e)
+fit_step limits w event.NewLoader good fit accepted =
     with_classes_fit w fit (step w event.NewLoader).classes
-    (fit_with_loader w.classes good (classes_fit w fit)
-    (leb-false 1024 (length w.classes.loaders)
-    (test_none (nat_le 1024 (length w.classes.loaders)) LoadersFull (no_refusal (then_some (nat_le 1024 (length w.classes.loaders)) LoadersFull) _ accepted))))
+    (fit_with_loader w.classes good (classes_fit w fit))
     (rows_stay w event.NewLoader)
     (λ c site at. of_all (StaysPresent w (step w event.NewLoader)) (λ c is. is) site.target)
-fit_step max_sites w (event.Define loader file) good fit accepted =
+fit_step limits w (event.Define loader file) good fit accepted =
     with_classes_fit w fit (step w (event.Define loader file)).classes
-    (fit_defined w.classes good (classes_fit w fit) loader file (no_fault Define (define_fault w.classes loader file) _ accepted))
+    (fit_defined w.classes good (classes_fit w fit) loader file
+    (record { most_classes = limits.classes; accepted = no_fault Define (define_fault limits.classes w.classes loader file) _ accepted }))
     (rows_stay w (event.Define loader file))
     (λ c site at. of_all (StaysPresent w (step w (event.Define loader file))) (present_still w.classes good loader file) site.target)
-fit_step max_sites w (event.Delegate loader name to) good fit accepted =
+fit_step limits w (event.Delegate loader name to) good fit accepted =
     with_classes_fit w fit (step w (event.Delegate loader name to)).classes (fit_delegated w.classes good (classes_fit w fit) loader name to)
     (rows_stay w (event.Delegate loader name to))
     (λ c site at. of_all (StaysPresent w (step w (event.Delegate loader name to))) (λ c is. is) site.target)
-fit_step max_sites w (event.Request place) good fit accepted = request_fit w fit max_sites place accepted
-fit_step max_sites w (event.NewCallSite kind ty t) good fit accepted =
-    new_call_site_fit w fit kind ty t (no_fault CallSite (new_call_site_fault w ty t) _ accepted)
-fit_step max_sites w (event.SetTarget c t) good fit accepted =
+fit_step limits w (event.Request place) good fit accepted = request_fit w fit limits place accepted
+fit_step limits w (event.NewCallSite kind ty t) good fit accepted =
+    new_call_site_fit w fit limits.call_sites kind ty t (no_fault CallSite (new_call_site_fault limits.call_sites w ty t) _ accepted)
+fit_step limits w (event.SetTarget c t) good fit accepted =
     set_target_fit w fit c t (no_fault CallSite (set_target_fault w c (slice_get w.sites.call_sites c) t) _ accepted)
-fit_step max_sites w event.NewSwitch good fit accepted =
+fit_step limits w event.NewSwitch good fit accepted =
     let n = length-append w.sites.switches (true ∷ []) in
-    let lt = leb-false 65536 (length w.sites.switches)
-    (test_none (nat_le most_of_a_kind (length w.sites.switches)) (CallSite fault.Full)
-    (no_refusal (then_some (nat_le most_of_a_kind (length w.sites.switches)) (CallSite fault.Full)) _ accepted)) in
-    with_switches_fit w fit (w.sites.switches ++ true ∷ []) (omega (arith, n)) (omega (arith, n, lt))
-fit_step max_sites w (event.Invalidate points) good fit accepted =
+    with_switches_fit w fit (w.sites.switches ++ true ∷ []) (omega (arith, n))
+fit_step limits w (event.Invalidate points) good fit accepted =
     let n = invalidated_length w.sites.switches points in
-    let few = fit.few_switches in
-    with_switches_fit w fit (invalidated w.sites.switches points) (omega (arith, n)) (omega (arith, n, few))
-fit_step max_sites w (event.Bind s c) good fit accepted =
+    with_switches_fit w fit (invalidated w.sites.switches points) (omega (arith, n))
+fit_step limits w (event.Bind s c) good fit accepted =
     bind_fit w fit s c (no_refusal (bind_fault w s c (slice_get w.places s)) made.Nothing accepted)
-fit_step max_sites w (event.Install rows) good fit accepted = fit
-fit_step max_sites w (event.Retire loader) good fit accepted =
+fit_step limits w (event.Install rows) good fit accepted = fit
+fit_step limits w (event.Retire loader) good fit accepted =
     with_classes_fit w fit (step w (event.Retire loader)).classes (fit_retired w.classes good (classes_fit w fit) loader)
     (rows_stay w (event.Retire loader))
     (λ c site at. left_present w loader site.target (unnamed w loader (no_fault Retire (retire_fault w loader) _ accepted) c site at))
@@ -102,10 +96,6 @@ at_first : IsFit nothing_yet
 at_first = record {
   named = λ loader name c row e at. cc;
   found = λ c row e. cc;
-  few_loaders = omega arith;
-  few_classes = omega arith;
-  few_call_sites = omega arith;
-  few_switches = omega arith;
   targets = λ c site e. cc;
   places = λ s place e. cc;
   once = λ s t p q e. cc;
@@ -114,15 +104,15 @@ at_first = record {
 }
 
 -- what accepted events leave is fit
-pub fit_after : (max_sites : ℕ) (h : List Event) → AllAccepted max_sites h → IsFit (world_after h)
-fit_after max_sites h all = subst (λ (es : List Event). IsFit (world_after es)) (take_all (length h) h (omega arith)) (first (length h) (omega arith))
+pub fit_after : (limits : Limits) (h : List Event) → AllAccepted limits h → IsFit (world_after h)
+fit_after limits h all = subst (λ (es : List Event). IsFit (world_after es)) (take_all (length h) h (omega arith)) (first (length h) (omega arith))
   where
     -- one event more of them
     next : (n : ℕ) (e : Event) → slice_get h n ≡ Some e → IsFit (world_after (take n h)) → IsFit (world_after (take (n + 1) h))
     next n e at fit =
         subst (λ (es : List Event). IsFit (world_after es))
         (sym (take_more h n e (slice_get_within h n e at) ∙ ap (λ (f : Event). take n h ++ f ∷ []) (get_or_from_slice_get h n e e at)))
-        (subst IsFit (sym (world_more (take n h) e)) (fit_step max_sites (world_after (take n h)) e (world_good (take n h)) fit (all n e at)))
+        (subst IsFit (sym (world_more (take n h) e)) (fit_step limits (world_after (take n h)) e (world_good (take n h)) fit (all n e at)))
 
     first : (n : ℕ) → n ≤ length h → IsFit (world_after (take n h))
     first zero le = at_first

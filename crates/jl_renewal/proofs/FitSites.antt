@@ -6,14 +6,14 @@ use Rattle.std.specs.Bool.{then_some}
 use Rattle.std.specs.List.{list_any}
 use Rattle.std.specs.Option.{option_map_or}
 use Rattle.std.specs.Str.{bytes_eq}
-use Rattle.std.proofs.Common.{refl, ap, sym, subst, ◌∙◌, arith, inl, inr, length-append}
+use Rattle.std.proofs.Common.{refl, ap, sym, subst, ◌∙◌, arith, inl, inr}
 use Rattle.std.proofs.lemmas.Bool.{both_ways, not-false}
 use Rattle.std.proofs.lemmas.Bool.Decides.{Decides-eqb}
 use Rattle.std.proofs.lemmas.Cmp.{nat_eq_equiv}
-use Rattle.std.proofs.lemmas.List.{length-set}
 use Rattle.std.proofs.lemmas.List.Quantifiers.{position-Some}
 use Rattle.std.proofs.lemmas.Map.Keys.{any_passes_from_place}
 use Rattle.std.proofs.lemmas.Option.{same_Some, slice_get_within, slice_get-get_or}
+use Rattle.jl_types.specs.declared.limits.Limits.{Limits}
 use Rattle.jl_pool.specs.declared.reference.CallSiteSpecifier.{CallSiteSpecifier}
 use Rattle.jl_class.specs.declared.site.Operand.{Operand}
 use Rattle.jl_class.specs.declared.site.Operand.TheVariants as operand
@@ -30,11 +30,10 @@ use Rattle.jl_types.specs.Values.Members.{is_present}
 use Rattle.jl_types.specs.Linkage.Stages.{invocation_at, bound_to}
 use Rattle.jl_types.specs.Linkage.Targets.{target_fault}
 use Rattle.jl_types.specs.Events.Verdict.{same_place, names_array, is_polymorphic, new_place_fault, request_place, if_invoked, request_at, requested}
-use Rattle.jl_types.specs.Events.Verdict.{most_of_a_kind, is_constant, new_call_site_fault, set_target_fault, retargeted, type_fault, operand_fault, bind_at}
+use Rattle.jl_types.specs.Events.Verdict.{is_constant, new_call_site_fault, set_target_fault, retargeted, type_fault, operand_fault, bind_at}
 use Rattle.jl_types.specs.Events.Verdict.{bind_fault, with_classes, with_call_sites, with_switches}
 use Rattle.jl_types.proofs.Firsts.{first_none, test_none}
 use Rattle.jl_types.proofs.Lists.{before_end}
-use Rattle.jl_callsites.proofs.Accepted.{site_room}
 use Rattle.jl_events.proofs.CallSiteLaws.{free_to_bind, no_fault}
 use Rattle.jl_renewal.proofs.Fit.{IsInvoked, IsBinding, IsFit}
 use Rattle.jl_renewal.proofs.FitClasses.{AreFit}
@@ -69,7 +68,7 @@ module _ (w : World) (fit : IsFit w) where
   -- ---- other classes
 
   pub classes_fit : AreFit w.classes
-  classes_fit = record { named = fit.named; found = fit.found; few_loaders = fit.few_loaders; few_classes = fit.few_classes }
+  classes_fit = record { named = fit.named; found = fit.found }
 
   -- they stay where they are, and those that targets name stay present
   pub with_classes_fit : (cs : Classes) → AreFit cs
@@ -79,10 +78,6 @@ module _ (w : World) (fit : IsFit w) where
   with_classes_fit cs are rows stay = record {
     named = are.named;
     found = are.found;
-    few_loaders = are.few_loaders;
-    few_classes = are.few_classes;
-    few_call_sites = fit.few_call_sites;
-    few_switches = fit.few_switches;
     targets = λ c site at. taken_still w v on c site.ty site.target (stay c site at) (fit.targets c site at);
     places = λ s place at. invoked_still w v on place (fit.places s place at);
     once = fit.once;
@@ -102,16 +97,11 @@ module _ (w : World) (fit : IsFit w) where
   with_sites_fit : (sites : Sites) → length w.sites.switches ≤ length sites.switches
       → ((c : ℕ) (site : CallSite) → slice_get w.sites.call_sites c ≡ Some site
       → (after : CallSite) × (slice_get sites.call_sites c ≡ Some after) × (after.ty ≡ site.ty))
-      → length sites.call_sites ≤ 65536 → length sites.switches ≤ 65536
       → ((c : ℕ) (site : CallSite) → slice_get sites.call_sites c ≡ Some site → target_fault w c site.ty site.target ≡ None)
       → IsFit (record w { sites = sites })
-  with_sites_fit sites more types few_call_sites few_switches targets = record {
+  with_sites_fit sites more types targets = record {
     named = fit.named;
     found = fit.found;
-    few_loaders = fit.few_loaders;
-    few_classes = fit.few_classes;
-    few_call_sites = few_call_sites;
-    few_switches = few_switches;
     targets = λ c site at. taken_still w v on c site.ty site.target (of_all (StaysPresent w v) (λ c is. is) site.target) (targets c site at);
     places = λ s place at. invoked_still w v on place (fit.places s place at);
     once = fit.once;
@@ -125,13 +115,11 @@ module _ (w : World) (fit : IsFit w) where
       on : GoesOn w v
       on = record { rows = λ c row at. at; places = λ s place at. at; switches = more; call_sites = types }
 
-  pub new_call_site_fit : (kind : CallSiteKind) (ty : List ℕ) (t : Target) → new_call_site_fault w ty t ≡ None
+  pub new_call_site_fit : (most : ℕ) (kind : CallSiteKind) (ty : List ℕ) (t : Target) → new_call_site_fault most w ty t ≡ None
       → IsFit (with_call_sites w (w.sites.call_sites ++ record { kind = kind; ty = ty; target = t } ∷ []))
-  new_call_site_fit kind ty t none =
+  new_call_site_fit most kind ty t none =
       with_sites_fit (record w.sites { call_sites = w.sites.call_sites ++ made ∷ [] }) (omega arith)
       (λ c site at. (site, before_end w.sites.call_sites made c (slice_get_within w.sites.call_sites c site at) ∙ at, refl))
-      (let n = length-append w.sites.call_sites (made ∷ []) in let lt = site_room w ty t none in omega (arith, n, lt))
-      fit.few_switches
       (λ c site at. by_place c site (at_more w.sites.call_sites made c site at))
     where
       made : CallSite
@@ -140,7 +128,7 @@ module _ (w : World) (fit : IsFit w) where
       taken : target_fault w (length w.sites.call_sites) ty t ≡ None
       taken =
           (first_none (target_fault w (length w.sites.call_sites) ty t) []
-          (first_none (then_some (nat_le most_of_a_kind (length w.sites.call_sites)) fault.Full) _ none).1).0
+          (first_none (then_some (nat_le most (length w.sites.call_sites)) fault.Full) _ none).1).0
 
       by_place : (c : ℕ) (site : CallSite) → (slice_get w.sites.call_sites c ≡ Some site) ⊎ ((c ≡ length w.sites.call_sites) × (made ≡ site))
           → target_fault w c site.ty site.target ≡ None
@@ -156,8 +144,6 @@ module _ (w : World) (fit : IsFit w) where
       with_target old is taken =
           with_sites_fit (record w.sites { call_sites = slice_set w.sites.call_sites c (record old { target = t }) }) (omega arith)
           (types_set w.sites.call_sites c old (record old { target = t }) is refl)
-          (let n = length-set w.sites.call_sites c (record old { target = t }) in let few = fit.few_call_sites in omega (arith, n, few))
-          fit.few_switches
           (λ d site at. by_place d site (set_at w.sites.call_sites c (record old { target = t }) d site at))
         where
           by_place : (d : ℕ) (site : CallSite) → (slice_get w.sites.call_sites d ≡ Some site) ⊎ ((c ≡ d) × (record old { target = t } ≡ site))
@@ -176,19 +162,18 @@ module _ (w : World) (fit : IsFit w) where
       by_site None is e = cc
       by_site (Some old) is e = by_kind old (is_constant old.kind) is e
 
-  -- switch points, no fewer and not too many
-  pub with_switches_fit : (switches : List Bool) → length w.sites.switches ≤ length switches → length switches ≤ 65536 → IsFit (with_switches w switches)
-  with_switches_fit switches more few =
-      with_sites_fit (record w.sites { switches = switches }) more (λ c site at. (site, at, refl)) fit.few_call_sites few fit.targets
+  -- switch points, no fewer
+  pub with_switches_fit : (switches : List Bool) → length w.sites.switches ≤ length switches → IsFit (with_switches w switches)
+  with_switches_fit switches more = with_sites_fit (record w.sites { switches = switches }) more (λ c site at. (site, at, refl)) fit.targets
 
   -- ---- a place more
 
-  module _ (max_sites : ℕ) (place : Place) where
+  module _ (limits : Limits) (place : Place) where
     -- an invocation that is new was judged
-    invoked_new : IsOk (request_at max_sites w place) → list_any (same_place place) w.places ≡ false → IsInvoked w place
+    invoked_new : IsOk (request_at limits w place) → list_any (same_place place) w.places ≡ false → IsInvoked w place
     invoked_new accepted new = by_class (is_present w.classes place.class) accepted
       where
-        judged : (site : Site) → invocation_at w.classes place ≡ Some site → new_place_fault max_sites w site ≡ None → IsInvoked w place
+        judged : (site : Site) → invocation_at w.classes place ≡ Some site → new_place_fault limits w site ≡ None → IsInvoked w place
         judged site at none =
             let array = first_none (then_some (names_array site.operand) (refusal.NotLinkable ArrayReceiver)) _ none in
             let polymorphic = first_none (then_some (is_polymorphic site.operand) (refusal.NotLinkable PolymorphicSignature)) _ array.1 in
@@ -205,15 +190,15 @@ module _ (w : World) (fit : IsFit w) where
             any_passes_from_place (same_place place) w.places s (get_or w.places s place) (slice_get-get_or w.places s place found.0) found.1
 
         by_number : (o : Option ℕ) (site : Site) → position (same_place place) w.places ≡ o → invocation_at w.classes place ≡ Some site
-            → IsOk (request_place max_sites w o site) → IsInvoked w place
+            → IsOk (request_place limits w o site) → IsInvoked w place
         by_number (Some s) site is at accepted = absurd (both_ways (list_any (same_place place) w.places) new (known s is))
-        by_number None site is at accepted = judged site at (no_fault (new_place_fault max_sites w site) (made.Site (length w.places)) accepted)
+        by_number None site is at accepted = judged site at (no_fault (new_place_fault limits w site) (made.Site (length w.places)) accepted)
 
-        by_site : (o : Option Site) → invocation_at w.classes place ≡ o → IsOk (if_invoked max_sites w place o) → IsInvoked w place
+        by_site : (o : Option Site) → invocation_at w.classes place ≡ o → IsOk (if_invoked limits w place o) → IsInvoked w place
         by_site None at accepted = cc
         by_site (Some site) at accepted = by_number (position (same_place place) w.places) site refl at accepted
 
-        by_class : (b : Bool) → IsOk (if b then if_invoked max_sites w place (invocation_at w.classes place) else Err refusal.UnknownClass) → IsInvoked w place
+        by_class : (b : Bool) → IsOk (if b then if_invoked limits w place (invocation_at w.classes place) else Err refusal.UnknownClass) → IsInvoked w place
         by_class true accepted = by_site (invocation_at w.classes place) refl accepted
         by_class false accepted = cc
 
@@ -222,10 +207,6 @@ module _ (w : World) (fit : IsFit w) where
     one_more_place invoked new = record {
       named = fit.named;
       found = fit.found;
-      few_loaders = fit.few_loaders;
-      few_classes = fit.few_classes;
-      few_call_sites = fit.few_call_sites;
-      few_switches = fit.few_switches;
       targets = λ c site at. taken_still w v on c site.ty site.target (of_all (StaysPresent w v) (λ c is. is) site.target) (fit.targets c site at);
       places = λ s other at. invoked_still w v on other (by_place s other (at_more w.places place s other at));
       once = once_more (λ p q. same_place p q ≡ true) w.places place fit.once
@@ -252,7 +233,7 @@ module _ (w : World) (fit : IsFit w) where
         behind : (s : ℕ) (other : Place) → slice_get w.places s ≡ Some other → same_place place other ≡ true → ⊥
         behind s other at same = both_ways (list_any (same_place place) w.places) new (any_passes_from_place (same_place place) w.places s other at same)
 
-    pub request_fit : IsOk (request_at max_sites w place) → IsFit (record w { places = requested w.places place })
+    pub request_fit : IsOk (request_at limits w place) → IsFit (record w { places = requested w.places place })
     request_fit accepted = by_test (list_any (same_place place) w.places) refl
       where
         by_test : (b : Bool) → list_any (same_place place) w.places ≡ b → IsFit (record w { places = if b then w.places else w.places ++ place ∷ [] })
@@ -315,10 +296,6 @@ module _ (w : World) (fit : IsFit w) where
     bind_fit = record {
       named = fit.named;
       found = fit.found;
-      few_loaders = fit.few_loaders;
-      few_classes = fit.few_classes;
-      few_call_sites = fit.few_call_sites;
-      few_switches = fit.few_switches;
       targets = λ d site at. taken_still w v on d site.ty site.target (of_all (StaysPresent w v) (λ d is. is) site.target) (fit.targets d site at);
       places = λ n place at. invoked_still w v on place (fit.places n place at);
       once = fit.once;

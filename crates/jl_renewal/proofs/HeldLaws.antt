@@ -154,10 +154,6 @@ same_held f g c (site ∷ later) same =
     ap₂ (λ held stays. with_first held c later stays) (same c (omega arith) (omega arith))
     (same_held f g (c + 1) later (λ k le lt. same k (omega (arith, le)) (omega (arith, lt))))
 
-pub length-staying_from : (held : ℕ → Bool) (c : ℕ) (sites : List CallSite) → length (staying_from held c sites) ≡ length sites
-length-staying_from held c [] = refl
-length-staying_from held c (site ∷ later) = ap suc (length-staying_from held (c + 1) later)
-
 pub by_flags : (held : ℕ → Bool) (sites : List CallSite)
     → staying_from (λ c. get_or (map held (range_with_len 0 (length sites))) c false) 0 sites ≡ staying_from held 0 sites
 by_flags held sites =

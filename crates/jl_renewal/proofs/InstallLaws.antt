@@ -5,6 +5,7 @@ use Rattle.std.specs.List.{cons_option}
 use Rattle.std.proofs.Common.{refl, sym, ap, subst, ◌∙◌, arith, append_assoc, inl, inr}
 use Rattle.std.proofs.lemmas.List.{append-nil, map-append, take_min, drop_min}
 use Rattle.std.proofs.lemmas.List.Kept.{AllPairs-cons}
+use Rattle.jl_types.specs.declared.limits.Limits.{Limits}
 use Rattle.jl_types.specs.declared.link.Link.{Link}
 use Rattle.jl_types.specs.declared.answer.Unlinked.{Unlinked}
 use Rattle.jl_types.specs.declared.event.EventOf.TheVariants as event
@@ -94,10 +95,10 @@ module _ (w : World) (rows : List Row) (fresh : AreFresh w rows) where
       by_rows (row ∷ rows) lt = omega arith
 
   -- the first of them are accepted
-  pub batch_accepted : (max_sites : ℕ) → 1 ≤ length rows → IsOk (verdict max_sites w (event.Install (take 256 rows)))
-  batch_accepted max_sites some =
+  pub batch_accepted : (limits : Limits) → 1 ≤ length rows → IsOk (verdict limits w (event.Install (take 256 rows)))
+  batch_accepted limits some =
       subst (λ (r : Result Made Refusal). IsOk r)
-      (sym ((accepted_installs w max_sites (take 256 rows)).1 (record {
+      (sym ((accepted_installs w limits (take 256 rows)).1 (record {
         some = some_first some;
         few = at_most rows 256;
         requested = λ i d within. let row = get_or (take 256 rows) i d in requested w row.0 row.1 ((front 256).present i d within);
@@ -192,7 +193,7 @@ installs_all rows (row ∷ left) a b none so_far = cc
 pub may_install : (left batch : List Row) (b : State) → 1 ≤ length left → batch ≡ take 256 left → AreFresh (world_of b) left
     → MayAdd (event.Install batch ∷ []) b
 may_install left batch b some first fresh =
-    subst (λ (xs : List Row). MayAdd (event.Install xs ∷ []) b) (sym first) (batch_accepted (world_of b) left fresh b.max_sites some, tt)
+    subst (λ (xs : List Row). MayAdd (event.Install xs ∷ []) b) (sym first) (batch_accepted (world_of b) left fresh b.limits some, tt)
 
 -- and then the others, since an install changes nothing of what there is to link
 pub still_fresh : (left batch rest : List Row) (b c : State) → rest ≡ drop 256 left → Adds (event.Install batch ∷ []) b c → AreFresh (world_of b) left
@@ -205,7 +206,7 @@ still_fresh left batch rest b c behind one fresh =
 pub adds_of : (e : Event) (reply : Reply) (a b : State) → IsAccepted a b e reply → Adds (e ∷ []) a b
 adds_of e reply a b accepted = record {
   events = ap events accepted.logged ∙ map-append (λ (entry : Event × Reply). entry.0) a.log ((e, reply) ∷ []);
-  limit = ap (λ (core : State). core.max_sites) accepted.logged;
+  limit = ap (λ (core : State). core.limits) accepted.logged;
 }
 
 -- what may be accepted is refused for want of memory alone
@@ -222,18 +223,18 @@ pub behind_is : (left behind : List Row) (n : ℕ) → n ≡ min 256 (length lef
 behind_is left behind n is rest = rest ∙ (ap (λ (k : ℕ). drop k left) is ∙ drop_min 256 left)
 
 pub install_lacks : (left batch : List Row) (b : State) (r : Refusal) → 1 ≤ length left → batch ≡ take 256 left → AreFresh (world_of b) left
-    → IsRefused (verdict b.max_sites (world_of b) (event.Install batch)) r → r ≡ Memory
+    → IsRefused (verdict b.limits (world_of b) (event.Install batch)) r → r ≡ Memory
 install_lacks left batch b r some first fresh refused =
-    lacks_memory (verdict b.max_sites (world_of b) (event.Install batch)) r (may_install left batch b some first fresh).0 refused
+    lacks_memory (verdict b.limits (world_of b) (event.Install batch)) r (may_install left batch b some first fresh).0 refused
 
 -- a refusal of a core, as its clause has it
-refused_in : (b : State) (e : Event) (r : Refusal) → IsRefused (verdict b.max_sites (world_of b) e) r → IsRefusedIn b e r
+refused_in : (b : State) (e : Event) (r : Refusal) → IsRefused (verdict b.limits (world_of b) e) r → IsRefusedIn b e r
 refused_in b e r (inl is) = inr is
 refused_in b e r (inr lacks) = inl lacks.0
 
 -- where the core refuses the next of them
 pub stops : (rows left batch : List Row) (a b c : State) (r : Refusal) → 1 ≤ length left → c ≡ b → batch ≡ take 256 left → InstallsFront rows left a b
-    → IsRefused (verdict b.max_sites (world_of b) (event.Install batch)) r → StopsAt rows a c r
+    → IsRefused (verdict b.limits (world_of b) (event.Install batch)) r → StopsAt rows a c r
 stops rows left batch a b c r some same first so_far refused = record {
   left = left;
   some = some;

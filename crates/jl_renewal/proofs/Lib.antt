@@ -8,6 +8,8 @@ pub mod Phases
 -- what stays, as the code finds it
 pub mod MarkLaws
 pub mod HeldLaws
+-- whether a fresh core may have what stays
+pub mod RoomLaws
 -- what holds of a world after accepted events
 pub mod Fit
 pub mod FitParts

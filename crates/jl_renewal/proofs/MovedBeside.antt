@@ -11,6 +11,7 @@ use Rattle.std.proofs.lemmas.List.FromFn.{length-map-range_with_len}
 use Rattle.std.proofs.lemmas.List.Quantifiers.{position-Some}
 use Rattle.std.proofs.lemmas.Map.Keys.{any_passes_from_place}
 use Rattle.std.proofs.lemmas.Option.{same_Some, slice_get_within, slice_get-get_or}
+use Rattle.jl_types.specs.declared.limits.Limits.{Limits}
 use Rattle.jl_class.specs.Site.{Site}
 use Rattle.jl_types.specs.declared.ids.Place.{Place}
 use Rattle.jl_types.specs.declared.event.EventOf.TheVariants as event
@@ -26,6 +27,7 @@ use Rattle.jl_types.specs.Values.Members.{lookup, is_present, is_retired}
 use Rattle.jl_types.specs.Linkage.Stages.{invocation_at}
 use Rattle.jl_types.specs.Events.Event.{Event}
 use Rattle.jl_types.specs.Events.Definitions.{with_record, class_made}
+use Rattle.jl_types.specs.Events.Limits.{AreNoFewer}
 use Rattle.jl_types.specs.Events.Verdict.{verdict, step, unless, same_place, request_place, if_invoked, new_place_fault}
 use Rattle.jl_types.specs.Events.History.{world_after, dropped}
 use Rattle.jl_types.specs.Values.Ancestry.{AreOrdered}
@@ -105,7 +107,7 @@ module _ (k : Flags) (w : World) (rests : Rests k w) where
   retargeted_length c t None = refl
   retargeted_length c t (Some site) = length_set w.sites.call_sites c (record site { target = t })
 
-  module _ (max_sites more : ℕ) where
+  module _ (limits more : Limits) where
     -- ---- a request
 
     module _ (place : Place) (d : ℕ) (at : moved k.classes place.class ≡ Some d) where
@@ -125,7 +127,7 @@ module _ (k : Flags) (w : World) (rests : Rests k w) where
           (any_passes_from_place (same_place p) u.places s (get_or u.places s p) (slice_get-get_or u.places s p h.0) h.1, h.0)
 
       by_places : (o q : Option ℕ) (site : Site) (old new : Made) → position (same_place place) w.places ≡ o → position (same_place there) v.places ≡ q
-          → request_place max_sites w o site ≡ Ok old → request_place more v q site ≡ Ok new → Noted old new
+          → request_place limits w o site ≡ Ok old → request_place more v q site ≡ Ok new → Noted old new
       by_places (Some s) q site old new is iq eo en =
           let h = found w place s is in
           ap (λ (m : Made). with_made n m (made_number new)) (sym (same_made (made.Site s) old eo))
@@ -134,13 +136,13 @@ module _ (k : Flags) (w : World) (rests : Rests k w) where
       by_places None (Some s) site old new is iq eo en =
           absurd (both_ways (list_any (same_place place) w.places) (none_any (same_place place) w.places is) (sym among ∙ (found v there s iq).0))
       by_places None None site old new is iq eo en =
-          (λ i. with_made n (given_is (new_place_fault max_sites w site) (made.Site (length w.places)) old eo i)
+          (λ i. with_made n (given_is (new_place_fault limits w site) (made.Site (length w.places)) old eo i)
           (made_number (given_is (new_place_fault more v site) (made.Site (length v.places)) new en i)))
           ∙ (ap (λ (numbers : List (Option ℕ)). record n { sites = numbers }) (noted (moved_place k) k.sites w.places place rests.few_sites)
           ∙ ap (λ (b : Bool). record n { sites = numbers_there k.sites (length (if b then w.places else w.places ++ place ∷ [])) })
           (sym (none_any (same_place place) w.places is)))
 
-      by_sites : (o q : Option Site) (old new : Made) → o ≡ q → if_invoked max_sites w place o ≡ Ok old → if_invoked more v there q ≡ Ok new → Noted old new
+      by_sites : (o q : Option Site) (old new : Made) → o ≡ q → if_invoked limits w place o ≡ Ok old → if_invoked more v there q ≡ Ok new → Noted old new
       by_sites None q old new same eo en = cc
       by_sites (Some site) None old new same eo en = cc
       by_sites (Some site) (Some other) old new same eo en =
@@ -148,14 +150,14 @@ module _ (k : Flags) (w : World) (rests : Rests k w) where
           (ap (request_place more v (position (same_place there) v.places)) (same_Some site other same) ∙ en)
 
       by_classes : (a b : Bool) (old new : Made)
-          → (if a then if_invoked max_sites w place (invocation_at w.classes place) else Err UnknownClass) ≡ Ok old
+          → (if a then if_invoked limits w place (invocation_at w.classes place) else Err UnknownClass) ≡ Ok old
           → (if b then if_invoked more v there (invocation_at v.classes there) else Err UnknownClass) ≡ Ok new → Noted old new
       by_classes false b old new eo en = cc
       by_classes true false old new eo en = cc
       by_classes true true old new eo en =
           by_sites (invocation_at w.classes place) (invocation_at v.classes there) old new (sym (invocation_same k w rests place d at)) eo en
 
-      pub request_noted : (old new : Made) → verdict max_sites w (event.Request place) ≡ Ok old → verdict more v (event.Request there) ≡ Ok new → Noted old new
+      pub request_noted : (old new : Made) → verdict limits w (event.Request place) ≡ Ok old → verdict more v (event.Request there) ≡ Ok new → Noted old new
       request_noted = by_classes (is_present w.classes place.class) (is_present v.classes d)
 
     -- ---- each event
@@ -166,7 +168,7 @@ module _ (k : Flags) (w : World) (rests : Rests k w) where
     none_made : (o : Option Refusal) (old new : Made) (m : Numbers) → unless o made.Nothing ≡ Ok old → n ≡ m → with_made n old (made_number new) ≡ m
     none_made o old new m e same = ap (λ (x : Made). with_made n x (made_number new)) (given_is o made.Nothing old e) ∙ same
 
-    pub all_noted : (e f : Event) (old new : Made) → event_there k e ≡ Some f → verdict max_sites w e ≡ Ok old → verdict more v f ≡ Ok new → IsNoted e old new
+    pub all_noted : (e f : Event) (old new : Made) → event_there k e ≡ Some f → verdict limits w e ≡ Ok old → verdict more v f ≡ Ok new → IsNoted e old new
     all_noted event.NewLoader f old new there eo en =
         (λ i. with_made n (given_is _ (made.Loader (length w.classes.loaders)) old eo i)
         (made_number (given_is _ (made.Loader (length v.classes.loaders)) new (ap (verdict more v) (same_Some event.NewLoader f there) ∙ en) i)))
@@ -212,39 +214,39 @@ module _ (k : Flags) (w : World) (rests : Rests k w) where
 
 -- ---- one event of an old core, and of a fresh one beside it
 
-one_more_accepted : (max_sites : ℕ) (h : List Event) (e : Event) → AreAccepted max_sites h → IsOk (verdict max_sites (world_after h) e) → has_read_file e ≡ true
-    → AreAccepted max_sites (h ++ e ∷ [])
-one_more_accepted max_sites h e all ok read = record {
+one_more_accepted : (limits : Limits) (h : List Event) (e : Event) → AreAccepted limits h → IsOk (verdict limits (world_after h) e) → has_read_file e ≡ true
+    → AreAccepted limits (h ++ e ∷ [])
+one_more_accepted limits h e all ok read = record {
   each = λ i f at. elim (at_more h e i f at) [
     | inl before ↦
         let lt = slice_get_within h i f before in
-        subst (λ (es : List Event). IsOk (verdict max_sites (world_after es) f)) (sym (take_front h (e ∷ []) i (omega (arith, lt)))) (all.each i f before)
+        subst (λ (es : List Event). IsOk (verdict limits (world_after es) f)) (sym (take_front h (e ∷ []) i (omega (arith, lt)))) (all.each i f before)
     | inr last ↦
-        subst (λ (es : List Event). IsOk (verdict max_sites (world_after es) f)) (sym (ap (λ (j : ℕ). take j (h ++ e ∷ [])) last.0
+        subst (λ (es : List Event). IsOk (verdict limits (world_after es) f)) (sym (ap (λ (j : ℕ). take j (h ++ e ∷ [])) last.0
         ∙ (take_front h (e ∷ []) (length h) (omega arith) ∙ take_whole h)))
-        (subst (λ (g : Event). IsOk (verdict max_sites (world_after h) g)) last.1 ok)
+        (subst (λ (g : Event). IsOk (verdict limits (world_after h) g)) last.1 ok)
   ];
   files = list_all-append has_read_file h (e ∷ [])
       ∙ and_from (list_all has_read_file h) (list_all has_read_file (e ∷ [])) all.files (and_from (has_read_file e) true read refl);
 }
 
 module _ (k : Flags) (old fresh : State) (n : Numbers) (beside : IsBeside k old fresh n) (e f : Event) (carries : carried n e ≡ Some f)
-    (ok : IsOk (verdict old.max_sites (world_of old) e)) where
+    (ok : IsOk (verdict old.limits (world_of old) e)) where
   abbrev w : World
   w = world_of old
 
   order : IsInOrder w
-  order = accepted_in_order old.max_sites (events old) beside.accepted
+  order = accepted_in_order old.limits (events old) beside.accepted
 
   is_there : event_there k e ≡ Some f
-  is_there = event_is_there k w old.max_sites e f ok (ap (λ (m : Numbers). carried m e) (sym beside.numbers) ∙ carries)
+  is_there = event_is_there k w old.limits e f ok (ap (λ (m : Numbers). carried m e) (sym beside.numbers) ∙ carries)
 
-  follows : Follows fresh.max_sites k w e f
-  follows = each_follows k w beside.rests (fit_after old.max_sites (events old) beside.accepted.each) order.classes.closed order.classes.ordered
-      old.max_sites fresh.max_sites beside.limit e f is_there ok
+  follows : Follows fresh.limits k w e f
+  follows = each_follows k w beside.rests (fit_after old.limits (events old) beside.accepted.each) order.classes.closed order.classes.ordered
+      old.limits fresh.limits beside.limit e f is_there ok
 
-  pub taken : IsOk (verdict fresh.max_sites (world_of fresh) f)
-  taken = subst (λ (v : World). IsOk (verdict fresh.max_sites v f)) (sym beside.world) follows.accepted
+  pub taken : IsOk (verdict fresh.limits (world_of fresh) f)
+  taken = subst (λ (v : World). IsOk (verdict fresh.limits v f)) (sym beside.world) follows.accepted
 
   module _ (after fresh_after : State) (m : Numbers) (reply : Reply) (read : has_read_file e ≡ true) (accepted : IsAccepted old after e reply)
       (made_there : IsMade f reply.made n m fresh fresh_after) where
@@ -259,30 +261,30 @@ module _ (k : Flags) (old fresh : State) (n : Numbers) (beside : IsBeside k old 
         ap (λ (s : State). world_of s) made_there.accepted.logged
         ∙ (ap world_after (map-append (λ entry. entry.0) fresh.log ((f, made_there.reply) ∷ [])) ∙ world_more (events fresh) f)
 
-    gave : verdict old.max_sites w e ≡ Ok reply.made
-    gave = (accepted_of (dropped (events old) e) (verdict old.max_sites w e) reply accepted.answered).0
+    gave : verdict old.limits w e ≡ Ok reply.made
+    gave = (accepted_of (dropped (events old) e) (verdict old.limits w e) reply accepted.answered).0
 
-    gave_there : verdict fresh.max_sites (moved_world k w) f ≡ Ok made_there.reply.made
+    gave_there : verdict fresh.limits (moved_world k w) f ≡ Ok made_there.reply.made
     gave_there =
-        ap (λ (v : World). verdict fresh.max_sites v f) (sym beside.world)
-        ∙ (accepted_of (dropped (events fresh) f) (verdict fresh.max_sites (world_of fresh) f) made_there.reply made_there.accepted.answered).0
+        ap (λ (v : World). verdict fresh.limits v f) (sym beside.world)
+        ∙ (accepted_of (dropped (events fresh) f) (verdict fresh.limits (world_of fresh) f) made_there.reply made_there.accepted.answered).0
 
-    old_limit : after.max_sites ≡ old.max_sites
-    old_limit = ap (λ (s : State). s.max_sites) accepted.logged
+    old_limit : after.limits ≡ old.limits
+    old_limit = ap (λ (s : State). s.limits) accepted.logged
 
-    fresh_limit : fresh_after.max_sites ≡ fresh.max_sites
-    fresh_limit = ap (λ (s : State). s.max_sites) made_there.accepted.logged
+    fresh_limit : fresh_after.limits ≡ fresh.limits
+    fresh_limit = ap (λ (s : State). s.limits) made_there.accepted.logged
 
     pub still_beside : IsBeside k after fresh_after m
     still_beside = record {
-      accepted = subst (λ (limit : ℕ). AreAccepted limit (events after)) (sym old_limit)
-          (subst (AreAccepted old.max_sites) (sym old_events) (one_more_accepted old.max_sites (events old) e beside.accepted ok read));
-      rests = subst (Rests k) (sym old_world) (rests_after k w beside.rests old.max_sites e ok);
+      accepted = subst (λ (limits : Limits). AreAccepted limits (events after)) (sym old_limit)
+          (subst (AreAccepted old.limits) (sym old_events) (one_more_accepted old.limits (events old) e beside.accepted ok read));
+      rests = subst (Rests k) (sym old_world) (rests_after k w beside.rests old.limits e ok);
       names = subst (Names k) (sym old_world) (names_after k w beside.names e f is_there);
-      limit = let a = old_limit in let b = fresh_limit in let le = beside.limit in omega (arith, a, b, le);
+      limit = subst₂ AreNoFewer (sym old_limit) (sym fresh_limit) beside.limit;
       world = fresh_world ∙ (ap (λ (v : World). step v f) beside.world ∙ (follows.after ∙ ap (moved_world k) (sym old_world)));
       numbers = made_there.numbers ∙ (ap (λ (ns : Numbers). with_made ns reply.made (made_number made_there.reply.made)) beside.numbers
-          ∙ (all_noted k w beside.rests old.max_sites fresh.max_sites e f reply.made made_there.reply.made is_there gave gave_there
+          ∙ (all_noted k w beside.rests old.limits fresh.limits e f reply.made made_there.reply.made is_there gave gave_there
           ∙ ap (all_numbers k) (sym old_world)));
     }
 
@@ -290,12 +292,12 @@ module _ (k : Flags) (old fresh : State) (n : Numbers) (beside : IsBeside k old 
 
 -- a fresh core with the same world stands there, too
 pub beside_as : (k : Flags) (old fresh other : State) (n : Numbers) → IsBeside k old fresh n → world_of other ≡ world_of fresh
-    → other.max_sites ≡ fresh.max_sites → IsBeside k old other n
+    → other.limits ≡ fresh.limits → IsBeside k old other n
 beside_as k old fresh other n beside same_world same_limit = record {
   accepted = beside.accepted;
   rests = beside.rests;
   names = beside.names;
-  limit = let le = beside.limit in omega (arith, same_limit, le);
+  limit = subst (AreNoFewer old.limits) (sym same_limit) beside.limit;
   world = same_world ∙ beside.world;
   numbers = beside.numbers;
 }
@@ -313,20 +315,20 @@ module _ (k : Flags) (old fresh : State) (n : Numbers) (beside : IsBeside k old 
     same_world : world_of after ≡ z
     same_world = ap world_after more_events ∙ world_more (events old) (event.Install rows)
 
-    same_limit : after.max_sites ≡ old.max_sites
-    same_limit = ap (λ (s : State). s.max_sites) accepted.logged
+    same_limit : after.limits ≡ old.limits
+    same_limit = ap (λ (s : State). s.limits) accepted.logged
 
-    was_ok : IsOk (verdict old.max_sites z (event.Install rows))
-    was_ok = ap is_ok (accepted_of (dropped (events old) (event.Install rows)) (verdict old.max_sites z (event.Install rows)) reply accepted.answered).0
+    was_ok : IsOk (verdict old.limits z (event.Install rows))
+    was_ok = ap is_ok (accepted_of (dropped (events old) (event.Install rows)) (verdict old.limits z (event.Install rows)) reply accepted.answered).0
 
     pub beside_passed : IsBeside k after fresh n
     beside_passed = record {
-      accepted = subst (λ (limit : ℕ). AreAccepted limit (events after)) (sym same_limit)
-          (subst (AreAccepted old.max_sites) (sym more_events)
-          (one_more_accepted old.max_sites (events old) (event.Install rows) beside.accepted was_ok refl));
+      accepted = subst (λ (limits : Limits). AreAccepted limits (events after)) (sym same_limit)
+          (subst (AreAccepted old.limits) (sym more_events)
+          (one_more_accepted old.limits (events old) (event.Install rows) beside.accepted was_ok refl));
       rests = subst (Rests k) (sym same_world) beside.rests;
       names = subst (Names k) (sym same_world) beside.names;
-      limit = let a = same_limit in let le = beside.limit in omega (arith, a, le);
+      limit = subst (λ (limits : Limits). AreNoFewer limits fresh.limits) (sym same_limit) beside.limit;
       world = beside.world ∙ ap (moved_world k) (sym same_world);
       numbers = beside.numbers ∙ ap (all_numbers k) (sym same_world);
     }
@@ -338,15 +340,15 @@ module _ (k : Flags) (old fresh : State) (n : Numbers) (beside : IsBeside k old 
         ap (λ (s : State). world_of s) accepted.logged
         ∙ (ap world_after (map-append (λ entry. entry.0) fresh.log ((event.Install rows, reply) ∷ [])) ∙ world_more (events fresh) (event.Install rows))
 
-    still_limit : fresh_after.max_sites ≡ fresh.max_sites
-    still_limit = ap (λ (s : State). s.max_sites) accepted.logged
+    still_limit : fresh_after.limits ≡ fresh.limits
+    still_limit = ap (λ (s : State). s.limits) accepted.logged
 
     pub beside_linked : IsBeside k old fresh_after n
     beside_linked = beside_as k old fresh fresh_after n beside still_world still_limit
 
 -- ---- a fresh core that was refilled
 
-module _ (old fresh : State) (released : Released) (n : Numbers) (accepted : AreAccepted old.max_sites (events old)) (limit : old.max_sites ≤ fresh.max_sites)
+module _ (old fresh : State) (released : Released) (n : Numbers) (accepted : AreAccepted old.limits (events old)) (limit : AreNoFewer old.limits fresh.limits)
     (world : world_of fresh ≡ renewed (world_of old) released) (numbers : n ≡ numbers_of (world_of old) released) where
   abbrev x : World
   x = world_of old
@@ -368,7 +370,7 @@ module _ (old fresh : State) (released : Released) (n : Numbers) (accepted : Are
   beside_first = record {
     accepted = accepted;
     rests = rests_there old released accepted;
-    names = names_first x released (fit_after old.max_sites (events old) accepted.each);
+    names = names_first x released (fit_after old.limits (events old) accepted.each);
     limit = limit;
     world = world ∙ sym (world_there old released accepted);
     numbers = numbers ∙ are_there;
@@ -381,11 +383,11 @@ module _ (k : Flags) (old fresh : State) (n : Numbers) (beside : IsBeside k old 
   y = world_of old
 
   its_order : IsInOrder y
-  its_order = accepted_in_order old.max_sites (events old) beside.accepted
+  its_order = accepted_in_order old.limits (events old) beside.accepted
 
   moved_alike : SitesAlike (all_numbers k y) y (moved_world k y) (λ c. is_some (moved k.call_sites c))
   moved_alike =
-      sites_alike k y beside.rests beside.names (fit_after old.max_sites (events old) beside.accepted.each) its_order.classes.closed (world_good (events old))
+      sites_alike k y beside.rests beside.names (fit_after old.limits (events old) beside.accepted.each) its_order.classes.closed (world_good (events old))
       (let more = loaders_after (events old) nothing_yet in omega (arith, more))
       (subst (λ (v : World). AreOrdered v.classes.rows) beside.world (world_good (events fresh)).ordered)
 

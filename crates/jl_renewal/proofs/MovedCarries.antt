@@ -5,6 +5,7 @@ use Rattle.std.specs.List.{cons_option, list_any}
 use Rattle.std.proofs.Common.{refl, sym, ap, ◌∙◌, arith}
 use Rattle.std.proofs.lemmas.Bool.{or_parts, leb-false}
 use Rattle.std.proofs.lemmas.Option.{slice_get_within}
+use Rattle.jl_types.specs.declared.limits.Limits.{Limits}
 use Rattle.jl_types.specs.declared.event.EventOf.TheVariants as event
 use Rattle.jl_types.specs.declared.refusal.CallSiteFault.TheVariants as fault
 use Rattle.jl_types.specs.declared.refusal.Refusal.TheVariants.{CallSite}
@@ -74,37 +75,37 @@ module _ (k : Flags) (w : World) where
       let rest = points_there points parts.1 in
       λ i. cons_option (first i) (rest i)
 
-  pub event_is_there : (max_sites : ℕ) (e f : Event) → IsOk (verdict max_sites w e) → carried n e ≡ Some f → event_there k e ≡ Some f
-  event_is_there max_sites event.NewLoader f ok e = e
-  event_is_there max_sites (event.Define loader file) f ok e =
+  pub event_is_there : (limits : Limits) (e f : Event) → IsOk (verdict limits w e) → carried n e ≡ Some f → event_there k e ≡ Some f
+  event_is_there limits event.NewLoader f ok e = e
+  event_is_there limits (event.Define loader file) f ok e =
       let l = inv_map (λ (l : ℕ). event.Define l file) (new_number n.loaders loader) f e in
       ap (option_map (λ (l : ℕ). event.Define l file)) (loader_there loader l.0 l.1) ∙ ap Some l.2
-  event_is_there max_sites (event.Delegate loader name to) f ok e =
+  event_is_there limits (event.Delegate loader name to) f ok e =
       let l = inv_then (λ (l : ℕ). option_map (event.Delegate l name) (new_number n.loaders to)) (new_number n.loaders loader) f e in
       let m = inv_map (event.Delegate l.0 name) (new_number n.loaders to) f l.2 in
       ap (option_and_then (λ (l : ℕ). option_map (event.Delegate l name) (moved k.loaders to))) (loader_there loader l.0 l.1)
       ∙ (ap (option_map (event.Delegate l.0 name)) (loader_there to m.0 m.1) ∙ ap Some m.2)
-  event_is_there max_sites (event.Request place) f ok e =
+  event_is_there limits (event.Request place) f ok e =
       let c = inv_map (λ (c : ℕ). event.Request (record place { class = c })) (new_number n.classes place.class) f e in
       ap (option_map (λ (c : ℕ). event.Request (record place { class = c }))) (class_there place.class c.0 c.1) ∙ ap Some c.2
-  event_is_there max_sites (event.NewCallSite kind ty t) f ok e =
+  event_is_there limits (event.NewCallSite kind ty t) f ok e =
       let u = inv_map (event.NewCallSite kind ty) (carried_target n t) f e in
       ap (option_map (event.NewCallSite kind ty)) (target_is_there t u.0 u.1) ∙ ap Some u.2
-  event_is_there max_sites (event.SetTarget c t) f ok e =
+  event_is_there limits (event.SetTarget c t) f ok e =
       let d = inv_then (λ (d : ℕ). option_map (event.SetTarget d) (carried_target n t)) (new_number n.call_sites c) f e in
       let u = inv_map (event.SetTarget d.0) (carried_target n t) f d.2 in
       ap (option_and_then (λ (d : ℕ). option_map (event.SetTarget d) (target_there k t))) (call_site_there c d.0 d.1)
       ∙ (ap (option_map (event.SetTarget d.0)) (target_is_there t u.0 u.1) ∙ ap Some u.2)
-  event_is_there max_sites event.NewSwitch f ok e = e
-  event_is_there max_sites (event.Invalidate points) f ok e =
+  event_is_there limits event.NewSwitch f ok e = e
+  event_is_there limits (event.Invalidate points) f ok e =
       let there = test_none (list_any (nat_le (length w.sites.switches)) points) fault.UnknownSwitch (no_fault CallSite (invalidate_fault w points) _ ok) in
       ap (λ (ps : List ℕ). Some (event.Invalidate ps)) (sym (points_there points there)) ∙ e
-  event_is_there max_sites (event.Bind s c) f ok e =
+  event_is_there limits (event.Bind s c) f ok e =
       let t = inv_then (λ (t : ℕ). option_map (event.Bind t) (new_number n.call_sites c)) (new_number n.sites s) f e in
       let d = inv_map (event.Bind t.0) (new_number n.call_sites c) f t.2 in
       ap (option_and_then (λ (t : ℕ). option_map (event.Bind t) (moved k.call_sites c))) (there_number k.sites _ s t.0 t.1)
       ∙ (ap (option_map (event.Bind t.0)) (call_site_there c d.0 d.1) ∙ ap Some d.2)
-  event_is_there max_sites (event.Install rows) f ok e = cc
-  event_is_there max_sites (event.Retire loader) f ok e =
+  event_is_there limits (event.Install rows) f ok e = cc
+  event_is_there limits (event.Retire loader) f ok e =
       let l = inv_map event.Retire (new_number n.loaders loader) f e in
       ap (option_map event.Retire) (loader_there loader l.0 l.1) ∙ ap Some l.2

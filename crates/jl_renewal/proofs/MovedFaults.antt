@@ -17,7 +17,7 @@ use Rattle.jl_renewal.proofs.MovedGone.{is_there}
 use Rattle.jl_renewal.proofs.MovedBeside.{taken}
 
 module _ (k : Flags) (before fresh : State) (n : Numbers) (beside : IsBeside k before fresh n) (w : World) (entry : Entry) (e : Event)
-    (named : event_of w.classes.rows entry.event ≡ Some e) (ok : IsOk (verdict before.max_sites (world_of before) e)) where
+    (named : event_of w.classes.rows entry.event ≡ Some e) (ok : IsOk (verdict before.limits (world_of before) e)) where
   carries : (o : Option Event) → carried_event w n entry ≡ o → carried n e ≡ o
   carries o is = sym (ap (option_and_then (carried n)) named) ∙ is
 
@@ -25,7 +25,7 @@ module _ (k : Flags) (before fresh : State) (n : Numbers) (beside : IsBeside k b
   gone_named gone true is = is
   gone_named gone false is =
       let there = subst (λ (m : Numbers). is_some (carried m e) ≡ true) (sym beside.numbers)
-      (is_there k (world_of before) beside.rests before.max_sites e ok is) in
+      (is_there k (world_of before) beside.rests before.limits e ok is) in
       absurd (apart (sym (ap (λ (o : Option Event). is_some o) (carries None gone)) ∙ there))
     where
       apart : false ≡ true → ⊥
@@ -35,7 +35,7 @@ module _ (k : Flags) (before fresh : State) (n : Numbers) (beside : IsBeside k b
   fault_beside Gone gone = gone_named gone (may_be_gone e) refl
   fault_beside (Refused r) (inl memory) = memory
   fault_beside (Refused r) (inr is) =
-      absurd (not_both (verdict fresh.max_sites (world_of fresh) is.0) r is.2 (taken k before fresh n beside e is.0 (carries (Some is.0) is.1) ok))
+      absurd (not_both (verdict fresh.limits (world_of fresh) is.0) r is.2 (taken k before fresh n beside e is.0 (carries (Some is.0) is.1) ok))
 
   pub faults_beside : {X : Type 0} (result : Result X CarryFault) → IfErr result (IsUncarried w entry n fresh) → IfErr result (IsFaultBeside e)
   faults_beside (Ok x) fault = tt

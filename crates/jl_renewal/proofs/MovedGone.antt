@@ -4,6 +4,7 @@ use Rattle.std.specs.Prelude.{Err, if◌then◌else◌}
 use Rattle.std.specs.Bool.{then_some}
 use Rattle.std.proofs.Common.{refl, ap, ◌∙◌}
 use Rattle.std.proofs.lemmas.Bool.{leb-false, or_parts}
+use Rattle.jl_types.specs.declared.limits.Limits.{Limits}
 use Rattle.jl_types.specs.declared.ids.Place.{Place}
 use Rattle.jl_types.specs.declared.event.EventOf.TheVariants as event
 use Rattle.jl_types.specs.declared.refusal.Refusal.TheVariants as refusal
@@ -44,32 +45,32 @@ module _ (k : Flags) (w : World) (rests : Rests k w) where
       let d = present_stays k w rests c present in
       (d.0, number_at k.classes (length cs.rows) c (passes_within (λ row. not (is_retired cs row.loader)) cs.rows c present) ∙ d.1)
 
-  requested_present : (max_sites : ℕ) (place : Place) (b : Bool) → is_present cs place.class ≡ b
-      → IsOk (if b then if_invoked max_sites w place (invocation_at cs place) else Err refusal.UnknownClass) → is_present cs place.class ≡ true
-  requested_present max_sites place true is ok = is
-  requested_present max_sites place false is ok = cc
+  requested_present : (limits : Limits) (place : Place) (b : Bool) → is_present cs place.class ≡ b
+      → IsOk (if b then if_invoked limits w place (invocation_at cs place) else Err refusal.UnknownClass) → is_present cs place.class ≡ true
+  requested_present limits place true is ok = is
+  requested_present limits place false is ok = cc
 
-  pub is_there : (max_sites : ℕ) (e : Event) → IsOk (verdict max_sites w e) → may_be_gone e ≡ false → is_some (carried n e) ≡ true
-  is_there max_sites event.NewLoader ok e = refl
-  is_there max_sites (event.Define loader file) ok e =
-      let free = is_free cs loader file (no_fault refusal.Define (define_fault cs loader file) _ ok) in
+  pub is_there : (limits : Limits) (e : Event) → IsOk (verdict limits w e) → may_be_gone e ≡ false → is_some (carried n e) ≡ true
+  is_there limits event.NewLoader ok e = refl
+  is_there limits (event.Define loader file) ok e =
+      let free = is_free limits.classes cs loader file (no_fault refusal.Define (define_fault limits.classes cs loader file) _ ok) in
       ap (λ (o : Option ℕ). is_some {T = Event} (option_map (λ (l : ℕ). event.Define l file) o)) (loader_number loader free.known).1
-  is_there max_sites (event.Delegate loader name to) ok e =
+  is_there limits (event.Delegate loader name to) ok e =
       let none = no_fault refusal.Delegate (delegate_fault cs loader name to) _ ok in
       let unknown = first_none (then_some (is_unknown cs loader || is_unknown cs to) delegate.UnknownLoader) _ none in
       let both = or_parts (is_unknown cs loader) (is_unknown cs to) (test_none _ delegate.UnknownLoader unknown.0) in
       let l = loader_number loader both.0 in
       ap (λ (o : Option ℕ). is_some {T = Event} (option_and_then {U = Event} (λ (l : ℕ). option_map (event.Delegate l name) (new_number n.loaders to)) o)) l.1
       ∙ ap (λ (o : Option ℕ). is_some {T = Event} (option_map (event.Delegate l.0 name) o)) (loader_number to both.1).1
-  is_there max_sites (event.Request place) ok e =
-      let present = requested_present max_sites place (is_present cs place.class) refl ok in
+  is_there limits (event.Request place) ok e =
+      let present = requested_present limits place (is_present cs place.class) refl ok in
       ap (λ (o : Option ℕ). is_some {T = Event} (option_map (λ (c : ℕ). event.Request (record place { class = c })) o)) (class_number place.class present).1
-  is_there max_sites (event.NewCallSite kind ty target) ok e = cc
-  is_there max_sites (event.SetTarget c target) ok e = cc
-  is_there max_sites event.NewSwitch ok e = refl
-  is_there max_sites (event.Invalidate points) ok e = refl
-  is_there max_sites (event.Bind s c) ok e = cc
-  is_there max_sites (event.Install rows) ok e = cc
-  is_there max_sites (event.Retire loader) ok e =
+  is_there limits (event.NewCallSite kind ty target) ok e = cc
+  is_there limits (event.SetTarget c target) ok e = cc
+  is_there limits event.NewSwitch ok e = refl
+  is_there limits (event.Invalidate points) ok e = refl
+  is_there limits (event.Bind s c) ok e = cc
+  is_there limits (event.Install rows) ok e = cc
+  is_there limits (event.Retire loader) ok e =
       let free = retiring.is_free cs loader (free_classes w loader (no_fault refusal.Retire (retire_fault w loader) _ ok)) in
       ap (λ (o : Option ℕ). is_some {T = Event} (option_map event.Retire o)) (loader_number loader free.known).1

@@ -155,7 +155,7 @@ pub none_refilled : {P : Type 0} (w : World) (entries : List Entry) (released : 
     → IsRefilled w entries released n before fresh → (t : ℕ) (l : Link) → Contains (links_of fresh) (t, l) → P
 none_refilled w entries released n before fresh refilled t l c =
     clash l (sym (none_there t (events fresh) (subst (IsQuiet t) (sym refilled.events)
-    (is_quiet t w (numbers_of w released) (events (logged before.max_sites w entries))))) ∙ (links_are (events fresh) t l).1 c)
+    (is_quiet t w (numbers_of w released) (events (logged before.limits w entries))))) ∙ (links_are (events fresh) t l).1 c)
 
 -- ---- all links of the old core are installed
 

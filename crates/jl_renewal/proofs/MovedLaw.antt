@@ -5,9 +5,11 @@ use Rattle.std.proofs.Common.{refl, sym, ap, subst, ◌∙◌, arith, append_ass
 use Rattle.std.proofs.lemmas.Bool.{and_parts}
 use Rattle.std.proofs.lemmas.List.Folds.{list_all-append}
 use Rattle.std.proofs.lemmas.Option.{same_Some, slice_get_within}
+use Rattle.jl_types.specs.declared.limits.Limits.{Limits}
 use Rattle.jl_types.specs.declared.event.EventOf.TheVariants as event
 use Rattle.jl_types.specs.Values.World.{World, nothing_yet}
 use Rattle.jl_types.specs.Events.Event.{Event}
+use Rattle.jl_types.specs.Events.Limits.{AreNoFewer}
 use Rattle.jl_types.specs.Events.Verdict.{verdict, step}
 use Rattle.jl_types.specs.Events.History.{world_after}
 use Rattle.jl_types.proofs.Orders.{world_good}
@@ -40,40 +42,41 @@ pub take_whole : (front : List Event) → take (length front) front ≡ front
 take_whole [] = refl
 take_whole (e ∷ front) = ap (λ (es : List Event). e ∷ es) (take_whole front)
 
-module _ (max_sites : ℕ) (front rest : List Event) (accepted : AreAccepted max_sites (front ++ rest)) where
-  pub front_accepted : AreAccepted max_sites front
+module _ (limits : Limits) (front rest : List Event) (accepted : AreAccepted limits (front ++ rest)) where
+  pub front_accepted : AreAccepted limits front
   front_accepted = record {
     each = λ n e at.
         let lt = slice_get_within front n e at in
-        subst (λ (es : List Event). IsOk (verdict max_sites (world_after es) e)) (take_front front rest n (omega (arith, lt)))
+        subst (λ (es : List Event). IsOk (verdict limits (world_after es) e)) (take_front front rest n (omega (arith, lt)))
         (accepted.each n e (in_front front rest n e at));
     files = (and_parts (list_all has_read_file front) (list_all has_read_file rest) (sym (list_all-append has_read_file front rest) ∙ accepted.files)).0;
   }
 
-pub next_accepted : (max_sites : ℕ) (front : List Event) (e : Event) (rest : List Event) → AreAccepted max_sites (front ++ e ∷ rest)
-    → IsOk (verdict max_sites (world_after front) e)
-next_accepted max_sites front e rest accepted =
-    subst (λ (es : List Event). IsOk (verdict max_sites (world_after es) e)) (take_front front (e ∷ rest) (length front) (omega arith) ∙ take_whole front)
+pub next_accepted : (limits : Limits) (front : List Event) (e : Event) (rest : List Event) → AreAccepted limits (front ++ e ∷ rest)
+    → IsOk (verdict limits (world_after front) e)
+next_accepted limits front e rest accepted =
+    subst (λ (es : List Event). IsOk (verdict limits (world_after es) e)) (take_front front (e ∷ rest) (length front) (omega arith) ∙ take_whole front)
     (accepted.each (length front) e (in_middle front e rest))
 
 -- ---- one event
 
-module _ (k : Flags) (max_sites more : ℕ) (most : max_sites ≤ more) (h : List Event) (all : AreAccepted max_sites h) (rests : Rests k (world_after h)) where
+module _ (k : Flags) (limits more : Limits) (most : AreNoFewer limits more) (h : List Event) (all : AreAccepted limits h)
+    (rests : Rests k (world_after h)) where
   abbrev w : World
   w = world_after h
 
   order : IsInOrder w
-  order = accepted_in_order max_sites h all
+  order = accepted_in_order limits h all
 
-  one_event : (e : Event) (now : List Event) → (f : Event) × (event_there k e ≡ Some f) × (f ∷ [] ≡ now) → IsOk (verdict max_sites w e)
+  one_event : (e : Event) (now : List Event) → (f : Event) × (event_there k e ≡ Some f) × (f ∷ [] ≡ now) → IsOk (verdict limits w e)
       → Leads more (moved_world k w) now (moved_world k (step w e))
   one_event e now there accepted =
-      let fit = fit_after max_sites h all.each in
-      let follows = each_follows k w rests fit order.classes.closed order.classes.ordered max_sites more most e there.0 there.1 accepted in
+      let fit = fit_after limits h all.each in
+      let follows = each_follows k w rests fit order.classes.closed order.classes.ordered limits more most e there.0 there.1 accepted in
       subst (λ (es : List Event). Leads more (moved_world k w) es (moved_world k (step w e))) there.2
       (record { follow = (follows.accepted, tt); after = follows.after })
 
-  pub each_leads : (e : Event) (now : List Event) → events_there k e ≡ Some now → IsOk (verdict max_sites w e)
+  pub each_leads : (e : Event) (now : List Event) → events_there k e ≡ Some now → IsOk (verdict limits w e)
       → Leads more (moved_world k w) now (moved_world k (step w e))
   each_leads event.NewLoader now there ok = one_event event.NewLoader now (inv_map (λ f. f ∷ []) (event_there k event.NewLoader) now there) ok
   each_leads (event.Define loader file) now there ok =
@@ -94,19 +97,19 @@ module _ (k : Flags) (max_sites more : ℕ) (most : max_sites ≤ more) (h : Lis
 
 -- ---- all of them
 
-pub all_lead : (k : Flags) (max_sites more : ℕ) → max_sites ≤ more → (es fs h : List Event) → AreAccepted max_sites (h ++ es) → Rests k (world_after h)
+pub all_lead : (k : Flags) (limits more : Limits) → AreNoFewer limits more → (es fs h : List Event) → AreAccepted limits (h ++ es) → Rests k (world_after h)
     → AreThere k es fs → Leads more (moved_world k (world_after h)) fs (moved_world k (fold step (world_after h) es))
-all_lead k max_sites more most [] fs h accepted rests there =
+all_lead k limits more most [] fs h accepted rests there =
     subst (λ (gs : List Event). Leads more (moved_world k (world_after h)) gs (moved_world k (world_after h))) (sym there)
     (leads_nowhere more (moved_world k (world_after h)))
-all_lead k max_sites more most (e ∷ es) fs h accepted rests there =
+all_lead k limits more most (e ∷ es) fs h accepted rests there =
     let now = there.0 in
     let later = there.1 in
-    let ok = next_accepted max_sites h e es accepted in
-    let all = front_accepted max_sites h (e ∷ es) accepted in
-    let one = each_leads k max_sites more most h all rests e now there.2 ok in
-    let next = all_lead k max_sites more most es later (h ++ e ∷ []) (subst (AreAccepted max_sites) (sym (append_assoc h (e ∷ []) es)) accepted)
-    (subst (Rests k) (sym (world_more h e)) (rests_after k (world_after h) rests max_sites e ok)) there.4 in
+    let ok = next_accepted limits h e es accepted in
+    let all = front_accepted limits h (e ∷ es) accepted in
+    let one = each_leads k limits more most h all rests e now there.2 ok in
+    let next = all_lead k limits more most es later (h ++ e ∷ []) (subst (AreAccepted limits) (sym (append_assoc h (e ∷ []) es)) accepted)
+    (subst (Rests k) (sym (world_more h e)) (rests_after k (world_after h) rests limits e ok)) there.4 in
     subst (λ (gs : List Event). Leads more (moved_world k (world_after h)) gs (moved_world k (fold step (step (world_after h) e) es))) (sym there.3)
     (leads_on more (moved_world k (world_after h)) (moved_world k (step (world_after h) e)) (moved_world k (fold step (step (world_after h) e) es))
     now later one
@@ -114,30 +117,30 @@ all_lead k max_sites more most (e ∷ es) fs h accepted rests there =
 
 -- ---- from a renewal on
 
-module _ (old : State) (released : Released) (accepted : AreAccepted old.max_sites (events old)) where
+module _ (old : State) (released : Released) (accepted : AreAccepted old.limits (events old)) where
   abbrev x : World
   x = world_of old
 
   its_order : IsInOrder x
-  its_order = accepted_in_order old.max_sites (events old) accepted
+  its_order = accepted_in_order old.limits (events old) accepted
 
   some : zero < length x.classes.loaders
   some = let more = loaders_after (events old) nothing_yet in omega (arith, more)
 
   pub rests_there : Rests (flags_of x released) x
   rests_there =
-      rests_first x released (fit_after old.max_sites (events old) accepted.each) its_order.classes.closed some
-      (all_after old.max_sites (events old) accepted.each)
+      rests_first x released (fit_after old.limits (events old) accepted.each) its_order.classes.closed some
+      (all_after old.limits (events old) accepted.each)
 
   pub world_there : moved_world (flags_of x released) x ≡ renewed x released
   world_there =
-      world_first x released (fit_after old.max_sites (events old) accepted.each) its_order.classes.closed (world_good (events old)) some
-      (all_after old.max_sites (events old) accepted.each) (known_after old.max_sites (events old) accepted.each)
+      world_first x released (fit_after old.limits (events old) accepted.each) its_order.classes.closed (world_good (events old)) some
+      (all_after old.limits (events old) accepted.each) (known_after old.limits (events old) accepted.each)
 
-pub entries_lead : (old : State) (released : Released) (es fs : List Event) (more : ℕ) → AreAccepted old.max_sites (events old ++ es)
-    → old.max_sites ≤ more → AreThere (flags_of (world_of old) released) es fs
+pub entries_lead : (old : State) (released : Released) (es fs : List Event) (more : Limits) → AreAccepted old.limits (events old ++ es)
+    → AreNoFewer old.limits more → AreThere (flags_of (world_of old) released) es fs
     → Leads more (renewed (world_of old) released) fs (moved_world (flags_of (world_of old) released) (fold step (world_of old) es))
 entries_lead old released es fs more accepted most there =
-    let front = front_accepted old.max_sites (events old) es accepted in
+    let front = front_accepted old.limits (events old) es accepted in
     subst (λ (v : World). Leads more v fs (moved_world (flags_of (world_of old) released) (fold step (world_of old) es))) (world_there old released front)
-    (all_lead (flags_of (world_of old) released) old.max_sites more most es fs (events old) accepted (rests_there old released front) there)
+    (all_lead (flags_of (world_of old) released) old.limits more most es fs (events old) accepted (rests_there old released front) there)

@@ -311,9 +311,9 @@ module _ (k : Flags) (old fresh : State) (n : Numbers) (beside : IsBeside k old 
       let rest = among_same s t at rows all.1 in
       λ i. first i || rest i
 
-  module _ (rows : List (ℕ × Link)) (ok : IsOk (verdict old.max_sites (world_of old) (event.Install rows))) where
+  module _ (rows : List (ℕ × Link)) (ok : IsOk (verdict old.limits (world_of old) (event.Install rows))) where
     accepts : Accepts (world_of old) rows
-    accepts = (accepted_installs (world_of old) old.max_sites rows).0
+    accepts = (accepted_installs (world_of old) old.limits rows).0
         (ap (λ (o : Option Refusal). unless o made.Nothing) (no_refusal (install_fault (world_of old) rows) made.Nothing ok))
 
     each : AllByRecursion HasScratch rows
@@ -349,10 +349,10 @@ module _ (k : Flags) (old fresh : State) (n : Numbers) (beside : IsBeside k old 
         ((number a now_a).1 ∙ ap Some (sym number_a ∙ (same ∙ number_b))) (number b now_b).1)
 
     -- and it accepts them
-    pub install_accepted : IsOk (verdict fresh.max_sites v (event.Install (fresh_rows v n rows)))
+    pub install_accepted : IsOk (verdict fresh.limits v (event.Install (fresh_rows v n rows)))
     install_accepted =
-        ap (λ (rs : List (ℕ × Link)). is_ok (verdict fresh.max_sites v (event.Install rs))) rows_there
-        ∙ ap is_ok ((accepted_installs v fresh.max_sites there).1 (record {
+        ap (λ (rs : List (ℕ × Link)). is_ok (verdict fresh.limits v (event.Install rs))) rows_there
+        ∙ ap is_ok ((accepted_installs v fresh.limits there).1 (record {
           some = let le = accepts.some in let long = length-map rows (renumbered_install n) in omega (arith, le, long);
           few = let le = accepts.few in let long = length-map rows (renumbered_install n) in omega (arith, le, long);
           requested = λ i d lt. let row = get_or there i d in requested v row.0 row.1 (present_there i d lt);

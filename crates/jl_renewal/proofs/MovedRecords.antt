@@ -12,6 +12,7 @@ use Rattle.std.proofs.lemmas.Cmp.{nat_eq_equiv}
 use Rattle.std.proofs.lemmas.List.{take_more, take_all}
 use Rattle.std.proofs.lemmas.List.Folds.{list_any-append}
 use Rattle.std.proofs.lemmas.Option.{same_Some, slice_get_within, get_or_from_slice_get}
+use Rattle.jl_types.specs.declared.limits.Limits.{Limits}
 use Rattle.jl_class.specs.Class.{ClassFile}
 use Rattle.jl_types.specs.declared.event.EventOf.TheVariants as event
 use Rattle.jl_types.specs.declared.refusal.Refusal.TheVariants as refusal
@@ -160,23 +161,24 @@ module _ (cs : Classes) (all : AllPresent cs) where
 
 -- ---- each event
 
-all_step : (max_sites : ℕ) (w : World) (e : Event) → IsGood w.classes → AllPresent w.classes → IsOk (verdict max_sites w e) → AllPresent (step w e).classes
-all_step max_sites w event.NewLoader good all accepted = all_with_loader w.classes all
-all_step max_sites w (event.Define loader file) good all accepted =
-    all_defined w.classes all good loader file (is_free w.classes loader file (no_fault refusal.Define (define_fault w.classes loader file) _ accepted)).known
-all_step max_sites w (event.Delegate loader name to) good all accepted =
+all_step : (limits : Limits) (w : World) (e : Event) → IsGood w.classes → AllPresent w.classes → IsOk (verdict limits w e) → AllPresent (step w e).classes
+all_step limits w event.NewLoader good all accepted = all_with_loader w.classes all
+all_step limits w (event.Define loader file) good all accepted =
+    all_defined w.classes all good loader file
+    (is_free limits.classes w.classes loader file (no_fault refusal.Define (define_fault limits.classes w.classes loader file) _ accepted)).known
+all_step limits w (event.Delegate loader name to) good all accepted =
     let none = no_fault refusal.Delegate (delegate_fault w.classes loader name to) _ accepted in
     let unknown = first_none (then_some (is_unknown w.classes loader || is_unknown w.classes to) delegate.UnknownLoader) _ none in
     all_delegated w.classes all loader name to
     (or_parts (is_unknown w.classes loader) (is_unknown w.classes to) (test_none _ delegate.UnknownLoader unknown.0)).1
-all_step max_sites w (event.Request place) good all accepted = all
-all_step max_sites w (event.NewCallSite kind ty t) good all accepted = all
-all_step max_sites w (event.SetTarget c t) good all accepted = all
-all_step max_sites w event.NewSwitch good all accepted = all
-all_step max_sites w (event.Invalidate points) good all accepted = all
-all_step max_sites w (event.Bind s c) good all accepted = all
-all_step max_sites w (event.Install rows) good all accepted = all
-all_step max_sites w (event.Retire loader) good all accepted =
+all_step limits w (event.Request place) good all accepted = all
+all_step limits w (event.NewCallSite kind ty t) good all accepted = all
+all_step limits w (event.SetTarget c t) good all accepted = all
+all_step limits w event.NewSwitch good all accepted = all
+all_step limits w (event.Invalidate points) good all accepted = all
+all_step limits w (event.Bind s c) good all accepted = all
+all_step limits w (event.Install rows) good all accepted = all
+all_step limits w (event.Retire loader) good all accepted =
     all_retired w.classes all loader (free_classes w loader (no_fault refusal.Retire (retire_fault w loader) _ accepted))
 
 -- ---- all events
@@ -185,8 +187,8 @@ at_first : AllPresent nothing_yet.classes
 at_first zero records live at = subst (λ (rs : Records). list_any (λ r. not (is_present nothing_yet.classes r.1)) rs ≡ false) (same_Some [] records at) refl
 at_first (suc l) records live at = cc
 
-pub all_after : (max_sites : ℕ) (h : List Event) → AllAccepted max_sites h → AllPresent (world_after h).classes
-all_after max_sites h all =
+pub all_after : (limits : Limits) (h : List Event) → AllAccepted limits h → AllPresent (world_after h).classes
+all_after limits h all =
     subst (λ (es : List Event). AllPresent (world_after es).classes) (take_all (length h) h (omega arith)) (first (length h) (omega arith))
   where
     next : (n : ℕ) (e : Event) → slice_get h n ≡ Some e → AllPresent (world_after (take n h)).classes → AllPresent (world_after (take (n + 1) h)).classes
@@ -194,7 +196,7 @@ all_after max_sites h all =
         subst (λ (es : List Event). AllPresent (world_after es).classes)
         (sym (take_more h n e (slice_get_within h n e at) ∙ ap (λ (f : Event). take n h ++ f ∷ []) (get_or_from_slice_get h n e e at)))
         (subst (λ (w : World). AllPresent w.classes) (sym (world_more (take n h) e))
-        (all_step max_sites (world_after (take n h)) e (world_good (take n h)) so_far (all n e at)))
+        (all_step limits (world_after (take n h)) e (world_good (take n h)) so_far (all n e at)))
 
     first : (n : ℕ) → n ≤ length h → AllPresent (world_after (take n h)).classes
     first zero le = at_first
@@ -216,20 +218,20 @@ AreKnown cs = (l : ℕ) → is_retired cs l ≡ true → l < length cs.loaders
 loaders_grow : (w : World) (e : Event) → length w.classes.loaders ≤ length (step w e).classes.loaders
 loaders_grow w e = loaders_after (e ∷ []) w
 
-known_step : (max_sites : ℕ) (w : World) (e : Event) → AreKnown w.classes → IsOk (verdict max_sites w e) → AreKnown (step w e).classes
-known_step max_sites w event.NewLoader all accepted l is = let lt = all l is in let le = loaders_grow w event.NewLoader in omega (arith, lt, le)
-known_step max_sites w (event.Define loader file) all accepted l is =
+known_step : (limits : Limits) (w : World) (e : Event) → AreKnown w.classes → IsOk (verdict limits w e) → AreKnown (step w e).classes
+known_step limits w event.NewLoader all accepted l is = let lt = all l is in let le = loaders_grow w event.NewLoader in omega (arith, lt, le)
+known_step limits w (event.Define loader file) all accepted l is =
     let lt = all l is in let le = loaders_grow w (event.Define loader file) in omega (arith, lt, le)
-known_step max_sites w (event.Delegate loader name to) all accepted l is =
+known_step limits w (event.Delegate loader name to) all accepted l is =
     let lt = all l is in let le = loaders_grow w (event.Delegate loader name to) in omega (arith, lt, le)
-known_step max_sites w (event.Request place) all accepted l is = all l is
-known_step max_sites w (event.NewCallSite kind ty t) all accepted l is = all l is
-known_step max_sites w (event.SetTarget c t) all accepted l is = all l is
-known_step max_sites w event.NewSwitch all accepted l is = all l is
-known_step max_sites w (event.Invalidate points) all accepted l is = all l is
-known_step max_sites w (event.Bind s c) all accepted l is = all l is
-known_step max_sites w (event.Install rows) all accepted l is = all l is
-known_step max_sites w (event.Retire loader) all accepted l is =
+known_step limits w (event.Request place) all accepted l is = all l is
+known_step limits w (event.NewCallSite kind ty t) all accepted l is = all l is
+known_step limits w (event.SetTarget c t) all accepted l is = all l is
+known_step limits w event.NewSwitch all accepted l is = all l is
+known_step limits w (event.Invalidate points) all accepted l is = all l is
+known_step limits w (event.Bind s c) all accepted l is = all l is
+known_step limits w (event.Install rows) all accepted l is = all l is
+known_step limits w (event.Retire loader) all accepted l is =
     let free = free_to_retire w.classes loader (free_classes w loader (no_fault refusal.Retire (retire_fault w loader) _ accepted)) in
     let known = leb-false (length w.classes.loaders) loader (or_parts (nat_le (length w.classes.loaders) loader) (is_retired w.classes loader) free.known).0 in
     let same = length_set w.classes.loaders loader [] in
@@ -238,8 +240,8 @@ known_step max_sites w (event.Retire loader) all accepted l is =
       | inr now ↦ let one = (Decides-eqb loader l).0 now in omega (arith, known, one, same)
     ]
 
-pub known_after : (max_sites : ℕ) (h : List Event) → AllAccepted max_sites h → AreKnown (world_after h).classes
-known_after max_sites h all =
+pub known_after : (limits : Limits) (h : List Event) → AllAccepted limits h → AreKnown (world_after h).classes
+known_after limits h all =
     subst (λ (es : List Event). AreKnown (world_after es).classes) (take_all (length h) h (omega arith)) (first (length h) (omega arith))
   where
     next : (n : ℕ) (e : Event) → slice_get h n ≡ Some e → AreKnown (world_after (take n h)).classes → AreKnown (world_after (take (n + 1) h)).classes
@@ -247,7 +249,7 @@ known_after max_sites h all =
         subst (λ (es : List Event). AreKnown (world_after es).classes)
         (sym (take_more h n e (slice_get_within h n e at) ∙ ap (λ (f : Event). take n h ++ f ∷ []) (get_or_from_slice_get h n e e at)))
         (subst (λ (w : World). AreKnown w.classes) (sym (world_more (take n h) e))
-        (known_step max_sites (world_after (take n h)) e so_far (all n e at)))
+        (known_step limits (world_after (take n h)) e so_far (all n e at)))
 
     first : (n : ℕ) → n ≤ length h → AreKnown (world_after (take n h)).classes
     first zero le = λ l is. cc

@@ -7,6 +7,7 @@ use Rattle.std.specs.Option.{option_map_or}
 use Rattle.std.proofs.Common.{refl, sym, ap, subst, ◌∙◌, arith, inl, inr, length-append}
 use Rattle.std.proofs.lemmas.Bool.{or_parts, or_from, or_left}
 use Rattle.std.proofs.lemmas.List.Folds.{list_any-append}
+use Rattle.jl_types.specs.declared.limits.Limits.{Limits}
 use Rattle.jl_class.specs.Class.{ClassFile}
 use Rattle.jl_types.specs.declared.ids.Place.{Place}
 use Rattle.jl_types.specs.declared.event.EventOf.TheVariants as event
@@ -195,11 +196,11 @@ module _ (k : Flags) (w : World) (rests : Rests k w) where
     sites = all;
   }
 
-  rests_requested : (max_sites : ℕ) (place : Place) → IsOk (verdict max_sites w (event.Request place)) → Rests k (step w (event.Request place))
-  rests_requested max_sites place accepted = by_test (list_any (same_place place) w.places)
+  rests_requested : (limits : Limits) (place : Place) → IsOk (verdict limits w (event.Request place)) → Rests k (step w (event.Request place))
+  rests_requested limits place accepted = by_test (list_any (same_place place) w.places)
     where
       by_class : (b : Bool) → is_present w.classes place.class ≡ b
-          → IsOk (if b then if_invoked max_sites w place (invocation_at w.classes place) else Err refusal.UnknownClass)
+          → IsOk (if b then if_invoked limits w place (invocation_at w.classes place) else Err refusal.UnknownClass)
           → is_some (moved k.classes place.class) ≡ true
       by_class true is ok = rests.present place.class is
       by_class false is ok = cc
@@ -274,24 +275,25 @@ module _ (k : Flags) (w : World) (rests : Rests k w) where
 
   -- ---- each event
 
-  pub rests_after : (max_sites : ℕ) (e : Event) → IsOk (verdict max_sites w e) → Rests k (step w e)
-  rests_after max_sites event.NewLoader accepted = rests_with_loader
-  rests_after max_sites (event.Define loader file) accepted =
-      rests_defined loader file (is_free w.classes loader file (no_fault refusal.Define (define_fault w.classes loader file) _ accepted)).known
-  rests_after max_sites (event.Delegate loader name to) accepted =
+  pub rests_after : (limits : Limits) (e : Event) → IsOk (verdict limits w e) → Rests k (step w e)
+  rests_after limits event.NewLoader accepted = rests_with_loader
+  rests_after limits (event.Define loader file) accepted =
+      rests_defined loader file
+      (is_free limits.classes w.classes loader file (no_fault refusal.Define (define_fault limits.classes w.classes loader file) _ accepted)).known
+  rests_after limits (event.Delegate loader name to) accepted =
       let none = no_fault refusal.Delegate (delegate_fault w.classes loader name to) _ accepted in
       let unknown = first_none (then_some (is_unknown w.classes loader || is_unknown w.classes to) delegate.UnknownLoader) _ none in
       rests_delegated loader name to (or_parts (is_unknown w.classes loader) (is_unknown w.classes to) (test_none _ delegate.UnknownLoader unknown.0)).1
-  rests_after max_sites (event.Request place) accepted = rests_requested max_sites place accepted
-  rests_after max_sites (event.NewCallSite kind ty t) accepted =
+  rests_after limits (event.Request place) accepted = rests_requested limits place accepted
+  rests_after limits (event.NewCallSite kind ty t) accepted =
       let long = length-append w.sites.call_sites (record { kind = kind; ty = ty; target = t } ∷ []) in
       with_call_sites (w.sites.call_sites ++ record { kind = kind; ty = ty; target = t } ∷ []) (omega (arith, long))
-  rests_after max_sites (event.SetTarget c t) accepted = with_call_sites (retargeted w.sites.call_sites c t) (retargeted_length c t)
-  rests_after max_sites event.NewSwitch accepted =
+  rests_after limits (event.SetTarget c t) accepted = with_call_sites (retargeted w.sites.call_sites c t) (retargeted_length c t)
+  rests_after limits event.NewSwitch accepted =
       let long = length-append w.sites.switches (true ∷ []) in with_switches (w.sites.switches ++ true ∷ []) (omega (arith, long))
-  rests_after max_sites (event.Invalidate points) accepted =
+  rests_after limits (event.Invalidate points) accepted =
       let long = invalidated_length w.sites.switches points in
       with_switches (step w (event.Invalidate points)).sites.switches (omega (arith, long))
-  rests_after max_sites (event.Bind s c) accepted = with_bindings (w.bindings ++ (s, c) ∷ [])
-  rests_after max_sites (event.Install rows) accepted = rests
-  rests_after max_sites (event.Retire loader) accepted = rests_retired loader
+  rests_after limits (event.Bind s c) accepted = with_bindings (w.bindings ++ (s, c) ∷ [])
+  rests_after limits (event.Install rows) accepted = rests
+  rests_after limits (event.Retire loader) accepted = rests_retired loader

@@ -11,6 +11,7 @@ use Rattle.std.proofs.lemmas.Bool.Decides.{Decides-eqb}
 use Rattle.std.proofs.lemmas.Cmp.{nat_eq_equiv}
 use Rattle.std.proofs.lemmas.List.Elements.{filter_map-append, recursion_from_All}
 use Rattle.std.proofs.lemmas.Option.{slice_get_within}
+use Rattle.jl_types.specs.declared.limits.Limits.{Limits}
 use Rattle.jl_types.specs.declared.event.EventOf.TheVariants as event
 use Rattle.jl_types.specs.declared.refusal.CallSiteFault.TheVariants.{UnknownMethod, UnknownSwitch, TooDeep}
 use Rattle.jl_types.specs.declared.refusal.Refusal.TheVariants as refusal
@@ -86,7 +87,7 @@ parent_before n p (q ∷ ps) o h = elim (or_cases (p == q) (list_any (λ q. p ==
 ]
 
 module _ (k : Flags) (w : World) (rests : Rests k w) (fit : IsFit w) (closed : IsClosed w.classes) (ordered : AreOrdered w.classes.rows)
-    (max_sites more : ℕ) (l m : ℕ) (at : moved k.loaders l ≡ Some m) where
+    (l m : ℕ) (at : moved k.loaders l ≡ Some m) where
   abbrev cs : Classes
   cs = w.classes
 
@@ -297,8 +298,8 @@ module _ (k : Flags) (w : World) (rests : Rests k w) (fit : IsFit w) (closed : I
 
   -- ---- it is accepted
 
-  pub retirement_follows : IsOk (verdict max_sites w (event.Retire l)) → Follows more k w (event.Retire l) (event.Retire m)
-  retirement_follows accepted =
+  pub retirement_follows : (limits more : Limits) → IsOk (verdict limits w (event.Retire l)) → Follows more k w (event.Retire l) (event.Retire m)
+  retirement_follows limits more accepted =
       let none = no_fault refusal.Retire (retire_fault w l) _ accepted in
       let classes = first_none (classes_fault cs l) (option_map Targeted (targeted cs w.sites.call_sites l) ∷ []) none in
       let targets = none_mapped Targeted (targeted cs w.sites.call_sites l)

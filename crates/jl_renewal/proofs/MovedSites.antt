@@ -14,6 +14,7 @@ use Rattle.std.proofs.lemmas.List.Elements.{filter_map-append}
 use Rattle.std.proofs.lemmas.List.Quantifiers.{position-Some}
 use Rattle.std.proofs.lemmas.Map.Keys.{any_passes_from_place}
 use Rattle.std.proofs.lemmas.Option.{slice_get-map, slice_get-get_or}
+use Rattle.jl_types.specs.declared.limits.Limits.{Limits}
 use Rattle.jl_class.specs.Site.{Site}
 use Rattle.jl_types.specs.declared.ids.Place.{Place}
 use Rattle.jl_types.specs.declared.event.EventOf.TheVariants as event
@@ -30,10 +31,12 @@ use Rattle.jl_types.specs.Values.Members.{is_present}
 use Rattle.jl_types.specs.Linkage.Resolution.{first_of}
 use Rattle.jl_types.specs.Linkage.Stages.{invocation_at}
 use Rattle.jl_types.specs.Linkage.Targets.{target_fault}
+use Rattle.jl_types.specs.Events.Limits.{AreNoFewer}
 use Rattle.jl_types.specs.Events.Verdict.{verdict, unless, same_place, names_array, is_polymorphic, new_place_fault, request_place, if_invoked}
-use Rattle.jl_types.specs.Events.Verdict.{most_of_a_kind, is_constant, new_call_site_fault, set_target_fault, invalidate_fault, invalidated}
+use Rattle.jl_types.specs.Events.Verdict.{is_constant, new_call_site_fault, set_target_fault, invalidate_fault, invalidated}
 use Rattle.jl_types.specs.Events.Verdict.{type_fault, operand_fault, bind_at, bind_fault, with_call_sites, with_switches}
 use Rattle.jl_types.proofs.Firsts.{first_none, test_none}
+use Rattle.jl_types.proofs.Within.{room_below}
 use Rattle.jl_events.proofs.CallSiteLaws.{free_to_bind, no_fault as no_refusal}
 use Rattle.jl_relink.proofs.Closing.{no_fault}
 use Rattle.jl_renewal.specs.Moved.{Flags, Rests, moved, kept, moved_place, moved_binding, moved_call_site, moved_world, target_there}
@@ -99,23 +102,23 @@ all_there stays switches (p ∷ points) e =
         or_from (nat_le (length (kept stays switches)) q) (list_any (nat_le (length (kept stays switches))) (filter_map (moved stays) points))
         (lt-leb (length (kept stays switches)) q (moved_within stays switches p q is lt)) rest
 
-module _ (k : Flags) (w : World) (rests : Rests k w) (max_sites more : ℕ) where
+module _ (k : Flags) (w : World) (rests : Rests k w) (limits more : Limits) (most : AreNoFewer limits more) where
   abbrev v : World
   v = moved_world k w
 
-  pub switch_follows : IsOk (verdict max_sites w event.NewSwitch) → Follows more k w event.NewSwitch event.NewSwitch
+  pub switch_follows : IsOk (verdict limits w event.NewSwitch) → Follows more k w event.NewSwitch event.NewSwitch
   switch_follows accepted =
-      let lt = leb-false 65536 (length w.sites.switches)
-      (test_none (nat_le most_of_a_kind (length w.sites.switches)) (CallSite fault.Full)
-      (no_refusal (then_some (nat_le most_of_a_kind (length w.sites.switches)) (CallSite fault.Full)) _ accepted)) in
+      let lt = room_below limits.switches (length w.sites.switches) (CallSite fault.Full)
+      (no_refusal (then_some (nat_le limits.switches (length w.sites.switches)) (CallSite fault.Full)) _ accepted) in
       let fewer = kept_fewer k.switches w.sites.switches in
+      let up = most.switches in
       record {
-        accepted = allowed_by (nat_le most_of_a_kind (length v.sites.switches)) (CallSite fault.Full) _
-            (lt-leb 65536 (length v.sites.switches) (omega (arith, lt, fewer)));
+        accepted = allowed_by (nat_le more.switches (length v.sites.switches)) (CallSite fault.Full) _
+            (lt-leb more.switches (length v.sites.switches) (omega (arith, lt, fewer, up)));
         after = ap (with_switches v) (sym (kept_more k.switches w.sites.switches true rests.few_switches));
       }
 
-  pub invalidation_follows : (points : List ℕ) → IsOk (verdict max_sites w (event.Invalidate points))
+  pub invalidation_follows : (points : List ℕ) → IsOk (verdict limits w (event.Invalidate points))
       → Follows more k w (event.Invalidate points) (event.Invalidate (filter_map (moved k.switches) points))
   invalidation_follows points accepted =
       let none = no_fault CallSite (invalidate_fault w points) _ accepted in
@@ -129,26 +132,27 @@ module _ (k : Flags) (w : World) (rests : Rests k w) (max_sites more : ℕ) wher
   -- ---- call sites
 
   pub call_site_follows : (kind : CallSiteKind) (ty : List ℕ) (t u : Target) → target_there k t ≡ Some u
-      → IsOk (verdict max_sites w (event.NewCallSite kind ty t)) → Follows more k w (event.NewCallSite kind ty t) (event.NewCallSite kind ty u)
+      → IsOk (verdict limits w (event.NewCallSite kind ty t)) → Follows more k w (event.NewCallSite kind ty t) (event.NewCallSite kind ty u)
   call_site_follows kind ty t u there accepted =
-      let none = no_fault CallSite (new_call_site_fault w ty t) _ accepted in
-      let full = first_none (then_some (nat_le most_of_a_kind (length w.sites.call_sites)) fault.Full) _ none in
+      let none = no_fault CallSite (new_call_site_fault limits.call_sites w ty t) _ accepted in
+      let full = first_none (then_some (nat_le limits.call_sites (length w.sites.call_sites)) fault.Full) _ none in
       let free = first_none (target_fault w (length w.sites.call_sites) ty t) [] full.1 in
-      let lt = leb-false 65536 (length w.sites.call_sites) (test_none (nat_le most_of_a_kind (length w.sites.call_sites)) fault.Full full.0) in
+      let lt = room_below limits.call_sites (length w.sites.call_sites) fault.Full full.0 in
       let fewer = map_kept_fewer (moved_call_site k) k.call_sites w.sites.call_sites in
       let at = moved_end k.call_sites w.sites.call_sites rests.few_call_sites
       ∙ ap Some (sym (length-map (kept k.call_sites w.sites.call_sites) (moved_call_site k))) in
-      let room = lt-leb 65536 (length v.sites.call_sites) (omega (arith, lt, fewer)) in
+      let up = most.call_sites in
+      let room = lt-leb more.call_sites (length v.sites.call_sites) (omega (arith, lt, fewer, up)) in
       let taken = target_free k w rests (length w.sites.call_sites) (length v.sites.call_sites) at ty t u there free.0 in
       record {
-        accepted = allowed CallSite (new_call_site_fault v ty u) _ (λ i. first_of (then_some (room i) fault.Full ∷ taken i ∷ []));
+        accepted = allowed CallSite (new_call_site_fault more.call_sites v ty u) _ (λ i. first_of (then_some (room i) fault.Full ∷ taken i ∷ []));
         after = ap (with_call_sites v)
             (ap (λ (x : Target). v.sites.call_sites ++ record { kind = kind; ty = ty; target = x } ∷ []) (sym (target_is k t u there))
             ∙ sym (pushed (moved_call_site k) k.call_sites w.sites.call_sites (record { kind = kind; ty = ty; target = t }) rests.few_call_sites));
       }
 
   pub target_follows : (c d : ℕ) (t u : Target) → moved k.call_sites c ≡ Some d → target_there k t ≡ Some u
-      → IsOk (verdict max_sites w (event.SetTarget c t)) → Follows more k w (event.SetTarget c t) (event.SetTarget d u)
+      → IsOk (verdict limits w (event.SetTarget c t)) → Follows more k w (event.SetTarget c t) (event.SetTarget d u)
   target_follows c d t u at there accepted =
       by_site (slice_get w.sites.call_sites c) refl (no_fault CallSite (set_target_fault w c (slice_get w.sites.call_sites c) t) _ accepted)
     where
@@ -223,8 +227,8 @@ module _ (k : Flags) (place : Place) (d : ℕ) (at : moved k.classes place.class
       any_place stays qs (λ s. h (suc s))
       ∙ sym (ap (λ (b : Bool). b || list_any (same_place place) qs) (same_gone q (sym (h zero q refl))))
 
-module _ (k : Flags) (w : World) (rests : Rests k w) (max_sites more : ℕ) (most : max_sites ≤ more) (place : Place) (d : ℕ)
-    (at : moved k.classes place.class ≡ Some d) (accepted : IsOk (verdict max_sites w (event.Request place))) where
+module _ (k : Flags) (w : World) (rests : Rests k w) (limits more : Limits) (most : AreNoFewer limits more) (place : Place) (d : ℕ)
+    (at : moved k.classes place.class ≡ Some d) (accepted : IsOk (verdict limits w (event.Request place))) where
   abbrev u : World
   u = moved_world k w
 
@@ -240,29 +244,30 @@ module _ (k : Flags) (w : World) (rests : Rests k w) (max_sites more : ℕ) (mos
       let found = position-Some (same_place place) w.places s place is in
       any_passes_from_place (same_place place) w.places s (get_or w.places s place) (slice_get-get_or w.places s place found.0) found.1
 
-  by_new : (site : Site) → new_place_fault max_sites w site ≡ None → new_place_fault more u site ≡ None
+  by_new : (site : Site) → new_place_fault limits w site ≡ None → new_place_fault more u site ≡ None
   by_new site none =
       let array = first_none (then_some (names_array site.operand) (NotLinkable ArrayReceiver)) _ none in
       let polymorphic = first_none (then_some (is_polymorphic site.operand) (NotLinkable PolymorphicSignature)) _ array.1 in
-      let full = first_none (then_some (nat_le max_sites (length w.places)) SitesFull) [] polymorphic.1 in
-      let lt = leb-false max_sites (length w.places) (test_none (nat_le max_sites (length w.places)) SitesFull full.0) in
+      let full = first_none (then_some (nat_le limits.sites (length w.places)) SitesFull) [] polymorphic.1 in
+      let lt = room_below limits.sites (length w.places) SitesFull full.0 in
       let fewer = map_kept_fewer (moved_place k) k.sites w.places in
-      let room = lt-leb more (length u.places) (omega (arith, lt, fewer, most)) in
+      let up = most.sites in
+      let room = lt-leb more.sites (length u.places) (omega (arith, lt, fewer, up)) in
       (λ i. first_of (array.0 i ∷ polymorphic.0 i ∷ then_some (room i) SitesFull ∷ []))
 
   by_old : (o : Option ℕ) (site : Site) → position (same_place place) w.places ≡ o → position (same_place there) u.places ≡ None
-      → IsOk (request_place max_sites w o site) → new_place_fault more u site ≡ None
+      → IsOk (request_place limits w o site) → new_place_fault more u site ≡ None
   by_old (Some s) site is none ok = absurd (both_ways (list_any (same_place there) u.places) (none_any (same_place there) u.places none) (among ∙ known s is))
-  by_old None site is none ok = by_new site (no_refusal (new_place_fault max_sites w site) (made.Site (length w.places)) ok)
+  by_old None site is none ok = by_new site (no_refusal (new_place_fault limits w site) (made.Site (length w.places)) ok)
 
   by_place : (o : Option ℕ) (site : Site) → position (same_place there) u.places ≡ o
-      → IsOk (request_place max_sites w (position (same_place place) w.places) site)
+      → IsOk (request_place limits w (position (same_place place) w.places) site)
       → IsOk (request_place more u o site)
   by_place (Some s) site is ok = refl
   by_place None site is ok =
       ap (λ (o : Option Refusal). is_ok (unless o (made.Site (length u.places)))) (by_old (position (same_place place) w.places) site refl is ok)
 
-  by_site : (o : Option Site) → invocation_at w.classes place ≡ o → IsOk (if_invoked max_sites w place o)
+  by_site : (o : Option Site) → invocation_at w.classes place ≡ o → IsOk (if_invoked limits w place o)
       → IsOk (if_invoked more u there (invocation_at u.classes there))
   by_site None is ok = cc
   by_site (Some site) is ok =
@@ -270,7 +275,7 @@ module _ (k : Flags) (w : World) (rests : Rests k w) (max_sites more : ℕ) (mos
       ∙ by_place (position (same_place there) u.places) site refl ok
 
   by_class : (b : Bool) → is_present w.classes place.class ≡ b
-      → IsOk (if b then if_invoked max_sites w place (invocation_at w.classes place) else Err UnknownClass)
+      → IsOk (if b then if_invoked limits w place (invocation_at w.classes place) else Err UnknownClass)
       → IsOk (verdict more u (event.Request there))
   by_class false is ok = cc
   by_class true is ok =
@@ -293,8 +298,9 @@ module _ (k : Flags) (w : World) (rests : Rests k w) (max_sites more : ℕ) (mos
 
 -- ---- bindings
 
-module _ (k : Flags) (w : World) (rests : Rests k w) (max_sites more : ℕ) (s c t d : ℕ) (s_at : moved k.sites s ≡ Some t) (c_at : moved k.call_sites c ≡ Some d)
-    (accepted : IsOk (verdict max_sites w (event.Bind s c))) (bound : IsBinding w (s, c)) where
+module _ (k : Flags) (w : World) (rests : Rests k w) (limits more : Limits) (s c t d : ℕ)
+    (s_at : moved k.sites s ≡ Some t) (c_at : moved k.call_sites c ≡ Some d)
+    (accepted : IsOk (verdict limits w (event.Bind s c))) (bound : IsBinding w (s, c)) where
   abbrev x : World
   x = moved_world k w
 

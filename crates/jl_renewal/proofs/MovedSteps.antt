@@ -8,6 +8,7 @@ use Rattle.std.specs.Str.{bytes_eq}
 use Rattle.std.proofs.Common.{refl, sym, ap, ◌∙◌, arith}
 use Rattle.std.proofs.lemmas.Bool.{lt-leb, leb-false, or_parts}
 use Rattle.std.proofs.lemmas.List.{length-map, map-append}
+use Rattle.jl_types.specs.declared.limits.Limits.{Limits}
 use Rattle.jl_class.specs.Class.{ClassFile}
 use Rattle.jl_class.specs.Flags.{has_flag, object, PUBLIC, INTERFACE}
 use Rattle.jl_names.specs.ClassNames.{package_of}
@@ -17,10 +18,12 @@ use Rattle.jl_types.specs.declared.refusal.DelegateFault.TheVariants as delegate
 use Rattle.jl_types.specs.Values.World.{World, Class, Classes}
 use Rattle.jl_types.specs.Values.Members.{lookup, class_test, is_interface, share_package}
 use Rattle.jl_types.specs.Linkage.Resolution.{first_of}
+use Rattle.jl_types.specs.Events.Limits.{AreNoFewer}
 use Rattle.jl_types.specs.Events.Verdict.{verdict, with_classes}
 use Rattle.jl_types.specs.Events.Definitions.{define_fault, parent_names, class_made, defined, delegate_fault, is_unknown, named_test, is_final}
 use Rattle.jl_types.specs.Events.Definitions.{is_open_parent, with_record, FINAL}
 use Rattle.jl_types.proofs.Firsts.{first_none, test_none}
+use Rattle.jl_types.proofs.Within.{room_below}
 use Rattle.jl_types.proofs.Lists.{element_at}
 use Rattle.jl_events.proofs.CallSiteLaws.{no_fault as no_refusal}
 use Rattle.jl_relink.proofs.Closing.{no_fault}
@@ -45,7 +48,7 @@ some_there : {A : Type 0} (o : Option A) → is_none o ≡ false → (a : A) × 
 some_there None e = cc
 some_there (Some a) e = (a, refl)
 
-module _ (k : Flags) (w : World) (rests : Rests k w) (max_sites more : ℕ) where
+module _ (k : Flags) (w : World) (rests : Rests k w) (limits more : Limits) (most : AreNoFewer limits more) where
   abbrev cs : Classes
   cs = w.classes
 
@@ -57,14 +60,15 @@ module _ (k : Flags) (w : World) (rests : Rests k w) (max_sites more : ℕ) wher
 
   -- ---- a loader
 
-  pub loader_follows : IsOk (verdict max_sites w event.NewLoader) → Follows more k w event.NewLoader event.NewLoader
+  pub loader_follows : IsOk (verdict limits w event.NewLoader) → Follows more k w event.NewLoader event.NewLoader
   loader_follows accepted =
-      let lt = leb-false 1024 (length cs.loaders)
-      (test_none (nat_le 1024 (length cs.loaders)) refusal.LoadersFull
-      (no_refusal (then_some (nat_le 1024 (length cs.loaders)) refusal.LoadersFull) _ accepted)) in
+      let lt = room_below limits.loaders (length cs.loaders) refusal.LoadersFull
+      (no_refusal (then_some (nat_le limits.loaders (length cs.loaders)) refusal.LoadersFull) _ accepted) in
+      let up = most.loaders in
       let fewer = map_kept_fewer (map (moved_record k)) k.loaders cs.loaders in
       record {
-        accepted = allowed_by (nat_le 1024 (length ds.loaders)) refusal.LoadersFull _ (lt-leb 1024 (length ds.loaders) (omega (arith, lt, fewer)));
+        accepted = allowed_by (nat_le more.loaders (length ds.loaders)) refusal.LoadersFull _
+            (lt-leb more.loaders (length ds.loaders) (omega (arith, lt, fewer, up)));
         after = ap (λ (loaders : List (List (List ℕ × ℕ))). with_classes v (record ds { loaders = loaders }))
             (sym (pushed (map (moved_record k)) k.loaders cs.loaders [] rests.few_loaders));
       }
@@ -127,7 +131,7 @@ module _ (k : Flags) (w : World) (rests : Rests k w) (max_sites more : ℕ) wher
       final_same : (name : List ℕ) → named_test (is_final ds) ds m name ≡ named_test (is_final cs) cs l name
       final_same = tests (λ row. has_flag row.file.flags FINAL) (λ row. has_flag row.file.flags FINAL) (λ row n e. refl)
 
-      still_free : IsFree cs l file → IsFree ds m file
+      still_free : IsFree limits.classes cs l file → IsFree more.classes ds m file
       still_free free = record {
         known = known k w rests l m at free.known;
         object = ap (λ (b : Bool). bytes_eq file.name object && not b) (same_numbers k.loaders l 0 m 0 at rests.first) ∙ free.object;
@@ -139,10 +143,11 @@ module _ (k : Flags) (w : World) (rests : Rests k w) (max_sites more : ℕ) wher
         final = ap (λ (p : List ℕ → Bool). list_any p (option_to_list file.superclass)) (λ i name. final_same name i) ∙ free.final;
         interfaces = ap (λ (p : List ℕ → Bool). find p file.interfaces) (λ i name. not (interface_same name i)) ∙ free.interfaces;
         accessible = ap (λ (p : List ℕ → Bool). find p (parent_names file)) (λ i name. not (open_same name i)) ∙ free.accessible;
-        room = lt-leb 65536 (length ds.rows)
+        room = lt-leb more.classes (length ds.rows)
             (let fewer = map_kept_fewer (moved_class k) k.classes cs.rows in
-            let room = leb-false 65536 (length cs.rows) free.room in
-            omega (arith, fewer, room));
+            let room = leb-false limits.classes (length cs.rows) free.room in
+            let up = most.classes in
+            omega (arith, fewer, room, up));
       }
 
       superclass_same : (o : Option (List ℕ)) → option_and_then (lookup ds m) o ≡ option_map (shifted k.classes) (option_and_then (lookup cs l) o)
@@ -182,19 +187,19 @@ module _ (k : Flags) (w : World) (rests : Rests k w) (max_sites more : ℕ) wher
         retired = ds.retired;
       }
 
-      pub definition_follows : IsOk (verdict max_sites w (event.Define l file)) → Follows more k w (event.Define l file) (event.Define m file)
+      pub definition_follows : IsOk (verdict limits w (event.Define l file)) → Follows more k w (event.Define l file) (event.Define m file)
       definition_follows accepted =
-          let free = is_free cs l file (no_fault refusal.Define (define_fault cs l file) _ accepted) in
+          let free = is_free limits.classes cs l file (no_fault refusal.Define (define_fault limits.classes cs l file) _ accepted) in
           let there = leb-false (length cs.loaders) l (or_parts (nat_le (length cs.loaders) l) _ free.known).0 in
           record {
-            accepted = allowed refusal.Define (define_fault ds m file) _ (none_at_all ds m file (still_free free));
+            accepted = allowed refusal.Define (define_fault more.classes ds m file) _ (none_at_all more.classes ds m file (still_free free));
             after = ap (with_classes v) (defined_same there);
           }
 
     -- ---- a delegation
 
     module _ (name : List ℕ) (to n : ℕ) (to_at : moved k.loaders to ≡ Some n) where
-      pub delegation_follows : IsOk (verdict max_sites w (event.Delegate l name to)) → Follows more k w (event.Delegate l name to) (event.Delegate m name n)
+      pub delegation_follows : IsOk (verdict limits w (event.Delegate l name to)) → Follows more k w (event.Delegate l name to) (event.Delegate m name n)
       delegation_follows accepted =
           let none = no_fault refusal.Delegate (delegate_fault cs l name to) _ accepted in
           let unknown = first_none (then_some (is_unknown cs l || is_unknown cs to) delegate.UnknownLoader) _ none in

@@ -2,7 +2,7 @@
 use Rattle.std.specs.Prelude.{◌≡◌, ℕ, zero, suc, ◌+◌, ◌<◌, ◌≤◌, Bool, true, false, List, [], ◌∷◌, ◌++◌, map, filter, drop, length, get_or, slice_get}
 use Rattle.std.specs.Prelude.{Option, Some, None, if◌then◌else◌}
 use Rattle.std.proofs.Common.{refl, sym, ap, ◌∙◌, arith, unwrap_or}
-use Rattle.std.proofs.lemmas.Option.{same_Some}
+use Rattle.std.proofs.lemmas.Option.{same_Some, slice_get_within}
 use Rattle.jl_renewal.specs.Numbers.{numbered_from, numbered, staying, how_many, new_number, renumbered}
 
 -- how many of the first k stay
@@ -147,6 +147,19 @@ pub many_fewer : (stays : List Bool) → how_many stays ≤ length stays
 many_fewer [] = omega arith
 many_fewer (true ∷ stays) = let le = many_fewer stays in omega (arith, le)
 many_fewer (false ∷ stays) = let le = many_fewer stays in omega (arith, le)
+
+-- they are those of all the first ones
+pub before_all : (stays : List Bool) → before stays (length stays) ≡ how_many stays
+before_all [] = refl
+before_all (true ∷ stays) = ap suc (before_all stays)
+before_all (false ∷ stays) = before_all stays
+
+-- one that stays comes after fewer than stay
+pub before_many : (stays : List Bool) (k : ℕ) → slice_get stays k ≡ Some true → before stays k < how_many stays
+before_many stays k e =
+    let rises = before_rises stays k (length stays) e (slice_get_within stays k true e) in
+    let all = before_all stays in
+    omega (arith, rises, all)
 
 -- as many of a list
 pub many_staying : {A : Type 0} (stays : List Bool) (xs : List A) → length stays ≡ length xs → length (staying stays xs) ≡ how_many stays

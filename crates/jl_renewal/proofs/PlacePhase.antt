@@ -8,6 +8,7 @@ use Rattle.std.proofs.lemmas.Bool.{and_from, or_from, both_ways, eq-eqb, eqb-tru
 use Rattle.std.proofs.lemmas.List.Quantifiers.{position-Some}
 use Rattle.std.proofs.lemmas.Map.Keys.{any_passes_from_place}
 use Rattle.std.proofs.lemmas.Option.{slice_get-get_or, slice_get_within}
+use Rattle.jl_types.specs.declared.limits.Limits.{Limits}
 use Rattle.jl_types.specs.declared.ids.Place.{Place}
 use Rattle.jl_types.specs.declared.event.EventOf.TheVariants as event
 use Rattle.jl_types.specs.declared.event.Made.TheVariants as made
@@ -41,7 +42,7 @@ position_none p xs d e = by_place (position p xs) refl
         let found = position-Some p xs i d at in
         absurd (both_ways (list_any p xs) e (any_passes_from_place p xs i (get_or xs i d) (slice_get-get_or xs i d found.0) found.1))
 
-module _ (max_sites : ℕ) (w : World) (released : Released) (sites : Sites) where
+module _ (limits : Limits) (w : World) (released : Released) (sites : Sites) where
   abbrev n : Numbers
   n = numbers_of w released
 
@@ -88,24 +89,24 @@ module _ (max_sites : ℕ) (w : World) (released : Released) (sites : Sites) whe
   -- ---- a request
 
   module _ (places : List Place) (x : Place) (x_there : is_there x ≡ true) (invoked : IsInvoked w x)
-      (new : list_any (same_place (renumbered_place n x)) places ≡ false) (room : length places < max_sites) where
-    no_fault : new_place_fault max_sites (with_places places) invoked.site ≡ None
+      (new : list_any (same_place (renumbered_place n x)) places ≡ false) (room : length places < limits.sites) where
+    no_fault : new_place_fault limits (with_places places) invoked.site ≡ None
     no_fault = λ i. first_of (
         then_some (invoked.array i) (NotLinkable ArrayReceiver)
         ∷ then_some (invoked.polymorphic i) (NotLinkable PolymorphicSignature)
-        ∷ then_some (lt-leb max_sites (length places) room i) SitesFull
+        ∷ then_some (lt-leb limits.sites (length places) room i) SitesFull
         ∷ [])
 
-    requests : verdict max_sites (with_places places) (event.Request (renumbered_place n x)) ≡ Ok (made.Site (length places))
+    requests : verdict limits (with_places places) (event.Request (renumbered_place n x)) ≡ Ok (made.Site (length places))
     requests =
         let here = fresh_invocation w released x x_there ∙ invoked.at in
-        (λ i. if fresh_present w released x.class x_there i then if_invoked max_sites (with_places places) (renumbered_place n x) (here i)
+        (λ i. if fresh_present w released x.class x_there i then if_invoked limits (with_places places) (renumbered_place n x) (here i)
         else Err UnknownClass)
-        ∙ ap (λ o. request_place max_sites (with_places places) o invoked.site)
+        ∙ ap (λ o. request_place limits (with_places places) o invoked.site)
         (position_none (same_place (renumbered_place n x)) places (renumbered_place n x) new)
         ∙ ap (λ (o : Option Refusal). unless o (made.Site (length places))) no_fault
 
-    one_place : OneStep max_sites (with_places places) (Some (event.Request (renumbered_place n x))) (with_places (places ++ renumbered_place n x ∷ []))
+    one_place : OneStep limits (with_places places) (Some (event.Request (renumbered_place n x))) (with_places (places ++ renumbered_place n x ∷ []))
     one_place = (
       ap is_ok requests,
       ap (λ (b : Bool). with_places (if b then places else places ++ renumbered_place n x ∷ [])) new,
@@ -113,22 +114,22 @@ module _ (max_sites : ℕ) (w : World) (released : Released) (sites : Sites) whe
 
   -- ---- all of them
 
-  module _ (fit : IsFit w) (few : length (staying (staying_sites w.classes w.places) w.places) ≤ max_sites) where
+  module _ (fit : IsFit w) (few : length (staying (staying_sites w.classes w.places) w.places) ≤ limits.sites) where
     each_place : (front : List Place) (x : Place) (rest : List Place) → w.places ≡ front ++ x ∷ rest
-        → OneStep max_sites (with_places (fresh_places front)) (request n x) (with_places (fresh_places (front ++ x ∷ [])))
+        → OneStep limits (with_places (fresh_places front)) (request n x) (with_places (fresh_places (front ++ x ∷ [])))
     each_place front x rest e = by_test (is_there x) refl
       where
         by_test : (b : Bool) → is_there x ≡ b
-            → OneStep max_sites (with_places (fresh_places front)) (request n x) (with_places (fresh_places (front ++ x ∷ [])))
+            → OneStep limits (with_places (fresh_places front)) (request n x) (with_places (fresh_places (front ++ x ∷ [])))
         by_test false gone =
-            subst (λ o. OneStep max_sites (with_places (fresh_places front)) o (with_places (fresh_places (front ++ x ∷ []))))
+            subst (λ o. OneStep limits (with_places (fresh_places front)) o (with_places (fresh_places (front ++ x ∷ []))))
             (sym (ap (option_map (λ c. event.Request (record x { class = c }))) (class_gone w.classes x.class gone)))
             (ap with_places (passing_less (renumbered_place n) is_there front x gone))
         by_test true x_there =
             let at : slice_get w.places (length front) ≡ Some x = ap (λ places. slice_get places (length front)) e ∙ in_middle front x rest in
             let room = passing_before (renumbered_place n) is_there front x rest x_there in
             let all = ap length (staying_filter is_there w.places ∙ ap (filter is_there) e) in
-            subst₂ (λ (o : Option Event) (places : List Place). OneStep max_sites (with_places (fresh_places front)) o (with_places places))
+            subst₂ (λ (o : Option Event) (places : List Place). OneStep limits (with_places (fresh_places front)) o (with_places places))
             (sym (ap (option_map (λ c. event.Request (record x { class = c }))) (class_number w released x.class x_there)))
             (sym (passing_more (renumbered_place n) is_there front x x_there))
             (one_place (fresh_places front) x x_there (fit.places (length front) x at)
@@ -139,7 +140,7 @@ module _ (max_sites : ℕ) (w : World) (released : Released) (sites : Sites) whe
             (omega (arith, room, all, few)))
 
     -- the places in classes that stay
-    pub places_lead : Leads max_sites (with_places []) (filter_map (request n) w.places) (with_places (renewed w released).places)
-    places_lead = subst (λ (places : List Place). Leads max_sites (with_places []) (filter_map (request n) w.places) (with_places places))
+    pub places_lead : Leads limits (with_places []) (filter_map (request n) w.places) (with_places (renewed w released).places)
+    places_lead = subst (λ (places : List Place). Leads limits (with_places []) (filter_map (request n) w.places) (with_places places))
         (ap (map (renumbered_place n)) (sym (staying_filter is_there w.places)))
-        (leads_through max_sites (request n) (λ front. with_places (fresh_places front)) w.places each_place)
+        (leads_through limits (request n) (λ front. with_places (fresh_places front)) w.places each_place)

@@ -1,7 +1,8 @@
 -- From what was added to the fresh core to what was made of the old one.
-use Rattle.std.specs.Prelude.{◌≡◌, ◌<◌, ◌≤◌, ℕ, AllPairs, fold, List, [], ◌∷◌, ◌++◌, map, filter_map, Option, Some, None, option_map, option_and_then}
+use Rattle.std.specs.Prelude.{◌≡◌, ◌<◌, ℕ, AllPairs, fold, List, [], ◌∷◌, ◌++◌, map, filter_map, Option, Some, None, option_map, option_and_then}
 use Rattle.std.specs.List.{cons_option}
 use Rattle.std.proofs.Common.{refl, sym, ap, subst, ◌∙◌}
+use Rattle.jl_types.specs.declared.limits.Limits.{Limits}
 use Rattle.jl_types.specs.declared.event.EventOf.TheVariants as event
 use Rattle.jl_types.specs.declared.event.Reply.{Reply}
 use Rattle.jl_types.specs.declared.link.Link.{Link}
@@ -15,9 +16,10 @@ use Rattle.jl_core.specs.State.{State, empty_core, events, world_of, links_of, A
 use Rattle.jl_core.specs.Logs.{Entry, shown}
 use Rattle.jl_events.specs.Accepted.{event_of}
 use Rattle.jl_renewal.specs.declared.released.Released.{Released}
-use Rattle.jl_renewal.specs.Numbers.{Numbers, how_many}
+use Rattle.jl_renewal.specs.Numbers.{Numbers}
 use Rattle.jl_renewal.specs.Staying.{numbers_of, staying_sites}
-use Rattle.jl_renewal.specs.Renewal.{class_event, new_loaders, site_events, renewal, renewal_by, fresh_rows, AreBatches, IsRenewal, IsPast, IsRefilled, logged}
+use Rattle.jl_renewal.specs.Renewal.{class_event, new_loaders, site_events, renewal, renewal_by, renewal_fault, fresh_rows, AreBatches, IsRenewal, IsPast}
+use Rattle.jl_renewal.specs.Renewal.{IsRefilled, logged}
 use Rattle.jl_renewal.specs.Renewed.{renewed}
 use Rattle.jl_renewal.specs.Told.{told_events, told_renewal}
 use Rattle.jl_renewal.specs.Adds.{MayAdd, AreFresh, Adds, Installs}
@@ -26,6 +28,7 @@ use Rattle.jl_renewal.proofs.FollowLaws.{world_added}
 use Rattle.jl_renewal.proofs.InstallLaws.{rows_fresh}
 use Rattle.jl_renewal.proofs.LinkLaws.{same_world}
 use Rattle.jl_renewal.proofs.RenewalPhases.{all_accepted, renewal_leads}
+use Rattle.jl_renewal.proofs.RoomLaws.{has_room}
 
 -- what the entries are told as is what the events that they tell are told as
 pub told_are_events : (w : World) (n : Numbers) (entries : List Entry)
@@ -43,19 +46,19 @@ told_are_events w n (entry ∷ entries) =
     one f (Some x) reply made rest e = ap (cons_option (f x)) e
 
 -- what the old core, its world and entries, the numbers and the fresh core are
-pub record IsBegun (old : State) (released : Released) (max_sites : ℕ) (w : World) (entries : List Entry) (n : Numbers) (fresh : State) : Type 0 where
+pub record IsBegun (old : State) (released : Released) (limits : Limits) (w : World) (entries : List Entry) (n : Numbers) (fresh : State) : Type 0 where
   pub world : w ≡ world_of old
   pub log : shown (world_of old).classes.rows entries ≡ old.log
   pub answered : AreAnswered old
   pub closed : IsClosed (world_of old).classes
-  pub few : how_many (staying_sites (world_of old).classes (world_of old).places) ≤ max_sites
+  pub fits : renewal_fault limits (world_of old) released ≡ None
   pub numbers : n ≡ numbers_of (world_of old) released
-  pub empty : fresh ≡ empty_core max_sites
+  pub empty : fresh ≡ empty_core limits
 
-module _ (old : State) (released : Released) (max_sites : ℕ) (w : World) (entries : List Entry) (n : Numbers) (fresh : State)
-    (begun : IsBegun old released max_sites w entries n fresh) where
-  leads : Leads max_sites nothing_yet (renewal old released) (renewed (world_of old) released)
-  leads = renewal_leads old released (all_accepted old begun.answered) begun.closed max_sites begun.few
+module _ (old : State) (released : Released) (limits : Limits) (w : World) (entries : List Entry) (n : Numbers) (fresh : State)
+    (begun : IsBegun old released limits w entries n fresh) where
+  leads : Leads limits nothing_yet (renewal old released) (renewed (world_of old) released)
+  leads = renewal_leads old released (all_accepted old begun.answered) begun.closed limits (has_room limits (world_of old) released begun.fits)
 
   told_is : told_renewal w n entries ≡ renewal old released
   told_is =
@@ -86,30 +89,30 @@ module _ (old : State) (released : Released) (max_sites : ℕ) (w : World) (entr
 
 module _ (w : World) (entries : List Entry) (past : IsPast w entries) where
   abbrev old : State
-  old = logged past.max_sites w entries
+  old = logged past.limits w entries
 
   -- from what is known of the old core's world as it was lent
-  pub begun_by : (released : Released) (max_sites : ℕ) (inside : World) (n : Numbers) (fresh : State) → inside ≡ w → AreInOrder inside.classes
-      → how_many (staying_sites w.classes w.places) ≤ max_sites → n ≡ numbers_of w released → fresh ≡ empty_core max_sites
-      → IsBegun old released max_sites w entries n fresh
-  begun_by released max_sites inside n fresh view order few numbers empty = record {
+  pub begun_by : (released : Released) (limits : Limits) (inside : World) (n : Numbers) (fresh : State) → inside ≡ w → AreInOrder inside.classes
+      → renewal_fault limits w released ≡ None → n ≡ numbers_of w released → fresh ≡ empty_core limits
+      → IsBegun old released limits w entries n fresh
+  begun_by released limits inside n fresh view order fits numbers empty = record {
     world = past.world;
     log = λ i. shown (sym past.world i).classes.rows entries;
     answered = past.answered;
     closed = subst (λ (v : World). IsClosed v.classes) (view ∙ past.world) order.closed;
-    few = subst (λ (v : World). how_many (staying_sites v.classes v.places) ≤ max_sites) past.world few;
+    fits = subst (λ (v : World). renewal_fault limits v released ≡ None) past.world fits;
     numbers = numbers ∙ ap (λ (v : World). numbers_of v released) past.world;
     empty = empty;
   }
 
-  pub is_refilled : (released : Released) (max_sites : ℕ) (n : Numbers) (fresh next : State) → n ≡ numbers_of w released
-      → IsBegun old released max_sites w entries n fresh → Adds (told_renewal w n entries) fresh next → IsRefilled w entries released n fresh next
-  is_refilled released max_sites n fresh next numbers begun added = record {
+  pub is_refilled : (released : Released) (limits : Limits) (n : Numbers) (fresh next : State) → n ≡ numbers_of w released
+      → IsBegun old released limits w entries n fresh → Adds (told_renewal w n entries) fresh next → IsRefilled w entries released n fresh next
+  is_refilled released limits n fresh next numbers begun added = record {
     numbers = numbers;
     limit = added.limit;
-    events = next_events old released max_sites w entries n fresh begun next added
+    events = next_events old released limits w entries n fresh begun next added
         ∙ (λ i. renewal_by (sym past.world i) (numbers_of (sym past.world i) released) (events old));
-    world = next_world old released max_sites w entries n fresh begun next added ∙ ap (λ (v : World). renewed v released) (sym past.world);
+    world = next_world old released limits w entries n fresh begun next added ∙ ap (λ (v : World). renewed v released) (sym past.world);
   }
 
 -- ---- of a core
@@ -118,13 +121,13 @@ module _ (w : World) (entries : List Entry) (past : IsPast w entries) where
 pub past_of : (core : State) (w : World) (entries : List Entry) → w ≡ world_of core → shown (world_of core).classes.rows entries ≡ core.log
     → AreAnswered core → IsPast w entries
 past_of core w entries world log answered = record {
-  max_sites = core.max_sites;
+  limits = core.limits;
   world = world ∙ ap world_of (sym same);
   answered = subst AreAnswered (sym same) answered;
 }
   where
-    same : logged core.max_sites w entries ≡ core
-    same = λ i. record { max_sites = core.max_sites; log = ((λ j. shown (world j).classes.rows entries) ∙ log) i }
+    same : logged core.limits w entries ≡ core
+    same = λ i. record { limits = core.limits; log = ((λ j. shown (world j).classes.rows entries) ∙ log) i }
 
 -- the rows are links from scratch there
 pub rows_may : (core : State) (released : Released) (n : Numbers) (next : State) (rows linked : List (ℕ × Link)) → n ≡ numbers_of (world_of core) released
@@ -135,13 +138,13 @@ rows_may core released n next rows linked numbers are is =
     (subst (λ (xs : List (ℕ × Link)). AllPairs (λ a b. a.0 < b.0) xs) (sym is) (links_rise (events core))))
 
 -- with the links it is what is made of the old core
-pub is_renewal : (core : State) (released : Released) (max_sites : ℕ) (w : World) (entries : List Entry) (n : Numbers) (fresh next last : State)
-    (rows linked : List (ℕ × Link)) → w ≡ world_of core → shown (world_of core).classes.rows entries ≡ core.log → fresh ≡ empty_core max_sites
+pub is_renewal : (core : State) (released : Released) (limits : Limits) (w : World) (entries : List Entry) (n : Numbers) (fresh next last : State)
+    (rows linked : List (ℕ × Link)) → w ≡ world_of core → shown (world_of core).classes.rows entries ≡ core.log → fresh ≡ empty_core limits
     → IsRefilled w entries released n fresh next → rows ≡ fresh_rows (world_of next) n linked → linked ≡ links_of core → Installs rows next last
-    → IsRenewal core released max_sites (last, n)
-is_renewal core released max_sites w entries n fresh next last rows linked world log empty refilled are is installed = record {
+    → IsRenewal core released limits (last, n)
+is_renewal core released limits w entries n fresh next last rows linked world log empty refilled are is installed = record {
   numbers = numbers;
-  limit = installed.adds.limit ∙ (refilled.limit ∙ ap (λ (state : State). state.max_sites) empty);
+  limit = installed.adds.limit ∙ (refilled.limit ∙ ap (λ (state : State). state.limits) empty);
   batches = installed.batches;
   are_batches = subst (λ (xs : List (ℕ × Link)). AreBatches installed.batches xs)
       (are ∙ (λ i. fresh_rows (ap world_after next_is i) (numbers i) (is i))) installed.are_batches;

@@ -1,14 +1,13 @@
 -- No event of a renewal is refused, and they lead to what stays of the old world.
-use Rattle.std.specs.Prelude.{◌≡◌, ◌<◌, ◌≤◌, ◌-◌, ℕ, zero, suc, List, [], ◌∷◌, ◌++◌, map, filter_map, length, take, replicate, slice_get, Some, Result, IsOk}
+use Rattle.std.specs.Prelude.{◌≡◌, ◌<◌, ◌-◌, ℕ, zero, suc, List, [], ◌∷◌, ◌++◌, map, filter_map, length, take, replicate, slice_get, Some, Result, IsOk}
 use Rattle.std.proofs.Common.{refl, sym, ap, subst, ◌∙◌, arith}
-use Rattle.std.proofs.lemmas.List.{append-nil, length-map}
+use Rattle.std.proofs.lemmas.List.{append-nil}
 use Rattle.std.proofs.lemmas.Option.{slice_get-map, slice_get_within}
+use Rattle.jl_types.specs.declared.limits.Limits.{Limits}
 use Rattle.jl_types.specs.declared.event.Made.{Made}
 use Rattle.jl_types.specs.declared.event.Reply.{Reply}
 use Rattle.jl_types.specs.declared.refusal.Refusal.{Refusal}
-use Rattle.jl_types.specs.declared.ids.Place.{Place}
 use Rattle.jl_types.specs.Values.World.{World, nothing_yet}
-use Rattle.jl_types.specs.Values.Members.{is_present}
 use Rattle.jl_types.specs.Events.Event.{Event}
 use Rattle.jl_types.specs.Events.Verdict.{verdict}
 use Rattle.jl_types.specs.Events.History.{world_after, dropped}
@@ -17,33 +16,33 @@ use Rattle.jl_hierarchy.specs.Constancy.{IsClosed}
 use Rattle.jl_core.specs.State.{State, events, world_of, AreAnswered}
 use Rattle.jl_names.proofs.Tests.{map-some}
 use Rattle.jl_renewal.specs.declared.released.Released.{Released}
-use Rattle.jl_renewal.specs.Numbers.{Numbers, staying, how_many}
-use Rattle.jl_renewal.specs.Staying.{numbers_of, staying_sites, staying_loaders, staying_classes}
+use Rattle.jl_renewal.specs.Numbers.{Numbers, staying}
+use Rattle.jl_renewal.specs.Staying.{numbers_of, staying_loaders, staying_classes}
 use Rattle.jl_renewal.specs.Renewal.{class_event, new_loaders, site_events, renewal}
 use Rattle.jl_renewal.specs.Renewed.{renewed, renumbered_record, renumbered_class}
 use Rattle.jl_renewal.proofs.Fit.{IsFit, AllAccepted}
 use Rattle.jl_renewal.proofs.FitLaws.{fit_after}
-use Rattle.jl_renewal.proofs.NumberLaws.{many_staying}
 use Rattle.jl_renewal.proofs.Phases.{Leads, leads_on}
 use Rattle.jl_renewal.proofs.ClassLaws.{fresh_of, padded}
 use Rattle.jl_renewal.proofs.ClassPhase.{of_classes, loaders_after, classes_lead}
 use Rattle.jl_renewal.proofs.LoaderPhase.{loaders_lead}
 use Rattle.jl_renewal.proofs.SitePhases.{only_classes, sites_lead}
+use Rattle.jl_renewal.proofs.RoomLaws.{HasRoom}
 
 -- each event of a core was accepted
-pub all_accepted : (core : State) → AreAnswered core → AllAccepted core.max_sites (events core)
+pub all_accepted : (core : State) → AreAnswered core → AllAccepted core.limits (events core)
 all_accepted core answered k e at =
     let entry = map-some (λ (x : Event × Reply). x.0) (slice_get core.log k) e (sym (slice_get-map (λ (x : Event × Reply). x.0) core.log k) ∙ at) in
     let said = answered k entry.0.0 entry.0.1 entry.1 in
-    let made = accepted_of (dropped (take k (events core)) entry.0.0) (verdict core.max_sites (world_after (take k (events core))) entry.0.0) entry.0.1 said in
-    subst (λ (x : Event). IsOk (verdict core.max_sites (world_after (take k (events core))) x)) entry.2
+    let made = accepted_of (dropped (take k (events core)) entry.0.0) (verdict core.limits (world_after (take k (events core))) entry.0.0) entry.0.1 said in
+    subst (λ (x : Event). IsOk (verdict core.limits (world_after (take k (events core))) x)) entry.2
     (subst (λ (r : Result Made Refusal). IsOk r) (sym made.0) refl)
 
 -- those of a front
-fronts : (max_sites : ℕ) (h front rest : List Event) → h ≡ front ++ rest → AllAccepted max_sites h → AllAccepted max_sites front
-fronts max_sites h front rest split all k e at =
+fronts : (limits : Limits) (h front rest : List Event) → h ≡ front ++ rest → AllAccepted limits h → AllAccepted limits front
+fronts limits h front rest split all k e at =
     let lt = slice_get_within front k e at in
-    subst (λ (es : List Event). IsOk (verdict max_sites (world_after es) e))
+    subst (λ (es : List Event). IsOk (verdict limits (world_after es) e))
     (ap (take k) split ∙ taken front k lt) (all k e (ap (λ (es : List Event). slice_get es k) split ∙ (before front k lt ∙ at)))
   where
     taken : (front : List Event) (k : ℕ) → k < length front → take k (front ++ rest) ≡ take k front
@@ -56,10 +55,10 @@ fronts max_sites h front rest split all k e at =
     before (f ∷ front) zero lt = refl
     before (f ∷ front) (suc k) lt = before front k (omega (arith, lt))
 
-at_last : (max_sites : ℕ) (h front : List Event) (e : Event) (rest : List Event) → h ≡ front ++ e ∷ rest → AllAccepted max_sites h
-    → IsOk (verdict max_sites (world_after front) e)
-at_last max_sites h front e rest split all =
-    subst (λ (es : List Event). IsOk (verdict max_sites (world_after es) e)) (ap (take (length front)) split ∙ front_is front)
+at_last : (limits : Limits) (h front : List Event) (e : Event) (rest : List Event) → h ≡ front ++ e ∷ rest → AllAccepted limits h
+    → IsOk (verdict limits (world_after front) e)
+at_last limits h front e rest split all =
+    subst (λ (es : List Event). IsOk (verdict limits (world_after es) e)) (ap (take (length front)) split ∙ front_is front)
     (all (length front) e (ap (λ (es : List Event). slice_get es (length front)) split ∙ there front))
   where
     front_is : (front : List Event) → take (length front) (front ++ e ∷ rest) ≡ front
@@ -70,8 +69,8 @@ at_last max_sites h front e rest split all =
     there [] = refl
     there (f ∷ front) = there front
 
-module _ (old : State) (released : Released) (all : AllAccepted old.max_sites (events old)) (closed : IsClosed (world_of old).classes) (max_sites : ℕ)
-    (few : how_many (staying_sites (world_of old).classes (world_of old).places) ≤ max_sites) where
+module _ (old : State) (released : Released) (all : AllAccepted old.limits (events old)) (closed : IsClosed (world_of old).classes) (limits : Limits)
+    (room : HasRoom limits (world_of old) released) where
   abbrev w : World
   w = world_of old
 
@@ -79,7 +78,7 @@ module _ (old : State) (released : Released) (all : AllAccepted old.max_sites (e
   n = numbers_of w released
 
   pub fit : IsFit w
-  fit = fit_after old.max_sites (events old) all
+  fit = fit_after old.limits (events old) all
 
   some : zero < length w.classes.loaders
   some = let more = loaders_after (events old) nothing_yet in omega (arith, more)
@@ -98,17 +97,15 @@ module _ (old : State) (released : Released) (all : AllAccepted old.max_sites (e
       unpadded : padded (length w.classes.loaders) w.classes.loaders ≡ w.classes.loaders
       unpadded = ap (λ (k : ℕ). w.classes.loaders ++ replicate k []) none_more ∙ append-nil w.classes.loaders
 
-  pub renewal_leads : Leads max_sites nothing_yet (renewal old released) (renewed w released)
+  pub renewal_leads : Leads limits nothing_yet (renewal old released) (renewed w released)
   renewal_leads =
-      leads_on max_sites nothing_yet (of_classes (fresh_of w released nothing_yet.classes)) (renewed w released) (new_loaders n.loaders)
+      leads_on limits nothing_yet (of_classes (fresh_of w released nothing_yet.classes)) (renewed w released) (new_loaders n.loaders)
       (filter_map (class_event w n) (events old) ++ site_events w n)
-      (loaders_lead max_sites w released closed.first some fit.few_loaders)
-      (leads_on max_sites (of_classes (fresh_of w released nothing_yet.classes)) (only_classes w released) (renewed w released)
+      (loaders_lead limits w released closed.first some room.loaders)
+      (leads_on limits (of_classes (fresh_of w released nothing_yet.classes)) (only_classes w released) (renewed w released)
       (filter_map (class_event w n) (events old)) (site_events w n)
-      (subst (λ (v : World). Leads max_sites (of_classes (fresh_of w released nothing_yet.classes)) (filter_map (class_event w n) (events old)) v) classes_are
-      (classes_lead old.max_sites (events old) released closed
-      (λ front rest split. fit_after old.max_sites front (fronts old.max_sites (events old) front rest split all))
-      (λ front e rest split. at_last old.max_sites (events old) front e rest split all) max_sites))
-      (sites_lead max_sites w released fit
-      (let as_many = many_staying (staying_sites w.classes w.places) w.places (length-map w.places (λ (place : Place). is_present w.classes place.class)) in
-      omega (arith, as_many, few))))
+      (subst (λ (v : World). Leads limits (of_classes (fresh_of w released nothing_yet.classes)) (filter_map (class_event w n) (events old)) v) classes_are
+      (classes_lead old.limits (events old) released closed
+      (λ front rest split. fit_after old.limits front (fronts old.limits (events old) front rest split all))
+      (λ front e rest split. at_last old.limits (events old) front e rest split all) limits room.classes))
+      (sites_lead limits w released fit room))

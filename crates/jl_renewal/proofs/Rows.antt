@@ -2,6 +2,12 @@
 -- what its owner has let go; and what comes after a renewal.
 use Rattle.std.specs.Prelude.{◌≡◌, ℕ, Bool, true, false, ◌&&◌, List, [], ◌∷◌, ◌++◌, map, filter_map, fold, Option, Some, None, is_ok, codes, refl}
 use Rattle.std.proofs.Common.{arith}
+use Rattle.jl_types.specs.declared.limits.Limits.{Limits}
+use Rattle.jl_types.specs.declared.refusal.Refusal.TheVariants.{SitesFull, LoadersFull}
+use Rattle.jl_types.specs.declared.refusal.Refusal.TheVariants as refusal
+use Rattle.jl_types.specs.declared.refusal.DefineFault.TheVariants as define
+use Rattle.jl_types.specs.declared.refusal.CallSiteFault.TheVariants as fault
+use Rattle.jl_types.specs.Events.Limits.{fixed}
 use Rattle.jl_class.specs.Class.{Method}
 use Rattle.jl_class.specs.declared.site.Kind.{Kind}
 use Rattle.jl_class.specs.declared.site.Kind.TheVariants.{Virtual, Dynamic}
@@ -28,7 +34,7 @@ use Rattle.jl_core.specs.State.{State, world_of, links_of}
 use Rattle.jl_renewal.specs.declared.released.Released.{Released}
 use Rattle.jl_renewal.specs.Numbers.{Numbers, how_many}
 use Rattle.jl_renewal.specs.Staying.{numbers_of, staying_sites}
-use Rattle.jl_renewal.specs.Renewal.{renewal, fresh_rows}
+use Rattle.jl_renewal.specs.Renewal.{renewal, renewal_fault, fresh_rows}
 use Rattle.jl_renewal.specs.Renewed.{renewed, renumbered_result, renumbered_answer}
 use Rattle.jl_renewal.specs.Carries.{carried, made_number, with_made}
 use Rattle.jl_renewal.specs.Moved.{Flags, flags_of, moved, moved_world, event_there, events_there, may_be_gone, all_numbers}
@@ -84,14 +90,14 @@ history =
     ∷ []
 
 abbrev core_of : List Event → State
-core_of es = record { max_sites = 8; log = map (λ e. (e, record { made = Nothing; dropped = [] })) es }
+core_of es = record { limits = fixed 8; log = map (λ e. (e, record { made = Nothing; dropped = [] })) es }
 
 abbrev old : State
 old = core_of history
 
 abbrev are_accepted : List Event → List Event → Bool
 are_accepted before [] = true
-are_accepted before (e ∷ es) = is_ok (verdict 8 (world_after before) e) && are_accepted (before ++ e ∷ []) es
+are_accepted before (e ∷ es) = is_ok (verdict (fixed 8) (world_after before) e) && are_accepted (before ++ e ∷ []) es
 
 is_a_history : are_accepted [] history ≡ true
 is_a_history = refl
@@ -219,6 +225,47 @@ left_is_accepted = refl
 
 has_what_is_needed : world_after (renewal owned let_go) ≡ renewed (world_of owned) let_go
 has_what_is_needed = refl
+
+-- ---- what is more than the fresh core may have
+
+abbrev as_many : Limits
+as_many = record { sites = 1; loaders = 1; classes = 2; call_sites = 3; switches = 1 }
+
+as_many_as_stay_are_enough : renewal_fault as_many (world_of owned) let_go ≡ None
+as_many_as_stay_are_enough = refl
+
+one_site_less : renewal_fault (record as_many { sites = 0 }) (world_of owned) let_go ≡ Some SitesFull
+one_site_less = refl
+
+one_loader_less : renewal_fault (record as_many { loaders = 0 }) (world_of owned) let_go ≡ Some LoadersFull
+one_loader_less = refl
+
+one_class_less : renewal_fault (record as_many { classes = 1 }) (world_of owned) let_go ≡ Some (refusal.Define define.Full)
+one_class_less = refl
+
+one_call_site_less : renewal_fault (record as_many { call_sites = 2 }) (world_of owned) let_go ≡ Some (refusal.CallSite fault.Full)
+one_call_site_less = refl
+
+one_switch_less : renewal_fault (record as_many { switches = 0 }) (world_of owned) let_go ≡ Some (refusal.CallSite fault.Full)
+one_switch_less = refl
+
+-- sites come first, then loaders, then classes
+sites_come_first : renewal_fault (record { sites = 0; loaders = 0; classes = 1; call_sites = 2; switches = 0 }) (world_of owned) let_go ≡ Some SitesFull
+sites_come_first = refl
+
+then_loaders : renewal_fault (record { sites = 1; loaders = 0; classes = 1; call_sites = 2; switches = 0 }) (world_of owned) let_go ≡ Some LoadersFull
+then_loaders = refl
+
+then_classes : renewal_fault (record { sites = 1; loaders = 1; classes = 1; call_sites = 2; switches = 0 }) (world_of owned) let_go
+    ≡ Some (refusal.Define define.Full)
+then_classes = refl
+
+-- what was let go isn't counted, and what wasn't is
+all_call_sites_are_more : renewal_fault as_many (world_of owned) nothing ≡ Some (refusal.CallSite fault.Full)
+all_call_sites_are_more = refl
+
+all_of_them_are_enough : renewal_fault (record as_many { call_sites = 5; switches = 2 }) (world_of owned) nothing ≡ None
+all_of_them_are_enough = refl
 
 -- ---- entries that are carried over
 

@@ -30,7 +30,7 @@ still_next (e ∷ left) fs core r refused = refused
 -- ---- one event, and none
 
 -- it is refused
-pub stopped_one : (e : Event) (a b : State) (r : Refusal) → b ≡ a → IsRefused (verdict a.max_sites (world_of a) e) r → IsStoppedAt (e ∷ []) a b r
+pub stopped_one : (e : Event) (a b : State) (r : Refusal) → b ≡ a → IsRefused (verdict a.limits (world_of a) e) r → IsStoppedAt (e ∷ []) a b r
 stopped_one e a b r same refused = record {
   done = [];
   left = e ∷ [];
@@ -123,7 +123,7 @@ not_both (Err s) r is ok = cc
 none_refused : (left : List Event) (core : State) (r : Refusal) → MayAdd left core → IsRefusedNext left core r → r ≡ Memory
 none_refused [] core r may memory = memory
 none_refused (e ∷ left) core r may (inl memory) = memory
-none_refused (e ∷ left) core r may (inr is) = absurd (not_both (verdict core.max_sites (world_of core) e) r is may.0)
+none_refused (e ∷ left) core r may (inr is) = absurd (not_both (verdict core.limits (world_of core) e) r is may.0)
 
 -- memory lacks then
 pub lacks_memory : (es : List Event) (a b : State) (r : Refusal) → MayAdd es a → IsStoppedAt es a b r → r ≡ Memory

@@ -1,5 +1,5 @@
 -- The fresh core's switch points: as many as stay, all valid, and then those that were invalid become so.
-use Rattle.std.specs.Prelude.{◌≡◌, ◌<◌, ◌≤◌, ◌+◌, ℕ, suc, Bool, true, false, not, nat_le, List, [], ◌∷◌, ◌++◌, filter_map, length, slice_get, slice_set}
+use Rattle.std.specs.Prelude.{◌≡◌, ◌≤◌, ◌+◌, ℕ, suc, Bool, true, false, not, nat_le, List, [], ◌∷◌, ◌++◌, filter_map, length, slice_get, slice_set}
 use Rattle.std.specs.Prelude.{Option, Some, None, option_map, option_and_then, option_to_list, is_ok}
 use Rattle.std.specs.Bool.{then_some}
 use Rattle.std.specs.Option.{option_map_or}
@@ -7,13 +7,14 @@ use Rattle.std.specs.List.{cons_option, list_any, range_with_len}
 use Rattle.std.proofs.Common.{refl, sym, ap, subst, ◌∙◌, arith, length-append, append_assoc, append-nil, zero-add, subst₂}
 use Rattle.std.proofs.lemmas.List.Elements.{filter_map-append}
 use Rattle.std.proofs.lemmas.Bool.{lt-leb, or_from, ne_eqb}
+use Rattle.jl_types.specs.declared.limits.Limits.{Limits}
 use Rattle.jl_types.specs.declared.refusal.CallSiteFault.TheVariants as fault
 use Rattle.jl_types.specs.declared.event.EventOf.TheVariants as event
 use Rattle.jl_types.specs.declared.event.Made.TheVariants as made
 use Rattle.jl_types.specs.declared.refusal.Refusal.TheVariants.{CallSite}
 use Rattle.jl_types.specs.Values.World.{World, Classes, Sites}
 use Rattle.jl_types.specs.Events.Verdict.{unless, invalidated}
-use Rattle.jl_renewal.specs.Numbers.{Numbers, numbered_from, numbered, staying}
+use Rattle.jl_renewal.specs.Numbers.{Numbers, numbered_from, numbered, staying, how_many}
 use Rattle.jl_renewal.specs.Renewal.{new_switches, invalid_point, invalid_points, invalidation}
 use Rattle.jl_renewal.proofs.Phases.{Leads, OneStep, leads_through, leads_nowhere, leads_on}
 
@@ -27,16 +28,6 @@ with_points cs switches = record { classes = cs; places = []; bindings = []; sit
 abbrev all_valid : List (Option ℕ) → List Bool
 all_valid numbers = filter_map (option_map (λ number. true)) numbers
 
-valid_fewer : (numbers : List (Option ℕ)) → length (all_valid numbers) ≤ length numbers
-valid_fewer [] = omega arith
-valid_fewer (None ∷ numbers) = let h = valid_fewer numbers in omega (arith, h)
-valid_fewer (Some k ∷ numbers) = let h = valid_fewer numbers in omega (arith, h)
-
-numbered_length : (m : ℕ) (stays : List Bool) → length (numbered_from m stays) ≡ length stays
-numbered_length m [] = refl
-numbered_length m (true ∷ stays) = ap suc (numbered_length (m + 1) stays)
-numbered_length m (false ∷ stays) = ap suc (numbered_length m stays)
-
 -- a valid one for each of those that stay
 abbrev made_valid : List Bool → List Bool
 made_valid [] = []
@@ -48,27 +39,36 @@ valid_are m [] = refl
 valid_are m (true ∷ stays) = ap (λ (rest : List Bool). true ∷ rest) (valid_are (m + 1) stays)
 valid_are m (false ∷ stays) = valid_are m stays
 
-module _ (max_sites : ℕ) (cs : Classes) where
+valid_many : (stays : List Bool) → length (made_valid stays) ≡ how_many stays
+valid_many [] = refl
+valid_many (true ∷ stays) = ap suc (valid_many stays)
+valid_many (false ∷ stays) = valid_many stays
+
+module _ (limits : Limits) (cs : Classes) where
   abbrev once_valid : List (Option ℕ) → World
   once_valid numbers = with_points cs (all_valid numbers)
 
-  one_valid : (numbers : List (Option ℕ)) (o : Option ℕ) → length numbers < 65536
-      → OneStep max_sites (once_valid numbers) (option_map (λ number. event.NewSwitch) o) (once_valid (numbers ++ o ∷ []))
-  one_valid numbers None lt = ap (with_points cs) (filter_map-append (option_map (λ number. true)) numbers (None ∷ []) ∙ append-nil (all_valid numbers))
-  one_valid numbers (Some k) lt = (
+  one_valid : (numbers : List (Option ℕ)) (o : Option ℕ) → length (all_valid (numbers ++ o ∷ [])) ≤ limits.switches
+      → OneStep limits (once_valid numbers) (option_map (λ number. event.NewSwitch) o) (once_valid (numbers ++ o ∷ []))
+  one_valid numbers None few = ap (with_points cs) (filter_map-append (option_map (λ number. true)) numbers (None ∷ []) ∙ append-nil (all_valid numbers))
+  one_valid numbers (Some k) few = (
     ap (λ (b : Bool). is_ok (unless (then_some b (CallSite fault.Full)) (made.Switch (length (all_valid numbers)))))
-        (let h = valid_fewer numbers in lt-leb 65536 (length (all_valid numbers)) (omega (arith, h, lt))),
+        (let all = ap length (filter_map-append (option_map (λ number. true)) numbers (Some k ∷ [])) in
+        let more = length-append (all_valid numbers) (true ∷ []) in
+        lt-leb limits.switches (length (all_valid numbers)) (omega (arith, all, more, few))),
     ap (with_points cs) (sym (filter_map-append (option_map (λ number. true)) numbers (Some k ∷ []))),
   )
 
-  leads_to_valid : (stays : List Bool) → length stays ≤ 65536
-      → Leads max_sites (with_points cs []) (new_switches (numbered stays)) (with_points cs (made_valid stays))
-  leads_to_valid stays le = subst (λ (switches : List Bool). Leads max_sites (with_points cs []) (new_switches (numbered stays)) (with_points cs switches))
+  leads_to_valid : (stays : List Bool) → how_many stays ≤ limits.switches
+      → Leads limits (with_points cs []) (new_switches (numbered stays)) (with_points cs (made_valid stays))
+  leads_to_valid stays le = subst (λ (switches : List Bool). Leads limits (with_points cs []) (new_switches (numbered stays)) (with_points cs switches))
       (valid_are 0 stays)
-      (leads_through max_sites (option_map (λ number. event.NewSwitch)) once_valid (numbered stays) (λ front o rest e.
-      let long = ap length e ∙ length-append front (o ∷ rest) in
-      let all = numbered_length 0 stays in
-      one_valid front o (omega (arith, long, all, le))))
+      (leads_through limits (option_map (λ number. event.NewSwitch)) once_valid (numbered stays) (λ front o rest e.
+      let split = ap (λ numbers. length (all_valid numbers)) (e ∙ sym (append_assoc front (o ∷ []) rest)) in
+      let parts = ap length (filter_map-append (option_map (λ number. true)) (front ++ o ∷ []) rest) in
+      let long = length-append (all_valid (front ++ o ∷ [])) (all_valid rest) in
+      let as_many = ap length (valid_are 0 stays) ∙ valid_many stays in
+      one_valid front o (omega (arith, split, parts, long, as_many, le))))
 
 -- ---- the invalid ones
 
@@ -144,12 +144,12 @@ invalid_are front (true ∷ stays) (false ∷ valid) e =
     ∙ append_assoc front (false ∷ []) (staying stays valid)
 invalid_are front (false ∷ stays) (v ∷ valid) e = invalid_are front stays valid (omega (arith, e))
 
-module _ (max_sites : ℕ) (cs : Classes) where
+module _ (limits : Limits) (cs : Classes) where
   leads_to_invalid : (switches : List Bool) (points : List ℕ) → list_any (nat_le (length switches)) points ≡ false
-      → Leads max_sites (with_points cs switches) (invalidation points) (with_points cs (invalidated switches points))
-  leads_to_invalid switches [] e = leads_nowhere max_sites (with_points cs switches)
+      → Leads limits (with_points cs switches) (invalidation points) (with_points cs (invalidated switches points))
+  leads_to_invalid switches [] e = leads_nowhere limits (with_points cs switches)
   leads_to_invalid switches (p ∷ points) e = subst
-      (λ (b : Bool). Leads max_sites (with_points cs switches) (option_to_list (then_some (not b) (event.Invalidate (p ∷ points))))
+      (λ (b : Bool). Leads limits (with_points cs switches) (option_to_list (then_some (not b) (event.Invalidate (p ∷ points))))
       (with_points cs (invalidated switches (p ∷ points))))
       (sym (ne_eqb (length (p ∷ points)) 0 (λ none. omega (arith, none))))
       (record {
@@ -159,17 +159,17 @@ module _ (max_sites : ℕ) (cs : Classes) where
 
   -- the switch points that stay, as they are
   pub switches_lead : (sites : Sites) (n : Numbers) (stays : List Bool) → n.switches ≡ numbered stays → length stays ≡ length sites.switches
-      → length stays ≤ 65536
-      → Leads max_sites (with_points cs []) (new_switches n.switches ++ invalidation (invalid_points sites n)) (with_points cs (staying stays sites.switches))
+      → how_many stays ≤ limits.switches
+      → Leads limits (with_points cs []) (new_switches n.switches ++ invalidation (invalid_points sites n)) (with_points cs (staying stays sites.switches))
   switches_lead sites n stays is e le =
       let points : invalid_points sites n ≡ invalid_from 0 stays sites.switches =
       ap (λ k. filter_map (invalid_point sites n) (range_with_len 0 k)) (sym e)
       ∙ points_from sites n 0 0 stays sites.switches e (λ i. λ j. slice_get (is j) (zero-add i j)) (λ i. ap (slice_get sites.switches) (zero-add i)) in
-      leads_on max_sites (with_points cs []) (with_points cs (made_valid stays)) (with_points cs (staying stays sites.switches))
+      leads_on limits (with_points cs []) (with_points cs (made_valid stays)) (with_points cs (staying stays sites.switches))
       (new_switches n.switches) (invalidation (invalid_points sites n))
-      (subst (λ numbers. Leads max_sites (with_points cs []) (new_switches numbers) (with_points cs (made_valid stays))) (sym is)
-      (leads_to_valid max_sites cs stays le))
-      (subst₂ (λ (ps : List ℕ) (switches : List Bool). Leads max_sites (with_points cs (made_valid stays)) (invalidation ps) (with_points cs switches))
+      (subst (λ numbers. Leads limits (with_points cs []) (new_switches numbers) (with_points cs (made_valid stays))) (sym is)
+      (leads_to_valid limits cs stays le))
+      (subst₂ (λ (ps : List ℕ) (switches : List Bool). Leads limits (with_points cs (made_valid stays)) (invalidation ps) (with_points cs switches))
       (sym points) (invalid_are [] stays sites.switches e)
       (leads_to_invalid (made_valid stays) (invalid_from 0 stays sites.switches)
       (points_below 0 (length (made_valid stays)) stays sites.switches (omega arith))))

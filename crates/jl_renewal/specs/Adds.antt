@@ -1,5 +1,6 @@
 -- What lists of events add to a core, and what a refusal of one of them leaves.
 use Rattle.std.specs.Prelude.{◌≡◌, ◌<◌, ◌≤◌, Some, Contains, ℕ, List, [], ◌∷◌, ◌++◌, map, take, length, Ok, IsOk, All, AllPairs, ⊤}
+use Rattle.jl_types.specs.declared.limits.Limits.{Limits}
 use Rattle.jl_types.specs.declared.link.Link.{Link}
 use Rattle.jl_types.specs.declared.event.EventOf.TheVariants as event
 use Rattle.jl_types.specs.declared.refusal.Refusal.{Refusal}
@@ -14,13 +15,13 @@ use Rattle.jl_renewal.specs.Renewal.{renewal_by, fresh_rows, AreBatches}
 use Rattle.jl_renewal.specs.Carries.{IsRefusedIn}
 
 -- each of the events is accepted, one after another, from this world on
-abbrev pub Follow : ℕ → World → List Event → Type 0
-Follow max_sites w [] = ⊤
-Follow max_sites w (e ∷ es) = IsOk (verdict max_sites w e) × Follow max_sites (step w e) es
+abbrev pub Follow : Limits → World → List Event → Type 0
+Follow limits w [] = ⊤
+Follow limits w (e ∷ es) = IsOk (verdict limits w e) × Follow limits (step w e) es
 
 -- the core accepts them, one after another
 abbrev pub MayAdd : List Event → State → Type 0
-MayAdd es core = Follow core.max_sites (world_of core) es
+MayAdd es core = Follow core.limits (world_of core) es
 
 -- each row is the link that its site has from scratch, and their sites rise
 pub record AreFresh (w : World) (rows : List (ℕ × Link)) : Type 0 where
@@ -37,7 +38,7 @@ pub record HasCome (linked : List (ℕ × Link)) (n : Numbers) (k : ℕ) : Type 
 -- the core has accepted these events, and no others
 pub record Adds (es : List Event) (old new : State) : Type 0 where
   pub events : events new ≡ events old ++ es
-  pub limit : new.max_sites ≡ old.max_sites
+  pub limit : new.limits ≡ old.limits
 
 -- the first of these events is refused for this, or memory lacks
 abbrev pub IsRefusedNext : List Event → State → Refusal → Type 0

@@ -94,7 +94,7 @@ pub record IsTaken (e : Event) (before after : State) : Type 0 where
 
 -- the core refuses the event, or memory lacks
 abbrev pub IsRefusedIn : State → Event → Refusal → Type 0
-IsRefusedIn core e r = (r ≡ Memory) ⊎ (verdict core.max_sites (world_of core) e ≡ Err r)
+IsRefusedIn core e r = (r ≡ Memory) ⊎ (verdict core.limits (world_of core) e ≡ Err r)
 
 -- the fresh core has accepted the entry's event, and its numbers have what that made
 pub record IsAdded (w : World) (entry : Entry) (n m : Numbers) (before after : State) : Type 0 where
@@ -115,7 +115,7 @@ IsCarried w entry n m before after =
 abbrev pub IsUncarried : World → Entry → Numbers → State → CarryFault → Type 0
 IsUncarried w entry n before Gone = carried_event w n entry ≡ None
 IsUncarried w entry n before (Refused r) =
-    (r ≡ Memory) ⊎ ((e : Event) × (carried_event w n entry ≡ Some e) × (verdict before.max_sites (world_of before) e ≡ Err r))
+    (r ≡ Memory) ⊎ ((e : Event) × (carried_event w n entry ≡ Some e) × (verdict before.limits (world_of before) e ≡ Err r))
 
 -- the numbers afterwards: what a gone entry made is noted as gone, so that what comes later keeps its own place
 abbrev pub AreLeft : Made → Numbers → Numbers → CarryFault → Type 0

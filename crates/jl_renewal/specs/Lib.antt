@@ -1,4 +1,4 @@
--- `Numbers`, `Staying`, `Renewal`, `Renewed`, `Carries`, `Moved`, `Told` and `Adds` are what contracts cite; `Marks` is a means of proof.
+-- `Numbers`, `Staying`, `Renewal`, `Renewed`, `Carries`, `Moved`, `Told` and `Adds` are what contracts cite; `Marks` and `Room` are means of proof.
 pub mod Numbers
 pub mod Staying
 pub mod Renewal
@@ -8,3 +8,4 @@ pub mod Moved
 pub mod Adds
 pub mod Told
 pub mod Marks
+pub mod Room

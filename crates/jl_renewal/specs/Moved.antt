@@ -10,6 +10,7 @@ use Rattle.jl_types.specs.Values.Target.{Target, Method, Guard, Invoker}
 use Rattle.jl_types.specs.Values.World.{World, Class, Classes, CallSite}
 use Rattle.jl_types.specs.Values.Members.{is_present, is_retired}
 use Rattle.jl_types.specs.Events.Event.{Event}
+use Rattle.jl_types.specs.Events.Limits.{AreNoFewer}
 use Rattle.jl_relink.specs.Laws.{AreAccepted}
 use Rattle.jl_core.specs.State.{State, events, world_of, links_of}
 use Rattle.jl_types.specs.declared.refusal.Refusal.TheVariants.{Memory}
@@ -195,12 +196,12 @@ all_numbers k w = record {
   switches = numbers_there k.switches (length w.sites.switches);
 }
 
--- The fresh core has all that the old one has, under these numbers, but for what is gone by the flags. As many sites may be requested there.
+-- The fresh core has all that the old one has, under these numbers, but for what is gone by the flags. It may have as many of each kind.
 pub record IsBeside (k : Flags) (old fresh : State) (n : Numbers) : Type 0 where
-  pub accepted : AreAccepted old.max_sites (events old)
+  pub accepted : AreAccepted old.limits (events old)
   pub rests : Rests k (world_of old)
   pub names : Names k (world_of old)
-  pub limit : old.max_sites ≤ fresh.max_sites
+  pub limit : AreNoFewer old.limits fresh.limits
   pub world : world_of fresh ≡ moved_world k (world_of old)
   pub numbers : n ≡ all_numbers k (world_of old)
 

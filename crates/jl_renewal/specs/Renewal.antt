@@ -1,17 +1,21 @@
 -- The events by which a fresh core comes to have what stays of an old one: the loaders; the classes and delegations in the log's
 -- order; switch points; call sites with their present targets, which may name methods of any class; places; bindings; and the links.
-use Rattle.std.specs.Prelude.{◌≡◌, ◌≤◌, ◌<◌, ◌⊎◌, ℕ, List, [], ◌∷◌, ◌++◌, map, filter_map, take, drop, length, Option, Some, None, option_map}
+use Rattle.std.specs.Prelude.{◌≡◌, ◌≤◌, ◌⊎◌, ℕ, nat_lt, List, [], ◌∷◌, ◌++◌, map, filter_map, take, drop, length, Option, Some, None, option_map}
 use Rattle.std.specs.Prelude.{option_and_then, option_to_list, slice_get, Contains, Result, Ok, Err, not, ◌==◌}
 use Rattle.std.specs.Bool.{then_some}
 use Rattle.std.specs.List.{range_with_len}
+use Rattle.jl_types.specs.declared.limits.Limits.{Limits}
 use Rattle.jl_types.specs.declared.ids.Place.{Place}
 use Rattle.jl_types.specs.declared.link.Link.{Link}
 use Rattle.jl_types.specs.declared.answer.Unlinked.{Unlinked}
 use Rattle.jl_types.specs.declared.event.EventOf.TheVariants as event
 use Rattle.jl_types.specs.declared.refusal.Refusal.{Refusal}
-use Rattle.jl_types.specs.declared.refusal.Refusal.TheVariants.{Memory, SitesFull}
+use Rattle.jl_types.specs.declared.refusal.Refusal.TheVariants.{Memory, SitesFull, LoadersFull, Define, CallSite}
+use Rattle.jl_types.specs.declared.refusal.DefineFault.TheVariants as define
+use Rattle.jl_types.specs.declared.refusal.CallSiteFault.TheVariants as fault
 use Rattle.jl_types.specs.Values.World.{World, Classes, Sites}
 use Rattle.jl_types.specs.Values.Members.{lookup}
+use Rattle.jl_types.specs.Linkage.Resolution.{first_of}
 use Rattle.jl_types.specs.Linkage.Targets.{is_valid}
 use Rattle.jl_types.specs.Linkage.Links.{scratch}
 use Rattle.jl_types.specs.Events.Event.{Event}
@@ -20,7 +24,7 @@ use Rattle.jl_core.specs.State.{State, events, world_of, links_of, AreAnswered}
 use Rattle.jl_core.specs.Logs.{Entry, shown}
 use Rattle.jl_renewal.specs.declared.released.Released.{Released}
 use Rattle.jl_renewal.specs.Numbers.{Numbers, how_many, new_number, renumbered_target}
-use Rattle.jl_renewal.specs.Staying.{numbers_of, staying_sites}
+use Rattle.jl_renewal.specs.Staying.{numbers_of, staying_loaders, staying_classes, staying_sites, staying_call_sites, staying_switches}
 use Rattle.jl_renewal.specs.Renewed.{renewed, renumbered_link}
 
 -- ---- loaders and classes
@@ -114,37 +118,47 @@ AreBatches (batch ∷ batches) rows = (1 ≤ length rows) × (batch ≡ take 256
 -- ---- an old core as its log tells it
 
 -- the core of these entries
-abbrev pub logged : ℕ → World → List Entry → State
-logged max_sites w entries = record { max_sites = max_sites; log = shown w.classes.rows entries }
+abbrev pub logged : Limits → World → List Entry → State
+logged limits w entries = record { limits = limits; log = shown w.classes.rows entries }
 
 -- the world is what these entries come to, each of which was answered as those before it say
 pub record IsPast (w : World) (entries : List Entry) : Type 0 where
-  pub max_sites : ℕ
-  pub world : w ≡ world_of (logged max_sites w entries)
-  pub answered : AreAnswered (logged max_sites w entries)
+  pub limits : Limits
+  pub world : w ≡ world_of (logged limits w entries)
+  pub answered : AreAnswered (logged limits w entries)
 
 -- What an empty core becomes: it has accepted the events of the renewal but for the links, and has what stays.
 pub record IsRefilled (w : World) (entries : List Entry) (released : Released) (n : Numbers) (before after : State) : Type 0 where
   pub numbers : n ≡ numbers_of w released
-  pub limit : after.max_sites ≡ before.max_sites
-  pub events : events after ≡ renewal_by w (numbers_of w released) (events (logged before.max_sites w entries))
+  pub limit : after.limits ≡ before.limits
+  pub events : events after ≡ renewal_by w (numbers_of w released) (events (logged before.limits w entries))
   pub world : world_of after ≡ renewed w released
 
 -- ---- the fresh core
 
 -- What is made of the old core: a fresh one that has accepted these events and no others, and the numbers.
-pub record IsRenewal (old : State) (released : Released) (max_sites : ℕ) (made : State × Numbers) : Type 0 where
+pub record IsRenewal (old : State) (released : Released) (limits : Limits) (made : State × Numbers) : Type 0 where
   pub numbers : made.1 ≡ numbers_of (world_of old) released
-  pub limit : made.0.max_sites ≡ max_sites
+  pub limit : made.0.limits ≡ limits
   pub batches : List (List (ℕ × Link))
   pub are_batches : AreBatches batches (fresh_rows (world_after (renewal old released)) (numbers_of (world_of old) released) (links_of old))
   pub events : events made.0 ≡ renewal old released ++ map event.Install batches
   -- what there is to link there is what stays
   pub world : world_of made.0 ≡ renewed (world_of old) released
 
--- why there is none: more sites stay than may be requested there, or memory lacks
-abbrev pub IsRefusedRenewal : World → ℕ → Refusal → Type 0
-IsRefusedRenewal w max_sites r = ((r ≡ SitesFull) × (max_sites < how_many (staying_sites w.classes w.places))) ⊎ (r ≡ Memory)
+-- what stays is more than a fresh core of these limits may have: the first refusal
+abbrev pub renewal_fault : Limits → World → Released → Option Refusal
+renewal_fault limits w released = first_of (
+    then_some (nat_lt limits.sites (how_many (staying_sites w.classes w.places))) SitesFull
+    ∷ then_some (nat_lt limits.loaders (how_many (staying_loaders w.classes))) LoadersFull
+    ∷ then_some (nat_lt limits.classes (how_many (staying_classes w.classes))) (Define define.Full)
+    ∷ then_some (nat_lt limits.call_sites (how_many (staying_call_sites w released))) (CallSite fault.Full)
+    ∷ then_some (nat_lt limits.switches (how_many (staying_switches w released))) (CallSite fault.Full)
+    ∷ [])
+
+-- why there is none: more stays than it may have, or memory lacks
+abbrev pub IsRefusedRenewal : Limits → World → Released → Refusal → Type 0
+IsRefusedRenewal limits w released r = (renewal_fault limits w released ≡ Some r) ⊎ (r ≡ Memory)
 
 -- ---- its links
 

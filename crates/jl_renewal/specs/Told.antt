@@ -1,5 +1,6 @@
 -- What an empty core is told of an old one, whose world and entries these are, whether or not they are one past.
-use Rattle.std.specs.Prelude.{◌≡◌, ◌⊎◌, ℕ, List, ◌++◌, filter_map, Option, option_and_then}
+use Rattle.std.specs.Prelude.{◌≡◌, ◌⊎◌, List, ◌++◌, filter_map, Option, option_and_then}
+use Rattle.jl_types.specs.declared.limits.Limits.{Limits}
 use Rattle.jl_types.specs.declared.refusal.Refusal.{Refusal}
 use Rattle.jl_types.specs.Values.World.{World}
 use Rattle.jl_types.specs.Events.Event.{Event}
@@ -29,6 +30,6 @@ pub record IsFilledFrom (w : World) (entries : List Entry) (released : Released)
   pub adds : Adds (told_renewal w n entries) before after
 
 -- What a refusal leaves: what stays is not numbered, and the core is as before; or it has accepted a front of these events, and no others.
-abbrev pub IsPartlyFilled : World → List Entry → Released → ℕ → State → State → Refusal → Type 0
-IsPartlyFilled w entries released max_sites before after r =
-    (IsRefusedRenewal w max_sites r × (after ≡ before)) ⊎ IsStoppedAt (told_renewal w (numbers_of w released) entries) before after r
+abbrev pub IsPartlyFilled : World → List Entry → Released → Limits → State → State → Refusal → Type 0
+IsPartlyFilled w entries released limits before after r =
+    (IsRefusedRenewal limits w released r × (after ≡ before)) ⊎ IsStoppedAt (told_renewal w (numbers_of w released) entries) before after r

@@ -47,7 +47,7 @@ pub fn carry<M: EventMachine>(
     ensures numbers { IfErr result (AreLeft entry.now.reply.made numbers.old numbers.new) }
     ensures unchanged { OnErr result (M.state fresh.new ≡ M.state fresh.old) }
     ensures beside { (k : Flags) (before : State) (e : Event) → IsBeside k before (M.state fresh.old) numbers.old
-        → event_of old.now.classes.rows entry.now.event ≡ Some e → IsOk (verdict before.max_sites (world_of before) e) → IfErr result (IsFaultBeside e) }
+        → event_of old.now.classes.rows entry.now.event ≡ Some e → IsOk (verdict before.limits (world_of before) e) → IfErr result (IsFaultBeside e) }
 {
     if let Accepted::Install(_) = entry.event() {
         return Ok(());

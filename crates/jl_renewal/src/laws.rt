@@ -1,12 +1,16 @@
 //! The laws of a renewal: each is the contract of a function that does nothing.
 
-ghost use Rattle.std.specs.Prelude.{◌≡◌, ◌≤◌, ◌↔◌, ℕ, List, ◌++◌, map, fold, Some, slice_get, true, false, is_some, Contains, IsOk};
+ghost use Rattle.std.specs.Prelude.{◌≡◌, ◌↔◌, ℕ, nat_lt, List, ◌++◌, map, fold, Some, None, slice_get, true, false, is_some, Contains, IsOk};
+ghost use Rattle.std.specs.Bool.{then_some};
+ghost use Rattle.jl_types.specs.declared.limits.Limits.{Limits};
+ghost use Rattle.jl_types.specs.declared.refusal.Refusal.TheVariants.{SitesFull};
 ghost use Rattle.jl_types.specs.declared.answer.Recv.{Recv};
 ghost use Rattle.jl_types.specs.declared.event.EventOf.TheVariants as event;
 ghost use Rattle.jl_types.specs.declared.link.Link.{Link};
 ghost use Rattle.jl_types.specs.Linkage.Links.{scratch};
 ghost use Rattle.jl_types.specs.Linkage.Calls.{dispatch};
 ghost use Rattle.jl_types.specs.Events.Event.{Event};
+ghost use Rattle.jl_types.specs.Events.Limits.{AreAllowed, AreNoFewer};
 ghost use Rattle.jl_types.specs.Events.History.{world_after};
 ghost use Rattle.jl_types.specs.declared.event.Made.{Made};
 ghost use Rattle.jl_types.specs.declared.event.Reply.{Reply};
@@ -18,29 +22,36 @@ ghost use Rattle.jl_core.specs.Logs.{Entry};
 ghost use Rattle.jl_renewal.specs.declared.released.Released.{Released};
 ghost use Rattle.jl_renewal.specs.Numbers.{Numbers, how_many, renumbered};
 ghost use Rattle.jl_renewal.specs.Staying.{numbers_of, staying_sites, is_in_staying_class};
-ghost use Rattle.jl_renewal.specs.Renewal.{IsRenewal, IsRefilled, CameFrom, renewal, fresh_rows};
+ghost use Rattle.jl_renewal.specs.Renewal.{IsRenewal, IsRefilled, CameFrom, renewal, renewal_fault, fresh_rows};
 ghost use Rattle.jl_renewal.specs.Adds.{Follow, Installs, InstallsFront};
 ghost use Rattle.jl_renewal.specs.Carries.{carried, IsMade};
 ghost use Rattle.jl_renewal.specs.Moved.{Flags, flags_of, AreThere, may_be_gone, moved_world, IsBeside, HaveSameLinks, HasNoOtherLinks, HasLinksOf};
 ghost use Rattle.jl_renewal.specs.Moved.{renumbered_install};
 ghost use Rattle.jl_renewal.specs.Renewed.{renewed, renumbered_result, renumbered_answer, renumbered_receiver, IsPresentReceiver};
 
-/// No event of a renewal is refused where as many sites may be requested in the fresh core as stay, and what there is to link there is what
-/// stays of the old one.
+/// No event of a renewal is refused where the fresh core may have what stays, and what there is to link there is what stays of the old one.
 pub fn renewals_are_accepted()
-    ensures accepted { (old : State) (released : Released) (max_sites : ℕ) → AreAccepted old.max_sites (events old)
-        → how_many (staying_sites (world_of old).classes (world_of old).places) ≤ max_sites → AreAccepted max_sites (renewal old released) }
-    ensures world { (old : State) (released : Released) → AreAccepted old.max_sites (events old)
+    ensures accepted { (old : State) (released : Released) (limits : Limits) → AreAccepted old.limits (events old)
+        → renewal_fault limits (world_of old) released ≡ None → AreAccepted limits (renewal old released) }
+    ensures world { (old : State) (released : Released) → AreAccepted old.limits (events old)
         → world_after (renewal old released) ≡ renewed (world_of old) released }
+{}
+
+/// Only sites can be short where a fresh core has the limits of the old one but for how many sites it may have: it is refused exactly where
+/// more stay, and by `SitesFull`.
+pub fn only_sites_can_be_short()
+    ensures { (old : State) (released : Released) (max_sites : ℕ) → AreAllowed old.limits → AreAccepted old.limits (events old)
+        → renewal_fault (record old.limits { sites = max_sites }) (world_of old) released
+        ≡ then_some (nat_lt max_sites (how_many (staying_sites (world_of old).classes (world_of old).places))) SitesFull }
 {}
 
 /// Linking commutes with renumbering: of each site that stays, the link from scratch, and each call's answer, is the same under new numbers.
 pub fn linking_commutes()
-    ensures links { (old : State) (released : Released) → AreAccepted old.max_sites (events old)
+    ensures links { (old : State) (released : Released) → AreAccepted old.limits (events old)
         → (s : ℕ) → slice_get (staying_sites (world_of old).classes (world_of old).places) s ≡ Some true
         → scratch (renewed (world_of old) released) (renumbered (numbers_of (world_of old) released).sites s)
         ≡ renumbered_result (numbers_of (world_of old) released) (scratch (world_of old) s) }
-    ensures calls { (old : State) (released : Released) → AreAccepted old.max_sites (events old)
+    ensures calls { (old : State) (released : Released) → AreAccepted old.limits (events old)
         → (s : ℕ) (recv : Recv) → slice_get (staying_sites (world_of old).classes (world_of old).places) s ≡ Some true
         → IsPresentReceiver (world_of old).classes recv
         → dispatch (renewed (world_of old) released) (renumbered (numbers_of (world_of old) released).sites s)
@@ -50,35 +61,35 @@ pub fn linking_commutes()
 
 /// The links of the fresh core are exactly those of the old one, under new numbers.
 pub fn links_come_over()
-    ensures { (old fresh : State) (released : Released) (max_sites : ℕ) (numbers : Numbers) → AreAccepted old.max_sites (events old)
-        → IsRenewal old released max_sites (fresh, numbers)
+    ensures { (old fresh : State) (released : Released) (limits : Limits) (numbers : Numbers) → AreAccepted old.limits (events old)
+        → IsRenewal old released limits (fresh, numbers)
         → (k : ℕ) (l : Link) → Contains (links_of fresh) (k, l) ↔ CameFrom (links_of old) numbers k l }
 {}
 
-/// Whatever an old core accepts after a renewal, the fresh one accepts under new numbers, where no event names what is gone and as many sites
-/// may be requested there. Its world is then that of the old one under these numbers, without what is gone.
+/// Whatever an old core accepts after a renewal, the fresh one accepts under new numbers, where no event names what is gone and it may have as
+/// many of each kind. Its world is then that of the old one under these numbers, without what is gone.
 pub fn entries_come_over()
-    ensures accepted { (old : State) (released : Released) (es fs : List Event) (max_sites : ℕ) → AreAccepted old.max_sites (events old ++ es)
-        → old.max_sites ≤ max_sites → AreThere (flags_of (world_of old) released) es fs → Follow max_sites (renewed (world_of old) released) fs }
-    ensures world { (old : State) (released : Released) (es fs : List Event) (max_sites : ℕ) → AreAccepted old.max_sites (events old ++ es)
-        → old.max_sites ≤ max_sites → AreThere (flags_of (world_of old) released) es fs
+    ensures accepted { (old : State) (released : Released) (es fs : List Event) (limits : Limits) → AreAccepted old.limits (events old ++ es)
+        → AreNoFewer old.limits limits → AreThere (flags_of (world_of old) released) es fs → Follow limits (renewed (world_of old) released) fs }
+    ensures world { (old : State) (released : Released) (es fs : List Event) (limits : Limits) → AreAccepted old.limits (events old ++ es)
+        → AreNoFewer old.limits limits → AreThere (flags_of (world_of old) released) es fs
         → fold step (renewed (world_of old) released) fs ≡ moved_world (flags_of (world_of old) released) (fold step (world_of old) es) }
 {}
 
-/// A fresh core that was refilled or renewed stands beside the old one, if as many sites may be requested there. As long as it does, it accepts
+/// A fresh core that was refilled or renewed stands beside the old one, if it may have as many of each kind. As long as it does, it accepts
 /// each event of the old one that names nothing that is gone, under the new numbers. It stands beside the old one after that event, too. So it
 /// does after an install in either. An entry that [`carry`](crate::carry) takes over is thus refused for want of memory alone. Only an event of
 /// a call site names what is gone: a new one, a new target, a bind.
 pub fn fresh_cores_stay_beside()
-    ensures first { (old before fresh : State) (entries : List Entry) (released : Released) (n : Numbers) → AreAccepted old.max_sites (events old)
-        → old.max_sites ≤ fresh.max_sites → IsRefilled (world_of old) entries released n before fresh
+    ensures first { (old before fresh : State) (entries : List Entry) (released : Released) (n : Numbers) → AreAccepted old.limits (events old)
+        → AreNoFewer old.limits fresh.limits → IsRefilled (world_of old) entries released n before fresh
         → IsBeside (flags_of (world_of old) released) old fresh n }
-    ensures renewed { (old fresh : State) (released : Released) (max_sites : ℕ) (n : Numbers) → AreAccepted old.max_sites (events old)
-        → old.max_sites ≤ max_sites → IsRenewal old released max_sites (fresh, n) → IsBeside (flags_of (world_of old) released) old fresh n }
+    ensures renewed { (old fresh : State) (released : Released) (limits : Limits) (n : Numbers) → AreAccepted old.limits (events old)
+        → AreNoFewer old.limits limits → IsRenewal old released limits (fresh, n) → IsBeside (flags_of (world_of old) released) old fresh n }
     ensures taken { (k : Flags) (old fresh : State) (n : Numbers) (e f : Event) → IsBeside k old fresh n
-        → IsOk (verdict old.max_sites (world_of old) e) → carried n e ≡ Some f → IsOk (verdict fresh.max_sites (world_of fresh) f) }
+        → IsOk (verdict old.limits (world_of old) e) → carried n e ≡ Some f → IsOk (verdict fresh.limits (world_of fresh) f) }
     ensures there { (k : Flags) (old fresh : State) (n : Numbers) (e : Event) → IsBeside k old fresh n
-        → IsOk (verdict old.max_sites (world_of old) e) → may_be_gone e ≡ false → is_some (carried n e) ≡ true }
+        → IsOk (verdict old.limits (world_of old) e) → may_be_gone e ≡ false → is_some (carried n e) ≡ true }
     ensures beside { (k : Flags) (old after fresh fresh_after : State) (n m : Numbers) (e f : Event) (reply : Reply) → IsBeside k old fresh n
         → has_read_file e ≡ true → IsAccepted old after e reply → carried n e ≡ Some f → IsMade f reply.made n m fresh fresh_after
         → IsBeside k after fresh_after m }
@@ -103,18 +114,18 @@ pub fn linking_commutes_beside()
 /// sites. These are then the rows of the old one under new numbers, and the fresh core accepts them.
 pub fn installed_links_stay_beside()
     ensures first { (old before between fresh : State) (entries : List Entry) (released : Released) (n : Numbers)
-        → AreAccepted old.max_sites (events old) → IsRefilled (world_of old) entries released n before between
+        → AreAccepted old.limits (events old) → IsRefilled (world_of old) entries released n before between
         → Installs (fresh_rows (world_of between) n (links_of old)) between fresh → HaveSameLinks old fresh n }
-    ensures renewed { (old fresh : State) (released : Released) (max_sites : ℕ) (n : Numbers) → AreAccepted old.max_sites (events old)
-        → IsRenewal old released max_sites (fresh, n) → HaveSameLinks old fresh n }
+    ensures renewed { (old fresh : State) (released : Released) (limits : Limits) (n : Numbers) → AreAccepted old.limits (events old)
+        → IsRenewal old released limits (fresh, n) → HaveSameLinks old fresh n }
     ensures carried { (k : Flags) (old after fresh fresh_after : State) (n m : Numbers) (e f : Event) (reply : Reply) → IsBeside k old fresh n
         → HaveSameLinks old fresh n → has_read_file e ≡ true → IsAccepted old after e reply → carried n e ≡ Some f
         → IsMade f reply.made n m fresh fresh_after → HaveSameLinks after fresh_after m }
     ensures rows { (k : Flags) (old fresh : State) (n : Numbers) (rows : List (ℕ × Link)) → IsBeside k old fresh n
-        → IsOk (verdict old.max_sites (world_of old) (event.Install rows)) → fresh_rows (world_of fresh) n rows ≡ map (renumbered_install n) rows }
+        → IsOk (verdict old.limits (world_of old) (event.Install rows)) → fresh_rows (world_of fresh) n rows ≡ map (renumbered_install n) rows }
     ensures taken { (k : Flags) (old fresh : State) (n : Numbers) (rows : List (ℕ × Link)) → IsBeside k old fresh n
-        → IsOk (verdict old.max_sites (world_of old) (event.Install rows))
-        → IsOk (verdict fresh.max_sites (world_of fresh) (event.Install (fresh_rows (world_of fresh) n rows))) }
+        → IsOk (verdict old.limits (world_of old) (event.Install rows))
+        → IsOk (verdict fresh.limits (world_of fresh) (event.Install (fresh_rows (world_of fresh) n rows))) }
     ensures installed { (k : Flags) (old after fresh fresh_after : State) (n : Numbers) (rows : List (ℕ × Link)) (reply there : Reply)
         → IsBeside k old fresh n → HaveSameLinks old fresh n → IsAccepted old after (event.Install rows) reply
         → IsAccepted fresh fresh_after (event.Install (fresh_rows (world_of fresh) n rows)) there → HaveSameLinks after fresh_after n }

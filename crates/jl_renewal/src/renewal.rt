@@ -1,6 +1,7 @@
 //! A fresh core that has what stays of an old one.
 
-ghost use Rattle.std.specs.Prelude.{◌≡◌, ◌≤◌, IfOk, IfErr, OnOk};
+ghost use Rattle.std.specs.Prelude.{◌≡◌, IfOk, IfErr, OnOk};
+ghost use Rattle.jl_types.specs.Events.Limits.{AreAllowed};
 ghost use Rattle.jl_renewal.specs.Renewal.{IsRenewal, IsRefusedRenewal, IsPast, IsRefilled, site_events};
 ghost use Rattle.jl_renewal.specs.Told.{told_renewal, IsFilledFrom, IsPartlyFilled};
 ghost use Rattle.jl_renewal.specs.Adds.{Adds, IsStoppedAt};
@@ -15,37 +16,38 @@ use crate::released::Released;
 use crate::stays::renumbering;
 use jl_core::{Core, Entry, EventMachine, Journal};
 use jl_relink::World;
-use jl_types::Refusal;
+use jl_types::{Limits, Refusal};
 use std::alloc::Global;
 
-/// A fresh core that has what stays of the old one, in the same order, under new numbers; so many places may be requested there. What
-/// stays are the loaders that aren't retired with their classes and the sites in these, and of the call sites and switch points those that
-/// aren't released, or are still needed. Each site that had a link has one.
+/// A fresh core that has what stays of the old one, in the same order, under new numbers, and that gives numbers up to these limits. They may
+/// be any, be they lower than the old core's. What stays are the loaders that aren't retired with their classes and the sites in these, and of
+/// the call sites and switch points those that aren't released, or are still needed. Each site that had a link has one.
 ///
 /// # Errors
 ///
-/// `SitesFull` where more sites stay than may be requested there; want of memory. No event is refused but for that.
+/// Where more stay than the limits allow: `SitesFull` of sites, `LoadersFull` of loaders, `Define(Full)` of classes, `CallSite(Full)` of call
+/// sites or of switch points, the first of them in this order; and want of memory. No event is refused but for want of memory.
 pub fn renew(
     alloc: Global,
     core: &Core,
     released: &Released,
-    max_sites: u32,
+    limits: Limits,
 ) -> Result<(Core, Renumbering), Refusal>
-    requires { 1 ≤ max_sites }
-    ensures renewal { IfOk result (IsRenewal core.now released.now max_sites) }
-    ensures refused { IfErr result (IsRefusedRenewal (world_of core.now) max_sites) }
+    requires { AreAllowed limits }
+    ensures renewal { IfOk result (IsRenewal core.now released.now limits) }
+    ensures refused { IfErr result (IsRefusedRenewal limits (world_of core.now) released.now) }
 {
-    let mut fresh = Core::new(alloc, max_sites)?;
+    let mut fresh = Core::with_limits(alloc, limits)?;
     let old = core.world();
-    let numbers = refill(alloc, &mut fresh, old, core.log(), released, max_sites)?;
+    let numbers = refill(alloc, &mut fresh, old, core.log(), released, limits)?;
     let linked = core.list_links(alloc)?;
     let rows = fresh_links(alloc, fresh.world(), linked.as_slice(), &numbers)?;
     install_all(alloc, &mut fresh, rows.as_slice())?;
     Ok((fresh, numbers))
 }
 
-/// Gives an empty core, or what keeps one, what stays of an old one, whose world and log these are, but for its links: those that
-/// [`fresh_links`] tells are then to be installed by [`install_all`]. The log may have [forgotten](Core::forget) what is past.
+/// Gives an empty core of these limits, or what keeps one, what stays of an old one, whose world and log these are, but for its links: those
+/// that [`fresh_links`] tells are then to be installed by [`install_all`]. The log may have [forgotten](Core::forget) what is past.
 ///
 /// # Errors
 ///
@@ -56,15 +58,15 @@ pub fn refill<M: EventMachine>(
     old: &World,
     log: &Journal<Entry>,
     released: &Released,
-    max_sites: u32,
+    limits: Limits,
 ) -> Result<Renumbering, Refusal>
     requires past { IsPast old.now log.now }
-    requires empty { M.state fresh.old ≡ empty_core max_sites }
+    requires empty { M.state fresh.old ≡ empty_core limits }
     ensures refilled { IfOk result (λ numbers. IsRefilled old.now log.now released.now numbers (M.state fresh.old) (M.state fresh.new)) }
-    ensures refused { IfErr result (IsRefusedRenewal old.now max_sites) }
-    ensures stops { IfErr result (IsPartlyFilled old.now log.now released.now max_sites (M.state fresh.old) (M.state fresh.new)) }
+    ensures refused { IfErr result (IsRefusedRenewal limits old.now released.now) }
+    ensures stops { IfErr result (IsPartlyFilled old.now log.now released.now limits (M.state fresh.old) (M.state fresh.new)) }
 {
-    try_refill(alloc, fresh, old, log, released, max_sites)
+    try_refill(alloc, fresh, old, log, released, limits)
 }
 
 /// As [`refill`], where nobody has shown that the world and the log are one past. An event may be refused then, and that refusal is the
@@ -72,7 +74,8 @@ pub fn refill<M: EventMachine>(
 ///
 /// # Errors
 ///
-/// `SitesFull` where more sites stay than may be requested there; want of memory; the refusal of an event. The fresh core has accepted those
+/// Where more stay than the limits allow: `SitesFull` of sites, `LoadersFull` of loaders, `Define(Full)` of classes, `CallSite(Full)` of call
+/// sites or of switch points, the first of them in this order; want of memory; the refusal of an event. The fresh core has accepted those
 /// before it then, and no others.
 pub fn try_refill<M: EventMachine>(
     alloc: Global,
@@ -80,18 +83,18 @@ pub fn try_refill<M: EventMachine>(
     old: &World,
     log: &Journal<Entry>,
     released: &Released,
-    max_sites: u32,
+    limits: Limits,
 ) -> Result<Renumbering, Refusal>
-    requires empty { M.state fresh.old ≡ empty_core max_sites }
+    requires empty { M.state fresh.old ≡ empty_core limits }
     ensures added { IfOk result (λ numbers. IsFilledFrom old.now log.now released.now numbers (M.state fresh.old) (M.state fresh.new)) }
     ensures past { IsPast old.now log.now
         → IfOk result (λ numbers. IsRefilled old.now log.now released.now numbers (M.state fresh.old) (M.state fresh.new)) }
-    ensures refused { IsPast old.now log.now → IfErr result (IsRefusedRenewal old.now max_sites) }
-    ensures stops { IfErr result (IsPartlyFilled old.now log.now released.now max_sites (M.state fresh.old) (M.state fresh.new)) }
+    ensures refused { IsPast old.now log.now → IfErr result (IsRefusedRenewal limits old.now released.now) }
+    ensures stops { IfErr result (IsPartlyFilled old.now log.now released.now limits (M.state fresh.old) (M.state fresh.new)) }
 {
     // Shows that what is present rests on what is present.
     let _classes = old.classes.count_in_order();
-    let numbers = renumbering(alloc, old, released, max_sites)?;
+    let numbers = renumbering(alloc, old, released, limits)?;
     add_all(alloc, fresh, old, log, &numbers)?;
     Ok(numbers)
 }

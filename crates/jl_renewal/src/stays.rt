@@ -1,10 +1,12 @@
 //! What stays.
 
-ghost use Rattle.std.specs.Prelude.{◌≡◌, ◌≤◌, ◌<◌, ◌^◌, ◌||◌, false, not, map, length, get_or, option_copied, IfOk, IfErr, OnOk};
+ghost use Rattle.std.specs.Prelude.{◌≡◌, ◌≤◌, ◌<◌, ◌^◌, ◌||◌, false, not, map, length, get_or, nat_lt, None, option_copied, IfOk, IfErr, OnOk};
+ghost use Rattle.std.specs.Bool.{then_some};
 ghost use Rattle.std.specs.List.{list_any, range_with_len};
 ghost use Rattle.jl_types.specs.Values.Members as members;
 ghost use Rattle.jl_renewal.specs.Numbers.{numbered, staying, how_many};
-ghost use Rattle.jl_renewal.specs.Renewal.{IsRefusedRenewal};
+ghost use Rattle.jl_renewal.specs.Renewal.{renewal_fault, IsRefusedRenewal};
+ghost use Rattle.jl_renewal.specs.Room.{class_fault, call_site_fault, IsFault};
 ghost use Rattle.jl_renewal.specs.Staying as what_stays;
 ghost use Rattle.jl_renewal.specs.Staying.{numbers_of, staying_loaders, staying_classes, staying_sites, staying_call_sites, staying_switches};
 ghost use Rattle.jl_renewal.specs.Staying.{staying_from, is_held, is_among, guards_by};
@@ -17,31 +19,32 @@ use indexmap::IndexSet;
 use jl_callsites::Sites;
 use jl_hierarchy::Classes;
 use jl_relink::World;
-use jl_types::{CallSiteId, ClassId, LoaderId, Place, Refusal, SiteNo, Target};
+use jl_types::{
+    CallSiteFault, CallSiteId, ClassId, DefineFault, Limits, LoaderId, Place, Refusal, SiteNo,
+    Target,
+};
 use std::alloc::{AllocError, Global};
 
-/// The numbers that what stays of the world has in a fresh core, where so many places may be requested.
+/// The numbers that what stays of the world has in a fresh core of these limits.
 ///
 /// # Errors
 ///
-/// `SitesFull` where more sites stay; want of memory.
+/// Where more stay than the limits allow: `SitesFull` of sites, `LoadersFull` of loaders, `Define(Full)` of classes, `CallSite(Full)` of call
+/// sites or of switch points, the first of them in this order; want of memory.
 pub(crate) fn renumbering(
     alloc: Global,
     old: &World,
     released: &Released,
-    max_sites: u32,
+    limits: Limits,
 ) -> Result<Renumbering, Refusal>
     ensures numbers { IfOk result (λ numbers. numbers ≡ numbers_of old.now released.now) }
-    ensures few { OnOk result (how_many (staying_sites old.now.classes old.now.places) ≤ max_sites) }
-    ensures refused { IfErr result (IsRefusedRenewal old.now max_sites) }
+    ensures fits { OnOk result (renewal_fault limits old.now released.now ≡ None) }
+    ensures refused { IfErr result (IsRefusedRenewal limits old.now released.now) }
 {
     let stays = sites_that_stay(alloc, &old.classes, &old.places)?;
-    if how_many(stays.as_slice()) > max_sites as usize {
-        return Err(Refusal::SitesFull);
-    }
-    let (loaders, classes) = class_numbers(alloc, &old.classes)?;
-    let sites = numbered(alloc, stays.as_slice())?;
-    let (call_sites, switches) = call_site_numbers(alloc, old, released)?;
+    let sites = numbered_within(alloc, stays.as_slice(), limits.sites, Refusal::SitesFull)?;
+    let (loaders, classes) = class_numbers(alloc, &old.classes, limits)?;
+    let (call_sites, switches) = call_site_numbers(alloc, old, released, limits)?;
     Ok(Renumbering {
         loaders,
         classes,
@@ -51,46 +54,79 @@ pub(crate) fn renumbering(
     })
 }
 
-/// The numbers of loaders and of classes. Want of memory is an error.
-#[tactic(auto, using(crate::proofs::NumberLaws::many_fewer))]
+/// The numbers of loaders and of classes.
+///
+/// # Errors
+///
+/// `LoadersFull` or `Define(Full)` where more stay than the limits allow, the first of them; want of memory.
 fn class_numbers(
     alloc: Global,
-    classes: &Classes,
-) -> Result<(Vec<Option<u32>>, Vec<Option<u32>>), AllocError>
-    ensures loaders { IfOk result (λ made. made.0.items ≡ numbered (staying_loaders classes.now)) }
-    ensures classes { IfOk result (λ made. made.1.items ≡ numbered (staying_classes classes.now)) }
+    old: &Classes,
+    limits: Limits,
+) -> Result<(Vec<Option<u32>>, Vec<Option<u32>>), Refusal>
+    ensures loaders { IfOk result (λ made. made.0.items ≡ numbered (staying_loaders old.now)) }
+    ensures classes { IfOk result (λ made. made.1.items ≡ numbered (staying_classes old.now)) }
+    ensures fits { OnOk result (class_fault limits old.now ≡ None) }
+    ensures refused { IfErr result (IsFault (class_fault limits old.now)) }
 {
-    let loaders = numbered(
-        alloc,
-        loaders_below(alloc, classes, classes.loader_count())?.as_slice(),
-    )?;
-    let classes = numbered(alloc, classes_that_stay(alloc, classes)?.as_slice())?;
+    let live = loaders_below(alloc, old, old.loader_count())?;
+    let loaders = numbered_within(alloc, live.as_slice(), limits.loaders, Refusal::LoadersFull)?;
+    let present = classes_that_stay(alloc, old)?;
+    let full = Refusal::Define(DefineFault::Full);
+    let classes = numbered_within(alloc, present.as_slice(), limits.classes, full)?;
     Ok((loaders, classes))
 }
 
-/// The numbers of call sites and of switch points. Want of memory is an error.
-#[tactic(auto, using(crate::proofs::NumberLaws::many_fewer))]
+/// The numbers of call sites and of switch points.
+///
+/// # Errors
+///
+/// `CallSite(Full)` where more stay than the limits allow; want of memory.
 fn call_site_numbers(
     alloc: Global,
     old: &World,
     released: &Released,
-) -> Result<(Vec<Option<u32>>, Vec<Option<u32>>), AllocError>
+    limits: Limits,
+) -> Result<(Vec<Option<u32>>, Vec<Option<u32>>), Refusal>
     ensures call_sites { IfOk result (λ made. made.0.items ≡ numbered (staying_call_sites old.now released.now)) }
     ensures switches { IfOk result (λ made. made.1.items ≡ numbered (staying_switches old.now released.now)) }
+    ensures fits { OnOk result (call_site_fault limits old.now released.now ≡ None) }
+    ensures refused { IfErr result (IsFault (call_site_fault limits old.now released.now)) }
 {
-    let stays = call_sites_that_stay(alloc, old, released)?;
-    let switches = switches_that_stay(alloc, &old.sites, stays.as_slice(), released)?;
-    Ok((
-        numbered(alloc, stays.as_slice())?,
-        numbered(alloc, switches.as_slice())?,
-    ))
+    let held = call_sites_that_stay(alloc, old, released)?;
+    let full = Refusal::CallSite(CallSiteFault::Full);
+    let call_sites = numbered_within(alloc, held.as_slice(), limits.call_sites, full)?;
+    let kept = switches_that_stay(alloc, &old.sites, held.as_slice(), released)?;
+    let full = Refusal::CallSite(CallSiteFault::Full);
+    let switches = numbered_within(alloc, kept.as_slice(), limits.switches, full)?;
+    Ok((call_sites, switches))
+}
+
+/// The numbers of those that stay, where they are no more than so many.
+///
+/// # Errors
+///
+/// This refusal where they are more; want of memory.
+fn numbered_within(
+    alloc: Global,
+    stays: &[bool],
+    most: u32,
+    full: Refusal,
+) -> Result<Vec<Option<u32>>, Refusal>
+    ensures numbers { IfOk result (λ numbers. numbers.items ≡ numbered stays.now) }
+    ensures fits { OnOk result (then_some (nat_lt most (how_many stays.now)) full ≡ None) }
+    ensures refused { IfErr result (IsFault (then_some (nat_lt most (how_many stays.now)) full)) }
+{
+    if how_many(stays) > most as usize {
+        return Err(full);
+    }
+    Ok(numbered(alloc, stays)?)
 }
 
 /// Whether each of the first so many loaders stays: those that aren't retired. Want of memory is an error.
 fn loaders_below(alloc: Global, classes: &Classes, count: usize) -> Result<Vec<bool>, AllocError>
-    requires { count ≤ 1024 }
-    ensures stays { IfOk result (λ stays. stays.items ≡ map (λ l. not (members.is_retired classes.now l)) (range_with_len 0 count)) }
-    ensures few { IfOk result (λ stays. length stays.items ≤ 1024) }
+    requires { count ≤ 2 ^ 20 }
+    ensures { IfOk result (λ stays. stays.items ≡ map (λ l. not (members.is_retired classes.now l)) (range_with_len 0 count)) }
 {
     let mut stays = Vec::with_capacity(alloc, count)?;
     for loader in 0..count {
@@ -101,8 +137,7 @@ fn loaders_below(alloc: Global, classes: &Classes, count: usize) -> Result<Vec<b
 
 /// Whether each class stays: those that are present. Want of memory is an error.
 fn classes_that_stay(alloc: Global, classes: &Classes) -> Result<Vec<bool>, AllocError>
-    ensures stays { IfOk result (λ stays. stays.items ≡ staying_classes classes.now) }
-    ensures few { IfOk result (λ stays. length stays.items ≤ 65536) }
+    ensures { IfOk result (λ stays. stays.items ≡ staying_classes classes.now) }
 {
     let count = classes.count_in_order();
     let mut stays = Vec::with_capacity(alloc, count)?;
@@ -133,11 +168,8 @@ fn call_sites_that_stay(
     old: &World,
     released: &Released,
 ) -> Result<Vec<bool>, AllocError>
-    ensures stays { IfOk result (λ stays. stays.items ≡ staying_call_sites old.now released.now) }
-    ensures few { IfOk result (λ stays. length stays.items ≤ 65536) }
+    ensures { IfOk result (λ stays. stays.items ≡ staying_call_sites old.now released.now) }
 {
-    // Bounds the result.
-    let _count = old.sites.few_call_sites();
     let mut stays = held_call_sites(alloc, old, released)?;
     keep_invoked(stays.as_mut_slice(), &old.sites);
     Ok(stays)
@@ -203,7 +235,7 @@ fn keep_invoked(stays: &mut [bool], sites: &Sites)
 
 /// The target of the call site of this number, if its flag is set.
 fn staying_target<'a>(stays: &[bool], sites: &'a Sites, number: usize) -> Option<&'a Target>
-    requires { number < 65536 }
+    requires { number < 2 ^ 20 }
     ensures { option_copied result ≡ flagged_target stays.now sites.now.call_sites number }
 {
     let site = sites.call_site_at(CallSiteId::new(number as u32))?;
@@ -222,10 +254,9 @@ fn switches_that_stay(
     stays: &[bool],
     released: &Released,
 ) -> Result<Vec<bool>, AllocError>
-    ensures stays { IfOk result (λ kept. kept.items
+    ensures { IfOk result (λ kept. kept.items
         ≡ map (λ p. not (is_among released.now.switches p) || list_any (λ site. guards_by p site.target) (staying stays.now sites.now.call_sites))
         (range_with_len 0 (length sites.now.switches))) }
-    ensures few { IfOk result (λ kept. length kept.items ≤ 65536) }
 {
     let mut kept = vec![in alloc; true; sites.few_switches()]?;
     let flags = kept.as_mut_slice();

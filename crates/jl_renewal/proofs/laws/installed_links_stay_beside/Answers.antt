@@ -16,13 +16,13 @@ returns-clause-first c old before between fresh entries released n accepted refi
     links_are_refilled old released accepted before between fresh entries n refilled installs
 
 pub returns-clause-renewed : goal.returns-clause-renewed
-returns-clause-renewed c old fresh released max_sites n accepted renewal = links_are_these old released accepted fresh max_sites n renewal
+returns-clause-renewed c old fresh released limits n accepted renewal = links_are_these old released accepted fresh limits n renewal
 
 pub returns-clause-carried : goal.returns-clause-carried
 returns-clause-carried c k old after fresh fresh_after n m e f reply beside same read accepted carries made =
     links_after k old after fresh fresh_after n m beside
     (still_beside k old fresh n beside e f carries
-    (ap is_ok (accepted_of (dropped (events old) e) (verdict old.max_sites (world_of old) e) reply accepted.answered).0)
+    (ap is_ok (accepted_of (dropped (events old) e) (verdict old.limits (world_of old) e) reply accepted.answered).0)
     after fresh_after m reply read accepted made)
     e f reply made.reply accepted made.accepted (λ s t at. neither_installs n e f carries s t) same
 
@@ -39,5 +39,5 @@ returns-clause-installed c k old after fresh fresh_after n rows reply there besi
     (fresh_rows (world_of fresh) n rows) fresh_after there accepted_there)
     (event.Install rows) (event.Install (fresh_rows (world_of fresh) n rows)) reply there accepted accepted_there
     (both_install k old fresh n beside rows
-    (ap is_ok (accepted_of (dropped (events old) (event.Install rows)) (verdict old.max_sites (world_of old) (event.Install rows)) reply accepted.answered).0))
+    (ap is_ok (accepted_of (dropped (events old) (event.Install rows)) (verdict old.limits (world_of old) (event.Install rows)) reply accepted.answered).0))
     same

@@ -16,7 +16,7 @@ pub returns-clause-carried : goal.returns-clause-carried
 returns-clause-carried c k old after fresh fresh_after n m e f reply beside only read accepted carries made =
     no_others_after k old after fresh fresh_after n m beside
     (still_beside k old fresh n beside e f carries
-    (ap is_ok (accepted_of (dropped (events old) e) (verdict old.max_sites (world_of old) e) reply accepted.answered).0)
+    (ap is_ok (accepted_of (dropped (events old) e) (verdict old.limits (world_of old) e) reply accepted.answered).0)
     after fresh_after m reply read accepted made)
     e f reply made.reply accepted made.accepted (λ s t at. neither_installs n e f carries s t) only
 

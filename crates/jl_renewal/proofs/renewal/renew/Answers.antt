@@ -21,7 +21,7 @@ returns-in_err-install_all-clause-refused c =
 
 pub returns-clause-renewal : goal.returns-clause-renewal
 returns-clause-renewal c =
-    is_renewal c.args.core.now c.args.released.now c.args.max_sites c.world-old.result.now c.log.result.now c.in_ok-numbers.numbers c.in_ok-fresh.fresh
+    is_renewal c.args.core.now c.args.released.now c.args.limits c.world-old.result.now c.log.result.now c.in_ok-numbers.numbers c.in_ok-fresh.fresh
     c.refill.new.fresh c.install_all.new.fresh c.as_slice-2.result.now c.as_slice.result.now c.world-old.ensures.world c.log.ensures.events
     c.in_ok-fresh.ensures c.in_ok-numbers.ensures.refilled
     (c.as_slice-2.ensures.value

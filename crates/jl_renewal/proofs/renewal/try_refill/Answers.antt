@@ -13,18 +13,18 @@ returns-in_err-add_all-clause-refused g c past =
     rw (p.1, p.2)
     (inr (lacks_memory (told_renewal c.args.old.now c.in_ok-numbers.numbers c.args.log.now) (g.M.EventMachine.state c.args.fresh.now)
     (g.M.EventMachine.state c.add_all.new.fresh) _
-    (may_renew (logged past.max_sites c.args.old.now c.args.log.now) c.args.released.now c.args.max_sites c.args.old.now c.args.log.now
+    (may_renew (logged past.limits c.args.old.now c.args.log.now) c.args.released.now c.args.limits c.args.old.now c.args.log.now
     c.in_ok-numbers.numbers (g.M.EventMachine.state c.args.fresh.now)
-    (begun_by c.args.old.now c.args.log.now past c.args.released.now c.args.max_sites (world.the_view c.old.inside) c.in_ok-numbers.numbers
-    (g.M.EventMachine.state c.args.fresh.now) c.old.view_is c.count_in_order-classes.ensures.order c.in_ok-numbers.ensures.few
+    (begun_by c.args.old.now c.args.log.now past c.args.released.now c.args.limits (world.the_view c.old.inside) c.in_ok-numbers.numbers
+    (g.M.EventMachine.state c.args.fresh.now) c.old.view_is c.count_in_order-classes.ensures.order c.in_ok-numbers.ensures.fits
     c.in_ok-numbers.ensures.numbers c.requires.empty))
     c.in_err-add_all.ensures.stops))
 
 pub returns-clause-past : goal.returns-clause-past
 returns-clause-past g c past =
-    is_refilled c.args.old.now c.args.log.now past c.args.released.now c.args.max_sites c.in_ok-numbers.numbers
+    is_refilled c.args.old.now c.args.log.now past c.args.released.now c.args.limits c.in_ok-numbers.numbers
     (g.M.EventMachine.state c.args.fresh.now) (g.M.EventMachine.state c.add_all.new.fresh) c.in_ok-numbers.ensures.numbers
-    (begun_by c.args.old.now c.args.log.now past c.args.released.now c.args.max_sites (world.the_view c.old.inside) c.in_ok-numbers.numbers
-    (g.M.EventMachine.state c.args.fresh.now) c.old.view_is c.count_in_order-classes.ensures.order c.in_ok-numbers.ensures.few
+    (begun_by c.args.old.now c.args.log.now past c.args.released.now c.args.limits (world.the_view c.old.inside) c.in_ok-numbers.numbers
+    (g.M.EventMachine.state c.args.fresh.now) c.old.view_is c.count_in_order-classes.ensures.order c.in_ok-numbers.ensures.fits
     c.in_ok-numbers.ensures.numbers c.requires.empty)
     c.in_ok-add_all.ensures.adds

@@ -1,11 +1,11 @@
-use Rattle.std.specs.Prelude.{◌≡◌, ◌≤◌, List, false, map, length, get_or}
+use Rattle.std.specs.Prelude.{◌≡◌, List, false, map, length, get_or}
 use Rattle.std.specs.List.{range_with_len}
-use Rattle.std.proofs.Common.{sym, ap, ap₂, subst, ◌∙◌, arith}
+use Rattle.std.proofs.Common.{sym, ap, ap₂, ◌∙◌}
 use Rattle.std.proofs.lemmas.List.FromFn.{length-map-range_with_len}
 use Rattle.jl_types.specs.Values.World.{World, CallSite}
 use Rattle.jl_renewal.specs.Staying.{is_held, staying_from}
 use Rattle.jl_renewal.proofs.MarkLaws.{whole_slice}
-use Rattle.jl_renewal.proofs.HeldLaws.{by_flags, length-staying_from}
+use Rattle.jl_renewal.proofs.HeldLaws.{by_flags}
 use Rattle.jl_renewal.proofs.stays.call_sites_that_stay.Goals as goal
 
 pub keep_invoked-requires : goal.keep_invoked-requires
@@ -17,8 +17,8 @@ keep_invoked-requires c =
     ap length begins
     ∙ (length-map-range_with_len held 0 (length w.sites.call_sites) ∙ sym (ap (λ (w : World). length w.sites.call_sites) c.old.view_is))
 
-pub returns-clause-stays : goal.returns-clause-stays
-returns-clause-stays c =
+pub returns : goal.returns
+returns c =
     let w = c.args.old.now in
     let held = is_held w c.args.released.now in
     let first = c.as_mut_slice.result.now in
@@ -28,10 +28,3 @@ returns-clause-stays c =
     ∙ (keeps
     ∙ (ap₂ (λ flags (sites : List CallSite). staying_from (λ k. get_or flags k false) 0 sites) begins (ap (λ (w : World). w.sites.call_sites) c.old.view_is)
     ∙ by_flags held w.sites.call_sites))
-
-pub returns-clause-few : goal.returns-clause-few
-returns-clause-few c =
-    let sites = c.args.old.now.sites.call_sites in
-    let few : length sites ≤ 65536 = subst (λ (w : World). length w.sites.call_sites ≤ 65536) c.old.view_is c.few_call_sites-count.ensures.few in
-    let as_many = length-staying_from (is_held c.args.old.now c.args.released.now) 0 sites in
-    subst (λ flags. length flags ≤ 65536) (sym (returns-clause-stays c)) (omega (arith, few, as_many))

@@ -7,8 +7,8 @@ use Rattle.jl_renewal.specs.Marks.{marked, cleared}
 use Rattle.jl_renewal.proofs.MarkLaws.{all_but, whole_slice}
 use Rattle.jl_renewal.proofs.stays.switches_that_stay.Goals as goal
 
-pub returns-clause-stays : goal.returns-clause-stays
-returns-clause-stays c =
+pub returns : goal.returns
+returns c =
     let sites = c.args.sites.now in
     let released = c.args.released.now.switches in
     let guarded : ℕ → Bool = λ p. list_any (λ site. guards_by p site.target) (staying c.args.stays.now sites.call_sites) in

@@ -1,0 +1,31 @@
+-- Whether a fresh core may have what stays, of some kinds alone. A means of proof.
+use Rattle.std.specs.Prelude.{◌≡◌, ◌⊎◌, nat_lt, [], ◌∷◌, Option, Some}
+use Rattle.std.specs.Bool.{then_some}
+use Rattle.jl_types.specs.declared.limits.Limits.{Limits}
+use Rattle.jl_types.specs.declared.refusal.Refusal.{Refusal}
+use Rattle.jl_types.specs.declared.refusal.Refusal.TheVariants.{Memory, LoadersFull, Define, CallSite}
+use Rattle.jl_types.specs.declared.refusal.DefineFault.TheVariants as define
+use Rattle.jl_types.specs.declared.refusal.CallSiteFault.TheVariants as fault
+use Rattle.jl_types.specs.Values.World.{World, Classes}
+use Rattle.jl_types.specs.Linkage.Resolution.{first_of}
+use Rattle.jl_renewal.specs.declared.released.Released.{Released}
+use Rattle.jl_renewal.specs.Numbers.{how_many}
+use Rattle.jl_renewal.specs.Staying.{staying_loaders, staying_classes, staying_call_sites, staying_switches}
+
+-- of loaders and of classes
+abbrev pub class_fault : Limits → Classes → Option Refusal
+class_fault limits cs = first_of (
+    then_some (nat_lt limits.loaders (how_many (staying_loaders cs))) LoadersFull
+    ∷ then_some (nat_lt limits.classes (how_many (staying_classes cs))) (Define define.Full)
+    ∷ [])
+
+-- of call sites and of switch points
+abbrev pub call_site_fault : Limits → World → Released → Option Refusal
+call_site_fault limits w released = first_of (
+    then_some (nat_lt limits.call_sites (how_many (staying_call_sites w released))) (CallSite fault.Full)
+    ∷ then_some (nat_lt limits.switches (how_many (staying_switches w released))) (CallSite fault.Full)
+    ∷ [])
+
+-- it is this refusal, or memory lacks
+abbrev pub IsFault : Option Refusal → Refusal → Type 0
+IsFault fault r = (fault ≡ Some r) ⊎ (r ≡ Memory)
