@@ -42,7 +42,7 @@ const WIDE: Called = Called {
 /// Starts the server of these parts, under a name, and lets it go.
 fn start<K: Name, H: Wait>(rt: &HostRuntime, handle: &H, parts: Parts) -> io::Result<bool>
     requires book { parts.book ≡ K.book }
-    requires sites { parts.max_sites ≡ K.max_sites }
+    requires limits { parts.limits ≡ K.limits }
 {
     match &parts.start::<K, &H>(rt.alloc(), handle) {
         Ok((_server, callers)) => told(rt, PARTS, &callers.len()),

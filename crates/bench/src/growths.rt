@@ -54,7 +54,7 @@ fn ask_server<K: Name, H: Wait>(
     deeds: &[Deed],
 ) -> io::Result<()>
     requires book { parts.book ≡ K.book }
-    requires sites { parts.max_sites ≡ K.max_sites }
+    requires limits { parts.limits ≡ K.limits }
 {
     match parts.start::<K, &H>(rt.alloc(), handle) {
         Ok((server, callers)) => ask_caller(rt, handle, server, callers, shares, deeds),

@@ -14,6 +14,9 @@ use std::time::Instant;
 /// How many classes are timed at a time.
 const BATCH: usize = 3_000;
 
+/// The most classes.
+const MOST_CLASSES: u32 = 65_536;
+
 /// How many questions of a kind are asked about each class.
 const ROUNDS: u32 = 32;
 
@@ -22,7 +25,8 @@ const COPIES: u32 = 64;
 
 impl Takes for Classes {
     fn defines(&mut self, alloc: Global, file: ClassFile) -> bool {
-        self.define(alloc, LoaderId::new(0), file).is_ok()
+        self.define(alloc, LoaderId::new(0), file, MOST_CLASSES)
+            .is_ok()
     }
 
     fn requests(&mut self, _alloc: Global, _place: Place) -> bool {

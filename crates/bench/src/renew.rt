@@ -1,8 +1,6 @@
 //! Times renewals of a core with the classes of the input, its places and their links. Nothing was let go, and all stays. Prints what each
 //! fresh core has.
 
-ghost use Rattle.std.specs.Prelude.{◌≤◌};
-
 use crate::fill::fill;
 use crate::input::Input;
 use crate::link::{sites_of, time_installs};
@@ -25,16 +23,9 @@ fn tell_core(rt: &HostRuntime, core: &Core) -> io::Result<()> {
 }
 
 /// Times a renewal. The fresh core is let go. A refusal is an error.
-fn time_renewal(
-    rt: &HostRuntime,
-    core: &Core,
-    released: &Released,
-    max_sites: u32,
-) -> io::Result<()>
-    requires { 1 ≤ max_sites }
-{
+fn time_renewal(rt: &HostRuntime, core: &Core, released: &Released) -> io::Result<()> {
     let start = Instant::now(rt)?;
-    match &renew(rt.alloc(), core, released, max_sites) {
+    match &renew(rt.alloc(), core, released, core.limits()) {
         Ok((fresh, _numbers)) => {
             tell(rt, "events renewed", core.log().len(), &start)?;
             tell_core(rt, fresh)
@@ -54,7 +45,7 @@ pub(crate) fn measure(rt: &HostRuntime, input: &Input) -> io::Result<()> {
         switches: Seq::of(Vec::new(rt.alloc())),
     };
     for _ in 0..ROUNDS {
-        time_renewal(rt, &core, &released, input.max_sites())?;
+        time_renewal(rt, &core, &released)?;
     }
     Ok(())
 }

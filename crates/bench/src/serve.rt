@@ -104,7 +104,7 @@ fn start<K: Name + Send + Sync, R: Threads + Wait + Sync>(
     words: &[String],
 ) -> io::Result<()>
     requires book { parts.book ≡ K.book }
-    requires sites { parts.max_sites ≡ K.max_sites }
+    requires limits { parts.limits ≡ K.limits }
 {
     match parts.start::<K, &R>(rt.alloc(), handle) {
         Ok((server, callers)) => open(rt, handle, handle, server, callers, input, words),

@@ -2,7 +2,7 @@
 //! kind are nearly used up, the core is renewed, with what its owner let go, and the owner takes the new numbers over. Where the third word is
 //! 0, it isn't, and this ends where a number lacks. Nothing of the input is asked.
 
-use crate::rounds::{Owned, SITES, files};
+use crate::rounds::{Owned, files};
 use crate::told::{number_or, tell};
 use jl_core::Core;
 use jl_renewal::renew;
@@ -23,7 +23,7 @@ const TOLD: u64 = 100_000;
 /// Renews the core, and lets the old one go.
 fn renewed(alloc: Global, owned: &mut Owned) -> Result<(), Refusal> {
     let released = owned.held.released(alloc)?;
-    let (fresh, numbers) = renew(alloc, &owned.core, &released, SITES)?;
+    let (fresh, numbers) = renew(alloc, &owned.core, &released, owned.core.limits())?;
     owned.core = fresh;
     owned.held.take_over(&numbers)?;
     Ok(())

@@ -9,6 +9,7 @@ use Rattle.serde_json.proofs.OnLiterals.{serde_json_on_literals}
 use Rattle.jl_types.specs.declared.event.EventOf.TheVariants as event
 use Rattle.jl_types.specs.declared.event.Reply.{Reply}
 use Rattle.jl_types.specs.declared.refusal.Refusal.TheVariants.{UnknownClass}
+use Rattle.jl_types.specs.Events.Limits.{fixed}
 use Rattle.jl_types.specs.Events.Entries.{Entry}
 use Rattle.jl_json.specs.declared.command.Command.TheVariants as command
 use Rattle.jl_json.specs.LinkAnswers.{site_links_data}
@@ -23,19 +24,19 @@ use Rattle.jl_cli.specs.Farms.{IsServedAs, IsCommandServed, IsLastLine, FarmLong
 -- ---- a command
 
 -- an event that is taken is one entry more
-taken_without_an_entry : (reply : Reply) → IsServedAs 65536 [] event.NewLoader (Ok reply) [] → ⊥
+taken_without_an_entry : (reply : Reply) → IsServedAs (fixed 65536) [] event.NewLoader (Ok reply) [] → ⊥
 taken_without_an_entry reply is = let more = is.1 in omega (arith, more)
 
 -- what is refused has that refusal
-loader_refused : IsServedAs 65536 [] event.NewLoader (Err UnknownClass) [] → ⊥
+loader_refused : IsServedAs (fixed 65536) [] event.NewLoader (Err UnknownClass) [] → ⊥
 loader_refused (inl e) = cc e
 loader_refused (inr e) = let clash = e.0 in cc clash
 
 -- links are no command, nor are preparations, calls and installs, and nothing happens
-links_do_nothing : (old new : List Entry) (answer : Data) → IsCommandServed 65536 old command.Links answer new → new ≡ old
+links_do_nothing : (old new : List Entry) (answer : Data) → IsCommandServed (fixed 65536) old command.Links answer new → new ≡ old
 links_do_nothing old new answer is = is.1
 
-install_does_nothing : (old new : List Entry) (answer : Data) (batch : ℕ) → IsCommandServed 65536 old (command.Apply (event.Install batch)) answer new
+install_does_nothing : (old new : List Entry) (answer : Data) (batch : ℕ) → IsCommandServed (fixed 65536) old (command.Apply (event.Install batch)) answer new
     → new ≡ old
 install_does_nothing old new answer batch is = is.1
 
@@ -67,7 +68,7 @@ module _ (K : Type 0) where
   two_jobs list = refl
 
   -- what a caller that has learnt nothing reports stands in no last line behind an accepted event
-  told_nothing : (entry : Entry) (text : List ℕ) (last : IsLastLine K 65536 (entry ∷ []) text) → last.callers ≡ [] ∷ [] → ⊥
+  told_nothing : (entry : Entry) (text : List ℕ) (last : IsLastLine K (fixed 65536) (entry ∷ []) text) → last.callers ≡ [] ∷ [] → ⊥
   told_nothing entry text last e =
       let told : IsPrefix (entry ∷ []) [] =
       All-head (IsPrefix (entry ∷ [])) [] [] (subst (λ (cs : List (List Entry)). All (IsPrefix (entry ∷ [])) cs) e last.told) in

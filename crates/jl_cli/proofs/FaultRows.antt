@@ -3,6 +3,7 @@ use Rattle.std.proofs.Common.{◌≡◌, ℕ, true, false, List, [], ◌∷◌, 
 use Rattle.std.proofs.lemmas.List.{append-nil}
 use Rattle.std.specs.Prelude.{codes}
 use Rattle.std.specs.List.{flat_map}
+use Rattle.jl_types.specs.Events.Limits.{fixed}
 use Rattle.jl_types.specs.declared.link.Link.{Link}
 use Rattle.jl_farm.specs.declared.fault.FarmFault.TheVariants as farm_fault
 use Rattle.jl_core.specs.State.{empty_core}
@@ -94,7 +95,7 @@ memory_is_not_long lines = tt
 
 -- a new session with one batch
 abbrev one_batch : Session
-one_batch = record { core = empty_core 65536; batches = [] ∷ [] }
+one_batch = record { core = empty_core (fixed 65536); batches = [] ∷ [] }
 
 other_session : one_batch ≡ new_session → ⊥
 other_session same = let batches : ◌≡◌ {A = List (List (ℕ × Link))} ([] ∷ []) [] = λ i. (same i).batches in cc batches

@@ -1,5 +1,6 @@
 -- No answer of a farm has a float, so its text is stated.
 use Rattle.std.proofs.Common.{◌≡◌, ap, ℕ, List, [], ◌∷◌, Bool, true, false, ◌||◌, map, refl}
+use Rattle.jl_types.specs.declared.limits.Limits.{Limits}
 use Rattle.serde_json.specs.Data.{Data}
 use Rattle.serde_json.specs.Written.{has_float, items_have_float}
 use Rattle.serde_json.specs.View.{items_of}
@@ -17,18 +18,18 @@ use Rattle.jl_cli.specs.Farms.{report_data, reports_data, last_data}
 
 -- ---- what a line is answered
 
-module _ (max_sites : ℕ) (old : List Entry) where
-  command_floats : (asked : Command) (answer : Data) (new : List Entry) → IsCommandServed max_sites old asked answer new → has_float answer ≡ false
+module _ (limits : Limits) (old : List Entry) where
+  command_floats : (asked : Command) (answer : Data) (new : List Entry) → IsCommandServed limits old asked answer new → has_float answer ≡ false
   command_floats (command.Apply asked) answer new is =
-      obeyed_floats (IsServed max_sites) IsNoInstall old (λ e said _ so. event_floats so.outcome said so.said) (λ batch said _ so. ap has_float so.0)
+      obeyed_floats (IsServed limits) IsNoInstall old (λ e said _ so. event_floats so.outcome said so.said) (λ batch said _ so. ap has_float so.0)
       asked answer new is
   command_floats (command.Prepare sites) answer new is = ap has_float is.0
   command_floats (command.Call site recv) answer new is = ap has_float is.0
   command_floats command.Links answer new is = ap has_float is.0
 
-  pub line_floats : (line : List ℕ) (answer : Data) (new : List Entry) → IsLineServed max_sites old line answer new → has_float answer ≡ false
+  pub line_floats : (line : List ℕ) (answer : Data) (new : List Entry) → IsLineServed limits old line answer new → has_float answer ≡ false
   line_floats line answer new is =
-      line_so (IsCommandServed max_sites) old (λ said _. has_float said ≡ false) command_floats (λ _ same. refl) answer new line is
+      line_so (IsCommandServed limits) old (λ said _. has_float said ≡ false) command_floats (λ _ same. refl) answer new line is
 
 -- ---- the last line
 

@@ -1,5 +1,6 @@
 -- What a session, or a caller of a server, has where memory lacks for the text of an answer.
-use Rattle.std.proofs.Common.{◌≡◌, refl, inr, List, ℕ, Result}
+use Rattle.std.proofs.Common.{refl, inr, List, ℕ, Result}
+use Rattle.jl_types.specs.declared.limits.Limits.{Limits}
 use mathlib.Core.List.{IsPrefix}
 use Rattle.serde_json.specs.Written.{compact_text}
 use Rattle.jl_types.specs.Events.Event.{Event}
@@ -21,16 +22,16 @@ run_lacks old new line lacks =
     lacks_as old new (λ answer. IsSessionAnswer old line answer new) (λ text. IsAnswer Run old line text new)
     (λ answer said. (compact_text answer, (answer, said, refl))) lacks
 
-pub farm_lacks : (max_sites : ℕ) (old new : List Entry) (line : List ℕ)
-    → LacksAnswer old (λ answer. IsLineServed max_sites old line answer new) new → Lacks (IsFarmAnswer max_sites) old line new
-farm_lacks max_sites old new line lacks =
-    lacks_as old new (λ answer. IsLineServed max_sites old line answer new) (λ text. IsFarmAnswer max_sites old line text new)
+pub farm_lacks : (limits : Limits) (old new : List Entry) (line : List ℕ)
+    → LacksAnswer old (λ answer. IsLineServed limits old line answer new) new → Lacks (IsFarmAnswer limits) old line new
+farm_lacks limits old new line lacks =
+    lacks_as old new (λ answer. IsLineServed limits old line answer new) (λ text. IsFarmAnswer limits old line text new)
     (λ answer said. (compact_text answer, (answer, said, refl))) lacks
 
 -- the event came to its outcome, whatever is said of it
-pub served_lacks : (max_sites : ℕ) (old new : List Entry) (e : Event) (outcome : Result Reply Refusal) → IsPrefix old new → IsLegal max_sites new
-    → IsServedAs max_sites old e outcome new → LacksAnswer old (λ answer. IsServed max_sites old e answer new) new
-served_lacks max_sites old new e outcome grown legal applied = inr (
+pub served_lacks : (limits : Limits) (old new : List Entry) (e : Event) (outcome : Result Reply Refusal) → IsPrefix old new → IsLegal limits new
+    → IsServedAs limits old e outcome new → LacksAnswer old (λ answer. IsServed limits old e answer new) new
+served_lacks limits old new e outcome grown legal applied = inr (
   (some_data outcome).0,
   record { outcome = outcome; grown = grown; legal = legal; applied = applied; said = (some_data outcome).1 },
 )

@@ -2,6 +2,7 @@
 use Rattle.std.specs.Prelude.{◌≡◌, ℕ, List, Option, IfSome}
 use Rattle.std.specs.Io.KnownBytes.{IsAtEnd}
 use Rattle.core.specs.declared.marker.Brand.{Brand}
+use Rattle.jl_types.specs.Events.Limits.{fixed}
 use Rattle.jl_words.specs.Words.{AskFor}
 use Rattle.jl_words.specs.declared.words.Words.{Words}
 use Rattle.jl_words.specs.declared.words.Words.TheVariants.{Lines, Farm}
@@ -15,7 +16,7 @@ use Rattle.jl_cli.specs.Farms.{FarmsAll}
 -- each line of the input is answered, in the mode that the words ask for, or by a farm
 abbrev pub AnswersAsked : Words → List ℕ → Option (List ℕ) → Option (List ℕ) → Type 0
 AnswersAsked (Lines mode) input old new = AnswersAll (IsAnswer mode) new_session input old new
-AnswersAsked (Farm workers) input old new = FarmsAll Brand 65536 input old new
+AnswersAsked (Farm workers) input old new = FarmsAll Brand (fixed 65536) input old new
 
 -- the input was read to its end, and its lines were answered
 abbrev pub HasAnswered : Words → Option (List ℕ) → Option (List ℕ) → Option (List ℕ) → Option (List ℕ) → Type 0

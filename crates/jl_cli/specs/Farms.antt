@@ -3,6 +3,7 @@
 use Rattle.std.specs.Prelude.{◌≡◌, ◌⊎◌, ◌<◌, ℕ, List, [], ◌∷◌, ◌++◌, codes, map, length, All, Option, Result, Ok, Err}
 use mathlib.Core.List.{IsPrefix}
 use Rattle.std.specs.Io.KnownBytes.{Appends}
+use Rattle.jl_types.specs.declared.limits.Limits.{Limits}
 use Rattle.serde_json.specs.Data.{Data, string, array}
 use Rattle.serde_json.specs.View.{items_of}
 use Rattle.serde_json.specs.Written.{compact_text}
@@ -31,16 +32,16 @@ use Rattle.jl_lines.specs.Answers.{AreAnswers, AnswersAll, AnswersEarlier, AreSh
 -- ---- what a command is answered
 
 -- the event ends what is seen afterwards, with its reply; or it is refused after that
-abbrev pub IsServedAs : ℕ → List Entry → Event → Result Reply Refusal → List Entry → Type 0
-IsServedAs max_sites old e (Ok reply) new = EndsWith new e reply × (length old < length new)
-IsServedAs max_sites old e (Err r) new = IsRefused (verdict max_sites (world_after (events_of new)) e) r
+abbrev pub IsServedAs : Limits → List Entry → Event → Result Reply Refusal → List Entry → Type 0
+IsServedAs limits old e (Ok reply) new = EndsWith new e reply × (length old < length new)
+IsServedAs limits old e (Err r) new = IsRefused (verdict limits (world_after (events_of new)) e) r
 
 -- the server takes the event or refuses it, after all that was seen before, and the answer says which
-pub record IsServed (max_sites : ℕ) (old : List Entry) (e : Event) (answer : Data) (new : List Entry) : Type 0 where
+pub record IsServed (limits : Limits) (old : List Entry) (e : Event) (answer : Data) (new : List Entry) : Type 0 where
   pub outcome : Result Reply Refusal
   pub grown : IsPrefix old new
-  pub legal : IsLegal max_sites new
-  pub applied : IsServedAs max_sites old e outcome new
+  pub legal : IsLegal limits new
+  pub applied : IsServedAs limits old e outcome new
   pub said : IsEventData outcome answer
 
 -- an install is no command here
@@ -48,20 +49,20 @@ abbrev pub IsNoInstall : List Entry → ℕ → Data → List Entry → Type 0
 IsNoInstall old batch answer new = IsNoCommand old answer new
 
 -- an event; preparations, calls and lists of links are none here
-abbrev pub IsCommandServed : ℕ → List Entry → Command → Data → List Entry → Type 0
-IsCommandServed max_sites old (command.Apply asked) answer new = IsObeyed (IsServed max_sites) IsNoInstall old asked answer new
-IsCommandServed max_sites old (command.Prepare sites) answer new = IsNoCommand old answer new
-IsCommandServed max_sites old (command.Call site recv) answer new = IsNoCommand old answer new
-IsCommandServed max_sites old command.Links answer new = IsNoCommand old answer new
+abbrev pub IsCommandServed : Limits → List Entry → Command → Data → List Entry → Type 0
+IsCommandServed limits old (command.Apply asked) answer new = IsObeyed (IsServed limits) IsNoInstall old asked answer new
+IsCommandServed limits old (command.Prepare sites) answer new = IsNoCommand old answer new
+IsCommandServed limits old (command.Call site recv) answer new = IsNoCommand old answer new
+IsCommandServed limits old command.Links answer new = IsNoCommand old answer new
 
 -- ---- what a line is answered
 
-abbrev pub IsLineServed : ℕ → List Entry → List ℕ → Data → List Entry → Type 0
-IsLineServed max_sites old line answer new = IsLineAnswer (List Entry) (IsCommandServed max_sites) old line answer new
+abbrev pub IsLineServed : Limits → List Entry → List ℕ → Data → List Entry → Type 0
+IsLineServed limits old line answer new = IsLineAnswer (List Entry) (IsCommandServed limits) old line answer new
 
 -- the text that a line is answered, and what the caller has seen afterwards
-abbrev pub IsFarmAnswer : ℕ → List Entry → List ℕ → List ℕ → List Entry → Type 0
-IsFarmAnswer max_sites old line text new = IsTextOf (λ answer. IsLineServed max_sites old line answer new) text
+abbrev pub IsFarmAnswer : Limits → List Entry → List ℕ → List ℕ → List Entry → Type 0
+IsFarmAnswer limits old line text new = IsTextOf (λ answer. IsLineServed limits old line answer new) text
 
 -- ---- the last line
 
@@ -90,30 +91,30 @@ last_data list reports = farm_data (installed_links (events_of list)) (reports_d
 
 -- The text of the last line, after what was seen when the lines were answered: each site that is requested by then is a job, and the reports are of
 -- these, each once, in order, by callers that had been told of what was seen; the links are those after a list that comes later.
-pub record IsLastLine (K : Type 0) (max_sites : ℕ) (answered : List Entry) (text : List ℕ) : Type 0 where
+pub record IsLastLine (K : Type 0) (limits : Limits) (answered : List Entry) (text : List ℕ) : Type 0 where
   pub asked : List Entry
   pub later : IsPrefix answered asked
   pub reports : List (Report K)
   pub each : jobs_of reports ≡ site_numbers (events_of asked)
   pub callers : List (List Entry)
   pub told : All (IsPrefix answered) callers
-  pub shown : All (IsReport max_sites callers (job_of_each (site_numbers (events_of asked)))) reports
+  pub shown : All (IsReport limits callers (job_of_each (site_numbers (events_of asked)))) reports
   pub history : AreOfOneHistory reports
   pub linked : List Entry
   pub grown : IsPrefix asked linked
-  pub legal : IsLegal max_sites linked
+  pub legal : IsLegal limits linked
   pub is : text ≡ compact_text (last_data linked reports)
 
 -- ---- what a run leaves
 
 -- Each line is answered, from a server on that has taken no event, and behind the answers stands the last line, and nothing else.
-pub record FarmsAll (K : Type 0) (max_sites : ℕ) (input : List ℕ) (old new : Option (List ℕ)) : Type 0 where
+pub record FarmsAll (K : Type 0) (limits : Limits) (input : List ℕ) (old new : Option (List ℕ)) : Type 0 where
   pub short : AreShort (lines_of input)
   pub output : List ℕ
   pub seen : List Entry
-  pub answers : AreAnswers (IsFarmAnswer max_sites) [] (lines_of input) output seen
+  pub answers : AreAnswers (IsFarmAnswer limits) [] (lines_of input) output seen
   pub text : List ℕ
-  pub last : IsLastLine K max_sites seen text
+  pub last : IsLastLine K limits seen text
   pub written : Appends old new (output ++ ended text)
 
 -- a fault of lines comes before a line that is too long where it says so; one of the farm after all lines
@@ -123,6 +124,6 @@ FarmLongIf (Farm fault) after = after ≡ []
 
 -- Where memory lacks, the answers to some first lines were written whole, and among them those to all lines whose newline had been read when this was
 -- left to read; or all lines were answered, and it lacks for the last line.
-abbrev pub FarmsEarlier : ℕ → List ℕ → Option (List ℕ) → Option (List ℕ) → Option (List ℕ) → Type 0
-FarmsEarlier max_sites input unread old new =
-    AnswersEarlier (IsFarmAnswer max_sites) [] input unread old new ⊎ AnswersAll (IsFarmAnswer max_sites) [] input old new
+abbrev pub FarmsEarlier : Limits → List ℕ → Option (List ℕ) → Option (List ℕ) → Option (List ℕ) → Type 0
+FarmsEarlier limits input unread old new =
+    AnswersEarlier (IsFarmAnswer limits) [] input unread old new ⊎ AnswersAll (IsFarmAnswer limits) [] input old new

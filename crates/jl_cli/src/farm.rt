@@ -27,7 +27,7 @@ use std::thread::Threads;
 impl<'a, K: Name, H: Wait, S: Wait + Drop> ServerCommands<'a, K, H, S> {
     /// One job for each requested site, in order.
     fn jobs(&self, caller: &mut Caller<K>) -> Result<Vec<Seq<SiteNo>>, AllocError>
-        requires { K.max_sites ≤ 65536 }
+        requires { K.limits.sites ≤ 65536 }
         ensures own { IsPrefix caller.old caller.new }
         ensures jobs { IfOk result (λ jobs. jobs.items ≡ job_of_each (site_numbers (events_of caller.new))) }
         ensures numbers { IfOk result (λ jobs. range_with_len 0 (vec_len jobs) ≡ site_numbers (events_of caller.new)) }
@@ -40,7 +40,7 @@ impl<'a, K: Name, H: Wait, S: Wait + Drop> ServerCommands<'a, K, H, S> {
     /// The links that are installed, and these reports.
     fn last_value(&self, caller: &mut Caller<K>, reports: &[Report<K>]) -> Result<Value, AllocError>
         ensures own { IsPrefix caller.old caller.new }
-        ensures legal { IfOk result (λ _. IsLegal K.max_sites caller.new) }
+        ensures legal { IfOk result (λ _. IsLegal K.limits caller.new) }
         ensures value { IfOk result (λ v. view v ≡ last_data caller.new reports.now) }
     {
         let reports = reports_value(self.alloc, reports)?;
@@ -56,7 +56,7 @@ fn last_text<K: Name, H: Wait, S: Wait + Drop>(
     reports: &[Report<K>],
 ) -> Result<Vec<u8>, AllocError>
     ensures own { IsPrefix caller.old caller.new }
-    ensures legal { IfOk result (λ _. IsLegal K.max_sites caller.new) }
+    ensures legal { IfOk result (λ _. IsLegal K.limits caller.new) }
     ensures text { IfOk result (λ text. text.items ≡ compact_text (last_data caller.new reports.now)) }
 {
     let answer = served.last_value(caller, reports)?;
@@ -106,7 +106,7 @@ fn reports_on<K: Name + Send + Sync, H: Threads + Wait + Sync, S: Wait + Drop + 
     requires workers { (1 ≤ vec_len workers) × (vec_len workers ≤ 16) }
     requires jobs { vec_len jobs ≤ 65536 }
     ensures jobs { IfOk result (λ reports. jobs_of reports.items ≡ range_with_len 0 (vec_len jobs)) }
-    ensures shown { IfOk result (λ reports. All (IsReport K.max_sites workers.items jobs.items) reports.items) }
+    ensures shown { IfOk result (λ reports. All (IsReport K.limits workers.items jobs.items) reports.items) }
     ensures history { IfOk result (λ reports. AreOfOneHistory reports.items) }
     ensures farm { IfErr result IsOfFarm }
     ensures unwritten { IfErr result IsUnwritten }
@@ -142,8 +142,8 @@ pub(crate) fn farm_text<
     workers: Vec<Caller<K>>,
 ) -> Result<Vec<u8>, FarmLineFault>
     requires workers { (1 ≤ vec_len workers) × (vec_len workers ≤ 16) }
-    requires sites { K.max_sites ≤ 65536 }
-    ensures text { IfOk result (λ text. IsLastLine K K.max_sites caller.old text.items) }
+    requires sites { K.limits.sites ≤ 65536 }
+    ensures text { IfOk result (λ text. IsLastLine K K.limits caller.old text.items) }
     ensures unwritten { IfErr result IsUnwritten }
 {
     let mut workers = workers;

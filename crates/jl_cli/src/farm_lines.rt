@@ -3,6 +3,7 @@
 ghost use Rattle.std.specs.Prelude.{◌≡◌, ◌≢◌, ◌≤◌, ◌-◌, ◌^◌, ◌⊎◌, [], vec_len, IfErr, IfSome, OnOk, IsErrOf};
 ghost use Rattle.std.specs.Io.KnownBytes.{Appends, Keeps, IsAtEnd};
 ghost use Rattle.core.specs.declared.marker.Brand.{Brand};
+ghost use Rattle.jl_types.specs.Events.Limits.{fixed};
 ghost use Rattle.jl_lines.specs.declared.line_fault.LineFault.TheVariants.{Device, Memory};
 ghost use Rattle.jl_cli.specs.declared.farm_fault.FarmLineFault.TheVariants.{Line};
 ghost use Rattle.jl_lines.specs.Devices.{one_more, HasRisen};
@@ -56,20 +57,20 @@ fn run_on<
 ) -> Result<(), FarmLineFault>
     requires fresh { caller.old ≡ [] }
     requires workers { (1 ≤ vec_len workers) × (vec_len workers ≤ 16) }
-    requires sites { K.max_sites ≤ 65536 }
+    requires sites { K.limits.sites ≤ 65536 }
     ensures answered { OnOk result (IsAtEnd (R.remaining reader.new)
-        × IfSome (R.remaining reader.old) (λ input. FarmsAll K K.max_sites input (W.contents writer.old) (W.contents writer.new))) }
+        × IfSome (R.remaining reader.old) (λ input. FarmsAll K K.limits input (W.contents writer.old) (W.contents writer.new))) }
     ensures whole { IfErr result
         (λ fault. (fault ≡ Line Device → ¬ HasRisen (W.failures writer.old) (W.failures writer.new))
         → IfSome (R.remaining reader.old) (λ input.
-        (first : AnswersFirst (IsFarmAnswer K.max_sites) [] input (W.contents writer.old) (W.contents writer.new))
+        (first : AnswersFirst (IsFarmAnswer K.limits) [] input (W.contents writer.old) (W.contents writer.new))
         × FarmLongIf fault first.after)) }
     ensures read { IsErrOf result (Line Device)
         → ¬ HasRisen (W.failures writer.old) (W.failures writer.new)
-        → IfSome (R.remaining reader.old) (λ input. AnswersRead (IsFarmAnswer K.max_sites) [] input
+        → IfSome (R.remaining reader.old) (λ input. AnswersRead (IsFarmAnswer K.limits) [] input
         (R.remaining reader.new) (W.contents writer.old) (W.contents writer.new)) }
     ensures memory { IsErrOf result (Line Memory) → R.reads reader.new ≢ R.reads reader.old
-        → IfSome (R.remaining reader.old) (λ input. FarmsEarlier K.max_sites input
+        → IfSome (R.remaining reader.old) (λ input. FarmsEarlier K.limits input
         (R.before reader.new) (W.contents writer.old) (W.contents writer.new)) }
     ensures device { IsErrOf result (Line Device)
         → HasRisen (R.failures reader.old) (R.failures reader.new)
@@ -91,21 +92,21 @@ fn run_started<K: Name + Send + Sync, H: Threads + Wait + Sync, R: Source, W: Si
     writer: &mut W,
 ) -> Result<(), FarmLineFault>
     requires book { parts.book ≡ K.book }
-    requires sites { (parts.max_sites ≡ K.max_sites) × (parts.max_sites ≤ 65536) }
+    requires sites { (parts.limits ≡ K.limits) × (parts.limits.sites ≤ 65536) }
     requires callers { (2 ≤ parts.callers) × (parts.callers ≤ 17) }
     ensures answered { OnOk result (IsAtEnd (R.remaining reader.new)
-        × IfSome (R.remaining reader.old) (λ input. FarmsAll K K.max_sites input (W.contents writer.old) (W.contents writer.new))) }
+        × IfSome (R.remaining reader.old) (λ input. FarmsAll K K.limits input (W.contents writer.old) (W.contents writer.new))) }
     ensures whole { IfErr result
         (λ fault. (fault ≡ Line Device → ¬ HasRisen (W.failures writer.old) (W.failures writer.new))
         → IfSome (R.remaining reader.old) (λ input.
-        (first : AnswersFirst (IsFarmAnswer K.max_sites) [] input (W.contents writer.old) (W.contents writer.new))
+        (first : AnswersFirst (IsFarmAnswer K.limits) [] input (W.contents writer.old) (W.contents writer.new))
         × FarmLongIf fault first.after)) }
     ensures read { IsErrOf result (Line Device)
         → ¬ HasRisen (W.failures writer.old) (W.failures writer.new)
-        → IfSome (R.remaining reader.old) (λ input. AnswersRead (IsFarmAnswer K.max_sites) [] input
+        → IfSome (R.remaining reader.old) (λ input. AnswersRead (IsFarmAnswer K.limits) [] input
         (R.remaining reader.new) (W.contents writer.old) (W.contents writer.new)) }
     ensures memory { IsErrOf result (Line Memory) → R.reads reader.new ≢ R.reads reader.old
-        → IfSome (R.remaining reader.old) (λ input. FarmsEarlier K.max_sites input
+        → IfSome (R.remaining reader.old) (λ input. FarmsEarlier K.limits input
         (R.before reader.new) (W.contents writer.old) (W.contents writer.new)) }
     ensures device { IsErrOf result (Line Device)
         → HasRisen (R.failures reader.old) (R.failures reader.new)
@@ -147,22 +148,22 @@ pub fn run_farm<H: Threads + Wait + Sync, R: Source, W: Sink>(
     requires { (1 ≤ workers) × (workers ≤ 16) }
     // The input was read to its end, and the answers to its lines were written, and then the last line.
     ensures answered { OnOk result (IsAtEnd (R.remaining reader.new)
-        × IfSome (R.remaining reader.old) (λ input. FarmsAll Brand 65536 input (W.contents writer.old) (W.contents writer.new))) }
+        × IfSome (R.remaining reader.old) (λ input. FarmsAll Brand (fixed 65536) input (W.contents writer.old) (W.contents writer.new))) }
     // But for a failed write the answers to some first lines were written whole, and nothing else: the next line is over the limit where one
     // is said to be too long, and there is none where the farm failed.
     ensures whole { IfErr result
         (λ fault. (fault ≡ Line Device → ¬ HasRisen (W.failures writer.old) (W.failures writer.new))
         → IfSome (R.remaining reader.old) (λ input.
-        (first : AnswersFirst (IsFarmAnswer 65536) [] input (W.contents writer.old) (W.contents writer.new))
+        (first : AnswersFirst (IsFarmAnswer (fixed 65536)) [] input (W.contents writer.old) (W.contents writer.new))
         × FarmLongIf fault first.after)) }
     // After a failed read these are all lines of which the newline was read.
     ensures read { IsErrOf result (Line Device)
         → ¬ HasRisen (W.failures writer.old) (W.failures writer.new)
-        → IfSome (R.remaining reader.old) (λ input. AnswersRead (IsFarmAnswer 65536) [] input
+        → IfSome (R.remaining reader.old) (λ input. AnswersRead (IsFarmAnswer (fixed 65536)) [] input
         (R.remaining reader.new) (W.contents writer.old) (W.contents writer.new)) }
     // Where memory lacks after a read, these are at least all lines of which the newline came with an earlier one.
     ensures memory { IsErrOf result (Line Memory) → R.reads reader.new ≢ R.reads reader.old
-        → IfSome (R.remaining reader.old) (λ input. FarmsEarlier 65536 input
+        → IfSome (R.remaining reader.old) (λ input. FarmsEarlier (fixed 65536) input
         (R.before reader.new) (W.contents writer.old) (W.contents writer.new)) }
     ensures device { IsErrOf result (Line Device)
         → HasRisen (R.failures reader.old) (R.failures reader.new)

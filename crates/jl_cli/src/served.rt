@@ -34,9 +34,9 @@ impl<'a, K: Name, H: Wait, S: Wait + Drop> ServerCommands<'a, K, H, S> {
 
     /// The answer to a line: a command in JSON, or none.
     fn answer_value(&self, caller: &mut Caller<K>, line: &[u8]) -> Result<Value, AllocError>
-        ensures ok { IfOk result (λ v. IsLineServed K.max_sites caller.old line.now (view v) caller.new) }
+        ensures ok { IfOk result (λ v. IsLineServed K.limits caller.old line.now (view v) caller.new) }
         ensures lacks { OnErr result (LacksAnswer caller.old
-            (λ answer. IsLineServed K.max_sites caller.old line.now answer caller.new) caller.new) }
+            (λ answer. IsLineServed K.limits caller.old line.now answer caller.new) caller.new) }
     {
         match command_in(self.alloc, line)? {
             Some(Command::Apply(asked)) => obey_event(self, self.alloc, caller, asked),
@@ -49,9 +49,9 @@ impl<'a, K: Name, H: Wait, S: Wait + Drop> ServerCommands<'a, K, H, S> {
 
     /// The text of the answer to a line.
     fn answer_text(&self, caller: &mut Caller<K>, line: &[u8]) -> Result<Vec<u8>, AllocError>
-        ensures ok { IfOk result (λ text. IsFarmAnswer K.max_sites caller.old line.now text.items caller.new) }
+        ensures ok { IfOk result (λ text. IsFarmAnswer K.limits caller.old line.now text.items caller.new) }
         ensures lacks { OnErr result (LacksAnswer caller.old
-            (λ answer. IsLineServed K.max_sites caller.old line.now answer caller.new) caller.new) }
+            (λ answer. IsLineServed K.limits caller.old line.now answer caller.new) caller.new) }
     {
         let answer = self.answer_value(caller, line)?;
         text_of(self.alloc, &answer)
@@ -59,7 +59,7 @@ impl<'a, K: Name, H: Wait, S: Wait + Drop> ServerCommands<'a, K, H, S> {
 }
 
 impl<'a, K: Name, H: Wait, S: Wait + Drop> Obey<Caller<K>> for ServerCommands<'a, K, H, S> {
-    ghost applies = { IsServed K.max_sites };
+    ghost applies = { IsServed K.limits };
 
     ghost installs = { IsNoInstall };
 
@@ -81,7 +81,7 @@ impl<'a, K: Name, H: Wait, S: Wait + Drop> Obey<Caller<K>> for ServerCommands<'a
 }
 
 impl<'a, K: Name, H: Wait, S: Wait + Drop> Answer<Caller<K>> for ServerCommands<'a, K, H, S> {
-    ghost says = { IsFarmAnswer K.max_sites };
+    ghost says = { IsFarmAnswer K.limits };
 
     fn answer(
         &mut self,

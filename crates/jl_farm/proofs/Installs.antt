@@ -6,6 +6,7 @@ use Rattle.std.proofs.lemmas.Bool.Decides.{nat_tests}
 use Rattle.std.proofs.lemmas.List.Sums.{sum_by-append}
 use Rattle.std.proofs.lemmas.List.Sorted.{All-permutation, sum_by-IsPermutation}
 use mathlib.Core.List.{IsPrefix}
+use Rattle.jl_types.specs.declared.limits.Limits.{Limits}
 use Rattle.jl_types.specs.declared.link.Link.{Link}
 use Rattle.jl_types.specs.Events.Event.{Event}
 use Rattle.jl_types.specs.declared.event.EventOf.TheVariants.{Install}
@@ -40,7 +41,7 @@ pub installs_both : {K : Type 0} (serial : ℕ) (xs ys : List (Report K)) → in
 installs_both {K = K} serial xs ys = sum_by-append (λ (report : Report K). cond (names_install serial report.outcome) 1 0) xs ys
 
 -- one report names an install past what its caller had seen before, and up to what it has seen then
-pub once_each : {K : Type 0} (n : ℕ) (before after : List Entry) (of : List ℕ) (o : JobOutcome K) (serial : ℕ) → IsShown n before of o → HasSeen after o
+pub once_each : {K : Type 0} (n : Limits) (before after : List Entry) (of : List ℕ) (o : JobOutcome K) (serial : ℕ) → IsShown n before of o → HasSeen after o
     → cond (names_install serial o) 1 0 ≤ between (length before) (length after) serial
 once_each n before after of (Installed receipt) serial shown seen =
     in_between (length before) (length after) receipt.serial serial (omega (arith, shown.longer, shown.serial)) (omega (arith, ap length seen, shown.serial))
@@ -74,7 +75,7 @@ module _ {K : Type 0} where
   taken_most few many old new le has = record { own = has.own; most = λ serial. omega (arith, has.most serial, le) }
 
   -- a worker that took over the reports of others and then goes on
-  pub installs_at_most : (n : ℕ) (jobs : List (List ℕ)) (others : ℕ) (start mid new : Worker K) (serial : ℕ)
+  pub installs_at_most : (n : Limits) (jobs : List (List ℕ)) (others : ℕ) (start mid new : Worker K) (serial : ℕ)
       → installs_of serial start.reports.items ≤ between 0 (length start.caller) serial → HasTaken others start mid → Works n jobs mid new
       → length mid.caller ≤ length new.caller
       → installs_of serial new.reports.items ≤ others + 1
@@ -146,7 +147,7 @@ rows_of _ = []
 pub same_serial : (a b : ℕ) → (a == b) ≡ true → a ≡ b
 same_serial a b is = grind (arith, nat_tests)
 
-module _ {K : Type 0} (n : ℕ) where
+module _ {K : Type 0} (n : Limits) where
   -- of one list there is one install, which has one job's sites
   sites_by_list : (before earlier : List Entry) (of others : List ℕ) (mine theirs : Receipt K) → IsInstalled n before of mine
       → IsInstalled n earlier others theirs → mine.seen ≡ theirs.seen → of ≡ others

@@ -5,6 +5,7 @@ use Rattle.std.specs.Prelude.{option_map, IsOk, IsErr}
 use Rattle.std.specs.Bool.{then_some}
 use Rattle.std.proofs.lemmas.List.{length-map}
 use mathlib.Core.List.{IsPrefix}
+use Rattle.jl_types.specs.declared.limits.Limits.{Limits}
 use Rattle.jl_types.specs.declared.link.Link.{Link}
 use Rattle.jl_types.specs.declared.answer.Unlinked.{Unlinked}
 use Rattle.jl_types.specs.declared.event.Made.{Made}
@@ -40,11 +41,11 @@ use Rattle.jl_farm.proofs.Causes.{prepared_sites}
 
 -- ---- what a caller had seen before
 
-comes_after : (n : ℕ) (start later list : List Entry) → IsPrefix start later → ComesAfter n later list → ComesAfter n start list
+comes_after : (n : Limits) (start later list : List Entry) → IsPrefix start later → ComesAfter n later list → ComesAfter n start list
 comes_after n start later list p h = (prefix_trans start later list p h.0, h.1)
 
 -- what is shown after a list is shown after each beginning of it
-pub shown_before : {K : Type 0} (n : ℕ) (start later : List Entry) (of : List ℕ) (o : JobOutcome K) → IsPrefix start later → IsShown n later of o
+pub shown_before : {K : Type 0} (n : Limits) (start later : List Entry) (of : List ℕ) (o : JobOutcome K) → IsPrefix start later → IsShown n later of o
     → IsShown n start of o
 shown_before n start later of (outcome.Installed receipt) p h = record {
   after = comes_after n start later receipt.seen p h.after;
@@ -145,7 +146,7 @@ row_kind w (row ∷ rows) r e = by_link (scratch w row.0) e (row_kind w rows r)
     by_link (Ok now) e more = by_same now (same_link now row.1) refl e more
     by_link (Err reason) e more = inr (row.0, cc)
 
-module _ (K : Type 0) (n : ℕ) (first second : List Entry) (of : List ℕ) (rows : List (ℕ × Link))
+module _ (K : Type 0) (n : Limits) (first second : List Entry) (of : List ℕ) (rows : List (ℕ × Link))
     (prepared : ArePrepared (world_of first) of rows) (legal : IsLegal n first) (more : IsPrefix first second) (also : IsLegal n second) where
   abbrev Shown : Refusal → Type 0
   Shown r = IsShown {K = K} n first of (refused_as first second r)
@@ -198,7 +199,7 @@ module _ (K : Type 0) (n : ℕ) (first second : List Entry) (of : List ℕ) (row
 -- ---- as the code comes by these
 
 -- what is so of the list that a preparation was made after, and of its sites
-pub prepared_why : (n : ℕ) (before after list : List Entry) (snapshot : Snapshot) (of : List ℕ) (f g : PrepareFault)
+pub prepared_why : (n : Limits) (before after list : List Entry) (snapshot : Snapshot) (of : List ℕ) (f g : PrepareFault)
     → IsPrefix before after → IsLegal n after → list ≡ after → snapshot ≡ record { world = world_of after; serial = length after }
     → IsPreparation snapshot of (Err f) → f ≡ g → ComesAfter n before list × IsWhy (world_of list) of g
 prepared_why n before after list snapshot of f g own legal is shot answer same =
@@ -207,7 +208,7 @@ prepared_why n before after list snapshot of f g own legal is shot answer same =
     subst (λ (xs : List Entry). ComesAfter n before xs × IsWhy (world_of xs) of g) (sym is) ((own, legal), cause)
 
 -- what is shown by the outcome of a job whose sites weren't prepared
-pub unprepared : {K : Type 0} (n : ℕ) (before after list : List Entry) (snapshot : Snapshot) (of : List ℕ) (f : PrepareFault) (o : JobOutcome K)
+pub unprepared : {K : Type 0} (n : Limits) (before after list : List Entry) (snapshot : Snapshot) (of : List ℕ) (f : PrepareFault) (o : JobOutcome K)
     → o ≡ unprepared_as list f → IsPrefix before after → IsLegal n after → list ≡ after
     → snapshot ≡ record { world = world_of after; serial = length after } → IsPreparation snapshot of (Err f) → IsShown n before of o
 unprepared {K = K} n before after list snapshot of f o is own legal same shot answer =
@@ -232,13 +233,13 @@ unprepared_seen {K = K} list now f o is same = subst (λ (x : JobOutcome K). Has
     by_fault fault.Memory = tt
 
 -- rows that were prepared after the list would have been accepted after it
-pub accepted_prepared : (n : ℕ) (list before : List Entry) (of : List ℕ) (rows : List (ℕ × Link)) → list ≡ before → prepare_fault (world_of before) of ≡ None
+pub accepted_prepared : (n : Limits) (list before : List Entry) (of : List ℕ) (rows : List (ℕ × Link)) → list ≡ before → prepare_fault (world_of before) of ≡ None
     → ArePrepared (world_of before) of rows → IsOk (verdict n (world_of list) (Install rows))
 accepted_prepared n list before of rows is none prepared =
     subst (λ (xs : List Entry). IsOk (verdict n (world_of xs) (Install rows))) (sym is)
     (subst (λ (o : Option Refusal). IsOk (unless o made.Nothing)) (sym (no_install_fault (world_of before) of rows none prepared)) refl)
 
-pub installed : {K : Type 0} (n : ℕ) (before after : List Entry) (of : List ℕ) (rows : List (ℕ × Link)) (receipt : Receipt K)
+pub installed : {K : Type 0} (n : Limits) (before after : List Entry) (of : List ℕ) (rows : List (ℕ × Link)) (receipt : Receipt K)
     → ArePrepared (world_of before) of rows → (receipt.seen ≡ after) × (receipt.serial ≡ length after) → IsPrefix before after → IsLegal n after
     → length before < length after
     → EndsWith after (Install rows) receipt.reply → IsInstalled n before of receipt
@@ -251,7 +252,7 @@ installed n before after of rows receipt prepared is own legal longer last = rec
   last = subst (λ (xs : List Entry). EndsWith xs (Install rows) receipt.reply) (sym is.0) last;
 }
 
-pub not_installed : {K : Type 0} (n : ℕ) (before after first second : List Entry) (of : List ℕ) (rows : List (ℕ × Link)) (r : Refusal) (o : JobOutcome K)
+pub not_installed : {K : Type 0} (n : Limits) (before after first second : List Entry) (of : List ℕ) (rows : List (ℕ × Link)) (r : Refusal) (o : JobOutcome K)
     → o ≡ refused_as first second r → first ≡ before → second ≡ after → ArePrepared (world_of before) of rows → IsLegal n before → IsPrefix before after
     → IsLegal n after
     → IsRefused (verdict n (world_of after) (Install rows)) r → IsShown n before of o

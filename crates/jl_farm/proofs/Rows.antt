@@ -2,6 +2,7 @@
 use Rattle.std.proofs.Common.{◌≡◌, ◌<◌, ◌≤◌, ◌+◌, ◌==◌, ℕ, zero, suc, true, false, cond, List, [], ◌∷◌, ◌++◌, map, length, get_or, All, refl, ap, ◌∙◌}
 use Rattle.std.proofs.Common.{sym, arith}
 use Rattle.std.proofs.lemmas.Bool.Decides.{nat_tests}
+use Rattle.jl_types.specs.declared.limits.Limits.{Limits}
 use mathlib.Core.List.{IsPrefix}
 use Rattle.jl_types.specs.declared.link.Link.{Link}
 use Rattle.jl_types.specs.Events.Event.{Event}
@@ -50,21 +51,21 @@ nothing = record { made = Nothing; dropped = [] }
 abbrev quiet : Event → Entry
 quiet e = record { event = e; reply = nothing; slots = [] }
 
-module _ (K : Type 0) (max_sites : ℕ) (before : List Entry) where
+module _ (K : Type 0) (limits : Limits) (before : List Entry) where
   -- Stale, where the second list doesn't go on the first
-  no_stale_back : (first second : List Entry) (sites : List ℕ) → (IsPrefix first second → ⊥) → IsShown {K = K} max_sites before sites (Stale first second) → ⊥
+  no_stale_back : (first second : List Entry) (sites : List ℕ) → (IsPrefix first second → ⊥) → IsShown {K = K} limits before sites (Stale first second) → ⊥
   no_stale_back first second sites apart stale = apart stale.refused.0
 
   -- as where it is shorter by one
-  no_stale_shorter : (sites : List ℕ) → IsShown {K = K} max_sites before sites (Stale (quiet NewSwitch ∷ []) []) → ⊥
+  no_stale_shorter : (sites : List ℕ) → IsShown {K = K} limits before sites (Stale (quiet NewSwitch ∷ []) []) → ⊥
   no_stale_shorter sites = no_stale_back (quiet NewSwitch ∷ []) [] sites (λ on. cc (on.1))
 
   -- Stale after one list, in which each link is what it was
-  no_stale_same : (list : List Entry) (sites : List ℕ) → IsShown {K = K} max_sites before sites (Stale list list) → ⊥
+  no_stale_same : (list : List Entry) (sites : List ℕ) → IsShown {K = K} limits before sites (Stale list list) → ⊥
   no_stale_same list sites stale = stale.differs.4 refl
 
   -- NotReady of a site that isn't requested
-  no_unready_unrequested : (list : List Entry) (s : ℕ) → length (world_of list).places ≤ s → IsShown {K = K} max_sites before (s ∷ []) (NotReady list) → ⊥
+  no_unready_unrequested : (list : List Entry) (s : ℕ) → length (world_of list).places ≤ s → IsShown {K = K} limits before (s ∷ []) (NotReady list) → ⊥
   no_unready_unrequested list s past shown = by_place shown.unready.0 shown.unready.1 shown.unready.2 shown.unready.3 shown.unready.4.0
     where
       by_place : (k x : ℕ) → k < 1 → get_or (s ∷ []) k x ≡ x → x < length (world_of list).places → ⊥
@@ -72,34 +73,34 @@ module _ (K : Type 0) (max_sites : ℕ) (before : List Entry) where
       by_place (suc k) x lt is few = omega (arith, lt)
 
   -- as before any event
-  no_unready_at_first : IsShown {K = K} max_sites before (0 ∷ []) (NotReady []) → ⊥
+  no_unready_at_first : IsShown {K = K} limits before (0 ∷ []) (NotReady []) → ⊥
   no_unready_at_first = no_unready_unrequested [] 0 (omega arith)
 
   -- NotReady of no site
-  no_unready_of_none : (list : List Entry) → IsShown {K = K} max_sites before [] (NotReady list) → ⊥
+  no_unready_of_none : (list : List Entry) → IsShown {K = K} limits before [] (NotReady list) → ⊥
   no_unready_of_none list shown = omega (arith, shown.unready.2)
 
-module _ (K : Type 0) (max_sites : ℕ) (before earlier : List Entry) (receipt : Receipt K) where
+module _ (K : Type 0) (limits : Limits) (before earlier : List Entry) (receipt : Receipt K) where
   -- what the list ends with, by the report
-  abbrev last_of : {sites : List ℕ} → IsInstalled max_sites before sites receipt → Entry
+  abbrev last_of : {sites : List ℕ} → IsInstalled limits before sites receipt → Entry
   last_of shown = entry_after shown.last.0 (Install shown.rows) receipt.reply
 
   -- Installed of other sites than those of the last install
   no_installed_other : (rows : List (ℕ × Link)) (sites : List ℕ) → receipt.seen ≡ earlier ++ quiet (Install rows) ∷ [] → (map (λ row. row.0) rows ≡ sites → ⊥)
-      → IsShown max_sites before sites (Installed receipt) → ⊥
+      → IsShown limits before sites (Installed receipt) → ⊥
   no_installed_other rows sites ends other shown =
       let same = last_same (quiet (Install rows)) (last_of shown) earlier shown.last.0 (sym ends ∙ shown.last.1) in
       other (ap (λ (e : Entry). map (λ row. row.0) (rows_of e.event)) same ∙ shown.of_sites)
 
   -- as of site 1 where site 0 was installed
-  no_installed_next : (link : Link) → receipt.seen ≡ earlier ++ quiet (Install ((0, link) ∷ [])) ∷ [] → IsShown max_sites before (1 ∷ []) (Installed receipt)
+  no_installed_next : (link : Link) → receipt.seen ≡ earlier ++ quiet (Install ((0, link) ∷ [])) ∷ [] → IsShown limits before (1 ∷ []) (Installed receipt)
       → ⊥
   no_installed_next link ends =
       no_installed_other ((0, link) ∷ []) (1 ∷ []) ends (λ same. let clash : ◌≡◌ {A = ℕ} 0 1 = ap (λ (sites : List ℕ). get_or sites 0 5) same in
       omega (arith, clash))
 
   -- nor after another event
-  no_installed_switch : (sites : List ℕ) → receipt.seen ≡ earlier ++ quiet NewSwitch ∷ [] → IsShown max_sites before sites (Installed receipt) → ⊥
+  no_installed_switch : (sites : List ℕ) → receipt.seen ≡ earlier ++ quiet NewSwitch ∷ [] → IsShown limits before sites (Installed receipt) → ⊥
   no_installed_switch sites ends shown =
       let same = last_same (quiet NewSwitch) (last_of shown) earlier shown.last.0 (sym ends ∙ shown.last.1) in
       let events : NewSwitch ≡ Install shown.rows = ap (λ (e : Entry). e.event) same in cc events

@@ -7,6 +7,7 @@ use Rattle.std.proofs.lemmas.List.Sorted.{IsPermutation-map, sum_by-IsPermutatio
 use Rattle.std.proofs.lemmas.List.Elements.{All-append}
 use mathlib.Core.List.{IsPrefix}
 use Rattle.crossbeam_queue.specs.Passes.{view}
+use Rattle.jl_types.specs.declared.limits.Limits.{Limits}
 use Rattle.jl_types.specs.Events.Entries.{Entry}
 use Rattle.jl_server.proofs.Beginnings.{prefix_self, prefix_trans, prefix_length}
 use Rattle.jl_farm.specs.declared.job_queue.PassView.{PassView}
@@ -63,7 +64,7 @@ all_cons P x xs one all (suc k) d lt = all k d (omega arith)
 
 -- ---- jobs, one after another
 
-module _ {K : Type 0} (n : ℕ) (jobs : List (List ℕ)) where
+module _ {K : Type 0} (n : Limits) (jobs : List (List ℕ)) where
   pub works_none : (old new : Worker K) → new.reports.items ≡ old.reports.items → view new.pass ≡ view old.pass → new.caller ≡ old.caller → Works n jobs old new
   works_none old new reports pass own = record {
     more = [];

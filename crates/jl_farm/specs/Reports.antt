@@ -2,6 +2,7 @@
 use Rattle.std.specs.Prelude.{◌≡◌, ◌≢◌, ◌⊎◌, ◌<◌, ◌≤◌, ◌==◌, ◌||◌, ℕ, Bool, true, false, List, [], ◌∷◌, map, length, slice_get, unwrap_or, All, Any}
 use Rattle.std.specs.Prelude.{Contains, IsErr}
 use Rattle.std.specs.List.{list_any, count_by}
+use Rattle.jl_types.specs.declared.limits.Limits.{Limits}
 use mathlib.Core.List.{IsPrefix}
 use Rattle.jl_types.specs.declared.link.Link.{Link}
 use Rattle.jl_types.specs.declared.event.EventOf.TheVariants.{Install}
@@ -19,8 +20,8 @@ abbrev pub world_of : List Entry → World
 world_of list = world_after (events_of list)
 
 -- the list is a legal one, and begins with what was seen before
-abbrev pub ComesAfter : ℕ → List Entry → List Entry → Type 0
-ComesAfter max_sites before list = IsPrefix before list × IsLegal max_sites list
+abbrev pub ComesAfter : Limits → List Entry → List Entry → Type 0
+ComesAfter limits before list = IsPrefix before list × IsLegal limits list
 
 -- a site stands twice
 abbrev pub has_twice : List ℕ → Bool
@@ -32,8 +33,8 @@ abbrev pub IsNoBatch : World → List ℕ → Type 0
 IsNoBatch w sites = ((length sites ≡ 0) ⊎ (256 < length sites)) ⊎ (Any (λ s. length w.places ≤ s) sites ⊎ (has_twice sites ≡ true))
 
 -- the receipt's list is longer than what was seen before, and ends with an install of the job's sites, in order
-pub record IsInstalled {K : Type 0} (max_sites : ℕ) (before : List Entry) (sites : List ℕ) (receipt : Receipt K) : Type 0 where
-  pub after : ComesAfter max_sites before receipt.seen
+pub record IsInstalled {K : Type 0} (limits : Limits) (before : List Entry) (sites : List ℕ) (receipt : Receipt K) : Type 0 where
+  pub after : ComesAfter limits before receipt.seen
   pub longer : length before < length receipt.seen
   pub serial : receipt.serial ≡ length receipt.seen
   pub rows : List (ℕ × Link)
@@ -41,27 +42,27 @@ pub record IsInstalled {K : Type 0} (max_sites : ℕ) (before : List Entry) (sit
   pub last : EndsWith receipt.seen (Install rows) receipt.reply
 
 -- a site of the job has another link from scratch, or none, after the second list than after the first, which the second goes on
-pub record IsStale (max_sites : ℕ) (before first second : List Entry) (sites : List ℕ) : Type 0 where
-  pub prepared : ComesAfter max_sites before first
-  pub refused : ComesAfter max_sites first second
+pub record IsStale (limits : Limits) (before first second : List Entry) (sites : List ℕ) : Type 0 where
+  pub prepared : ComesAfter limits before first
+  pub refused : ComesAfter limits first second
   pub differs : Any (λ s. scratch (world_of first) s ≢ scratch (world_of second) s) sites
 
 -- a requested site of the job has no link from scratch after the list
-pub record IsUnready (max_sites : ℕ) (before list : List Entry) (sites : List ℕ) : Type 0 where
-  pub after : ComesAfter max_sites before list
+pub record IsUnready (limits : Limits) (before list : List Entry) (sites : List ℕ) : Type 0 where
+  pub after : ComesAfter limits before list
   pub unready : Any (λ s. (s < length (world_of list).places) × IsErr (scratch (world_of list) s)) sites
 
-pub record IsRefusedBatch (max_sites : ℕ) (before list : List Entry) (sites : List ℕ) : Type 0 where
-  pub after : ComesAfter max_sites before list
+pub record IsRefusedBatch (limits : Limits) (before list : List Entry) (sites : List ℕ) : Type 0 where
+  pub after : ComesAfter limits before list
   pub no_batch : IsNoBatch (world_of list) sites
 
 -- what the outcome says is so of a job of these sites, of a caller that had seen so much before; of want of memory nothing is said
-abbrev pub IsShown : {K : Type 0} → ℕ → List Entry → List ℕ → JobOutcome K → Type 0
-IsShown max_sites before sites (Installed receipt) = IsInstalled max_sites before sites receipt
-IsShown max_sites before sites (Stale first second) = IsStale max_sites before first second sites
-IsShown max_sites before sites (NotReady list) = IsUnready max_sites before list sites
-IsShown max_sites before sites (Bad list) = IsRefusedBatch max_sites before list sites
-IsShown max_sites before sites Memory = Unit {0}
+abbrev pub IsShown : {K : Type 0} → Limits → List Entry → List ℕ → JobOutcome K → Type 0
+IsShown limits before sites (Installed receipt) = IsInstalled limits before sites receipt
+IsShown limits before sites (Stale first second) = IsStale limits before first second sites
+IsShown limits before sites (NotReady list) = IsUnready limits before list sites
+IsShown limits before sites (Bad list) = IsRefusedBatch limits before list sites
+IsShown limits before sites Memory = Unit {0}
 
 -- the sites of the job of this number
 abbrev pub sites_of : List (List ℕ) → ℕ → List ℕ
@@ -71,10 +72,10 @@ abbrev pub jobs_of : {K : Type 0} → List (Report K) → List ℕ
 jobs_of reports = map (λ report. report.job) reports
 
 -- The report is of one of the jobs, and shows what it says; its caller is one of those that had seen these lists.
-pub record IsReport {K : Type 0} (max_sites : ℕ) (callers : List (List Entry)) (jobs : List (List ℕ)) (report : Report K) : Type 0 where
+pub record IsReport {K : Type 0} (limits : Limits) (callers : List (List Entry)) (jobs : List (List ℕ)) (report : Report K) : Type 0 where
   pub before : List Entry
   pub of_caller : Contains callers before
-  pub shown : IsShown max_sites before (sites_of jobs report.job) report.outcome
+  pub shown : IsShown limits before (sites_of jobs report.job) report.outcome
 
 -- ---- several reports
 

@@ -77,11 +77,11 @@ pub(crate) fn gather<K: Name>(
     crew: Vec<Worker<K>>,
 ) -> Result<(), AllocError>
     requires pass { IsPassOf queue.now lead.old.pass }
-    requires lead { HasReported K.max_sites callers.now.value.items jobs.now lead.old }
+    requires lead { HasReported K.limits callers.now.value.items jobs.now lead.old }
     requires crew { All (λ worker. IsPassOf queue.now worker.pass × HasOne worker
-        × HasReported K.max_sites callers.now.value.items jobs.now worker) crew.items }
+        × HasReported K.limits callers.now.value.items jobs.now worker) crew.items }
     ensures pass { OnOk result (IsPassOf queue.now lead.new.pass) }
-    ensures lead { OnOk result (HasReported K.max_sites callers.now.value.items jobs.now lead.new) }
+    ensures lead { OnOk result (HasReported K.limits callers.now.value.items jobs.now lead.new) }
     ensures put { OnOk result ((view lead.new.pass).put ≡ (view lead.old.pass).put) }
     ensures parts { OnOk result ((view lead.new.pass).parts ≡ (view lead.old.pass).parts + vec_len crew) }
     ensures taken { OnOk result (HasTaken (vec_len crew) lead.old lead.new) }
@@ -102,11 +102,11 @@ fn take_in<K: Name>(
     other: Worker<K>,
 ) -> Result<(), AllocError>
     requires turns { IsPassOf queue.now lead.old.pass × IsPassOf queue.now other.pass }
-    requires lead { HasReported K.max_sites callers.now.value.items jobs.now lead.old }
+    requires lead { HasReported K.limits callers.now.value.items jobs.now lead.old }
     requires one { HasOne other }
-    requires other { HasReported K.max_sites callers.now.value.items jobs.now other }
+    requires other { HasReported K.limits callers.now.value.items jobs.now other }
     ensures pass { OnOk result (IsPassOf queue.now lead.new.pass) }
-    ensures lead { OnOk result (HasReported K.max_sites callers.now.value.items jobs.now lead.new) }
+    ensures lead { OnOk result (HasReported K.limits callers.now.value.items jobs.now lead.new) }
     ensures put { OnOk result ((view lead.new.pass).put ≡ (view lead.old.pass).put) }
     ensures parts { OnOk result ((view lead.new.pass).parts ≡ (view lead.old.pass).parts + 1) }
     ensures taken { OnOk result (HasTaken 1 lead.old lead.new) }

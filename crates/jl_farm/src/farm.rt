@@ -50,7 +50,7 @@ pub fn run<
     requires workers { (1 ≤ vec_len workers) × (vec_len workers ≤ 16) }
     requires jobs { vec_len jobs ≤ 65536 }
     ensures jobs { IfOk result (λ reports. jobs_of reports.items ≡ range_with_len 0 (vec_len jobs)) }
-    ensures shown { IfOk result (λ reports. All (IsReport K.max_sites workers.items jobs.items) reports.items) }
+    ensures shown { IfOk result (λ reports. All (IsReport K.limits workers.items jobs.items) reports.items) }
     ensures history { IfOk result (λ reports. AreOfOneHistory reports.items) }
     ensures sites { IfOk result (λ reports. AreOfSameSites jobs.items reports.items) }
     ensures installs { IfOk result (λ reports. (serial : ℕ) → installs_of serial reports.items ≤ vec_len workers) }
@@ -79,7 +79,7 @@ fn run_some<
     requires workers { (1 ≤ vec_len workers) × (vec_len workers ≤ 16) }
     requires jobs { vec_len jobs ≤ 65536 }
     ensures jobs { IfOk result (λ reports. jobs_of reports.items ≡ range_with_len 0 (vec_len jobs)) }
-    ensures shown { IfOk result (λ reports. All (IsReport K.max_sites workers.items jobs.items) reports.items) }
+    ensures shown { IfOk result (λ reports. All (IsReport K.limits workers.items jobs.items) reports.items) }
     ensures history { IfOk result (λ reports. AreOfOneHistory reports.items) }
     ensures sites { IfOk result (λ reports. AreOfSameSites jobs.items reports.items) }
     ensures installs { IfOk result (λ reports. (serial : ℕ) → installs_of serial reports.items ≤ vec_len workers) }
@@ -112,7 +112,7 @@ fn run_queued<
     requires workers { (1 ≤ vec_len workers) × (vec_len workers ≤ 16) }
     requires pass { IsPassOf queue.now pass × (view pass ≡ pass_view 1024 (range_with_len 0 (length jobs.now)) []) }
     ensures jobs { IfOk result (λ reports. jobs_of reports.items ≡ range_with_len 0 (length jobs.now)) }
-    ensures shown { IfOk result (λ reports. All (IsReport K.max_sites workers.items jobs.now) reports.items) }
+    ensures shown { IfOk result (λ reports. All (IsReport K.limits workers.items jobs.now) reports.items) }
     ensures history { IfOk result (λ reports. AreOfOneHistory reports.items) }
     ensures sites { IfOk result (λ reports. AreOfSameSites jobs.now reports.items) }
     ensures installs { IfOk result (λ reports. (serial : ℕ) → installs_of serial reports.items ≤ vec_len workers) }
@@ -160,7 +160,7 @@ fn serve_all<
     S: Wait + Drop + Send + Sync,
 >(rt: &R, floor: &Shared<'_, K, G, R, S>, crew: &mut Vec<Worker<K>>)
     requires { All (λ worker. IsPassOf floor.now.queue.now worker.pass × HasPart worker) crew.old.items }
-    ensures { AllZip (λ old new. IsPassOf floor.now.queue.now new.pass × Works K.max_sites floor.now.jobs.now old new) crew.old.items crew.new.items }
+    ensures { AllZip (λ old new. IsPassOf floor.now.queue.now new.pass × Works K.limits floor.now.jobs.now old new) crew.old.items crew.new.items }
 {
     at_once(rt, floor, crew.as_mut_slice());
 }
@@ -176,9 +176,9 @@ fn finish<K: Name, G: Gate, R: Wait, S: Wait + Drop>(
     requires pass { IsPassOf floor.now.queue.now pass × ((view pass).taken ≡ []) }
     requires parts { ((view pass).parts + vec_len crew ≡ 1024) × (1 ≤ vec_len crew) }
     requires crew { All (λ worker. IsPassOf floor.now.queue.now worker.pass × HasOne worker
-        × HasReported K.max_sites callers.now.value.items floor.now.jobs.now worker) crew.items }
+        × HasReported K.limits callers.now.value.items floor.now.jobs.now worker) crew.items }
     ensures weighs { IfOk result (λ reports. (weight : ℕ → ℕ) → sum_by weight (view pass).put ≡ sum_by weight (jobs_of reports.items)) }
-    ensures shown { IfOk result (λ reports. All (IsReport K.max_sites callers.now.value.items floor.now.jobs.now) reports.items) }
+    ensures shown { IfOk result (λ reports. All (IsReport K.limits callers.now.value.items floor.now.jobs.now) reports.items) }
     ensures history { IfOk result (λ reports. AreOfOneHistory reports.items) }
     ensures installs { IfOk result (λ reports. (serial : ℕ) → installs_of serial reports.items ≤ vec_len crew) }
 {

@@ -35,7 +35,7 @@ pub(crate) struct Shared<'a, K: Name, G: Gate, R: Wait, S: Wait + Drop> {
 impl<'a, K: Name, G: Gate, R: Wait, S: Wait + Drop> Task<Worker<K>> for Shared<'a, K, G, R, S> {
     ghost accepts = { λ floor worker. IsPassOf floor.queue.now worker.pass × HasPart worker };
 
-    ghost leaves = { λ floor old new. IsPassOf floor.queue.now new.pass × Works K.max_sites floor.jobs.now old new };
+    ghost leaves = { λ floor old new. IsPassOf floor.queue.now new.pass × Works K.limits floor.jobs.now old new };
 
     // A worker that lacks memory leaves the jobs to the others.
     fn serve(&self, worker: &mut Worker<K>) {
@@ -49,7 +49,7 @@ impl<'a, K: Name, G: Gate, R: Wait, S: Wait + Drop> Shared<'a, K, G, R, S> {
         requires pass { IsPassOf self.now.queue.now worker.old.pass }
         requires part { 0 < (view worker.old.pass).parts }
         ensures pass { IsPassOf self.now.queue.now worker.new.pass }
-        ensures works { Works K.max_sites self.now.jobs.now worker.old worker.new }
+        ensures works { Works K.limits self.now.jobs.now worker.old worker.new }
         ensures done { OnOk result (KnowsAll (view worker.new.pass) []) }
     {
         for _ in self.rt.forever() {
@@ -65,7 +65,7 @@ impl<'a, K: Name, G: Gate, R: Wait, S: Wait + Drop> Shared<'a, K, G, R, S> {
         requires pass { IsPassOf self.now.queue.now worker.old.pass }
         requires part { 0 < (view worker.old.pass).parts }
         ensures pass { IsPassOf self.now.queue.now worker.new.pass }
-        ensures works { Works K.max_sites self.now.jobs.now worker.old worker.new }
+        ensures works { Works K.limits self.now.jobs.now worker.old worker.new }
         ensures done { IfOk result (λ one. one ≡ false → KnowsAll (view worker.new.pass) []) }
     {
         worker.reports.reserve(1)?;
@@ -81,7 +81,7 @@ impl<'a, K: Name, G: Gate, R: Wait, S: Wait + Drop> Shared<'a, K, G, R, S> {
     fn report(&self, caller: &mut Caller<K>, job: usize) -> Report<K>
         ensures own { IsPrefix caller.old caller.new }
         ensures job { result.job ≡ job }
-        ensures shown { IsShown K.max_sites caller.old (sites_of self.now.jobs.now job) result.outcome }
+        ensures shown { IsShown K.limits caller.old (sites_of self.now.jobs.now job) result.outcome }
         ensures seen { HasSeen caller.new result.outcome }
     {
         self.gate.before_prepare(job);
@@ -93,7 +93,7 @@ impl<'a, K: Name, G: Gate, R: Wait, S: Wait + Drop> Shared<'a, K, G, R, S> {
     /// Prepares the sites of the job in a snapshot, and installs their links.
     fn outcome(&self, caller: &mut Caller<K>, job: usize) -> JobOutcome<K>
         ensures own { IsPrefix caller.old caller.new }
-        ensures shown { IsShown K.max_sites caller.old (sites_of self.now.jobs.now job) result }
+        ensures shown { IsShown K.limits caller.old (sites_of self.now.jobs.now job) result }
         ensures seen { HasSeen caller.new result }
     {
         let sites = sites_at(self.jobs, job);
@@ -118,11 +118,11 @@ impl<'a, K: Name, G: Gate, R: Wait, S: Wait + Drop> Shared<'a, K, G, R, S> {
         prepared: Seen<K>,
         rows: Seq<(SiteNo, Link)>,
     ) -> JobOutcome<K>
-        requires prepared { (prepared ≡ caller.old) × IsLegal K.max_sites caller.old }
+        requires prepared { (prepared ≡ caller.old) × IsLegal K.limits caller.old }
         requires batch { prepare_fault (world_of caller.old) sites.now ≡ None }
         requires rows { ArePrepared (world_of caller.old) sites.now rows }
         ensures own { IsPrefix caller.old caller.new }
-        ensures shown { IsShown K.max_sites caller.old sites.now result }
+        ensures shown { IsShown K.limits caller.old sites.now result }
         ensures seen { HasSeen caller.new result }
     {
         let install = Event::Install(rows);

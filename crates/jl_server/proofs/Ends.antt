@@ -2,6 +2,7 @@
 use Rattle.std.specs.Prelude.{◌≡◌, ℕ, ◌<◌, List, [], ◌∷◌, ◌++◌, length}
 use Rattle.std.proofs.Common.{ap, sym, ◌∙◌, subst, arith, length-append}
 use mathlib.Core.List.{IsPrefix}
+use Rattle.jl_types.specs.declared.limits.Limits.{Limits}
 use Rattle.jl_types.specs.Events.Event.{Event}
 use Rattle.jl_types.specs.declared.event.Reply.{Reply}
 use Rattle.jl_types.specs.Events.Entries.{Entry, IsLegal}
@@ -20,7 +21,7 @@ module _ (seen old new named : List Entry) (begun : IsPrefix seen old) (same : n
   pub named_counted : (serial : ℕ) → serial ≡ length new → serial ≡ length named
   named_counted serial is = is ∙ ap length (sym same)
 
-  pub named_legal : (n : ℕ) → IsLegal n new → IsLegal n named
+  pub named_legal : (n : Limits) → IsLegal n new → IsLegal n named
   named_legal n = subst (IsLegal n) (sym same)
 
   pub named_ends : (e : Event) (reply : Reply) → new ≡ old ++ entry_after old e reply ∷ [] → EndsWith named e reply

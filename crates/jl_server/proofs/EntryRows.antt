@@ -10,6 +10,7 @@ use Rattle.jl_types.specs.declared.event.Made.TheVariants.{Switch, Nothing}
 use Rattle.jl_types.specs.declared.event.Reply.{Reply}
 use Rattle.jl_types.specs.declared.answer.Recv.TheVariants.{Of}
 use Rattle.jl_types.specs.declared.answer.Fast.TheVariants.{Miss}
+use Rattle.jl_types.specs.Events.Limits.{fixed}
 use Rattle.jl_types.specs.Events.Entries.{Entry}
 use Rattle.jl_types.specs.Events.Fast.{fast_answer}
 use Rattle.jl_types.proofs.Rows.Sketch.{method, first, calling, class_ref}
@@ -26,7 +27,7 @@ quiet e reply = record { event = e; reply = reply; slots = [] }
 abbrev two : List Entry
 two = quiet NewSwitch (numbered 0) ∷ quiet NewSwitch (numbered 1) ∷ []
 
-core_of_two : core_of 4 two ≡ record { max_sites = 4; log = (NewSwitch, numbered 0) ∷ (NewSwitch, numbered 1) ∷ [] }
+core_of_two : core_of (fixed 4) two ≡ record { limits = fixed 4; log = (NewSwitch, numbered 0) ∷ (NewSwitch, numbered 1) ∷ [] }
 core_of_two = refl
 
 after_two : entry_after two NewSwitch (numbered 2) ≡ quiet NewSwitch (numbered 2)

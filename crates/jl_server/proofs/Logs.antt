@@ -3,6 +3,7 @@ use Rattle.std.specs.Prelude.{◌≡◌, ℕ, suc, List, [], ◌∷◌, ◌++◌
 use Rattle.std.proofs.Common.{refl, ap, sym, ◌∙◌, subst, inr}
 use Rattle.std.proofs.lemmas.List.{map-append}
 use Rattle.std.proofs.lemmas.List.Sums.{fold-append}
+use Rattle.jl_types.specs.declared.limits.Limits.{Limits}
 use Rattle.jl_types.specs.Events.Event.{Event}
 use Rattle.jl_types.specs.declared.event.EventOf.TheVariants as event
 use Rattle.jl_types.specs.declared.event.Reply.{Reply}
@@ -19,7 +20,7 @@ use Rattle.jl_core.specs.State.{State, events, world_of, IsAccepted, IsRefused}
 use Rattle.jl_core.specs.Plans.{Plan, IsPlanned}
 use Rattle.jl_server.specs.History.{logged_of, core_of, entry_after, planned_entry}
 
-pub events_logged : (n : ℕ) (entries : List Entry) → events (core_of n entries) ≡ events_of entries
+pub events_logged : (n : Limits) (entries : List Entry) → events (core_of n entries) ≡ events_of entries
 events_logged n [] = refl
 events_logged n (entry ∷ entries) = ap (λ (h : List Event). entry.event ∷ h) (events_logged n entries)
 
@@ -35,7 +36,7 @@ last_event : (log : List (Event × Reply)) (e : Event) (reply : Reply) → fold 
 last_event log e reply = fold-append (λ (last : Event) (row : Event × Reply). row.0) event.NewSwitch log ((e, reply) ∷ [])
 
 -- an event that is planned for the core of a list
-module _ (n : ℕ) (entries : List Entry) (e : Event) (plan : Plan) (planned : IsPlanned (core_of n entries) e plan) where
+module _ (n : Limits) (entries : List Entry) (e : Event) (plan : Plan) (planned : IsPlanned (core_of n entries) e plan) where
   abbrev entry : Entry
   entry = record { event = e; reply = plan.reply; slots = plan.slots }
 
@@ -64,7 +65,7 @@ module _ (n : ℕ) (entries : List Entry) (e : Event) (plan : Plan) (planned : I
   pub core_next : plan.after ≡ core_of n (entries ++ planned_entry plan ∷ [])
   core_next =
       planned.accepted.logged
-      ∙ (ap (λ (log : List (Event × Reply)). record { max_sites = n; log = log }) (sym (logged_more entries entry))
+      ∙ (ap (λ (log : List (Event × Reply)). record { limits = n; log = log }) (sym (logged_more entries entry))
       ∙ ap (λ (x : Entry). core_of n (entries ++ x ∷ [])) (sym entry_is))
 
   pub accepted_next : IsAccepted (core_of n entries) (core_of n (entries ++ planned_entry plan ∷ [])) e plan.reply
@@ -89,24 +90,24 @@ module _ (n : ℕ) (entries : List Entry) (e : Event) (plan : Plan) (planned : I
   pub refused_step : (r : Refusal) → r ≡ Memory → IsRefused (verdict n (world_after (events_of entries)) e) r
   refused_step r is = subst (λ (k : Refusal). IsRefused (verdict n (world_after (events_of entries)) e) k) (sym is) memory_refused
 
-pub refused_logged : (n : ℕ) (entries : List Entry) (e : Event) (r : Refusal) → IsRefused (verdict n (world_of (core_of n entries)) e) r
+pub refused_logged : (n : Limits) (entries : List Entry) (e : Event) (r : Refusal) → IsRefused (verdict n (world_of (core_of n entries)) e) r
     → IsRefused (verdict n (world_after (events_of entries)) e) r
 refused_logged n entries e r = subst (λ (h : List Event). IsRefused (verdict n (world_after h) e) r) (events_logged n entries)
 
 -- what a snapshot of the core has
-pub world_logged : (n : ℕ) (entries : List Entry) (core : State) → core ≡ core_of n entries → world_of core ≡ world_after (events_of entries)
+pub world_logged : (n : Limits) (entries : List Entry) (core : State) → core ≡ core_of n entries → world_of core ≡ world_after (events_of entries)
 world_logged n entries core is = ap world_of is ∙ ap world_after (events_logged n entries)
 
-pub serial_logged : (n : ℕ) (entries : List Entry) (core : State) → core ≡ core_of n entries → length core.log ≡ length entries
+pub serial_logged : (n : Limits) (entries : List Entry) (core : State) → core ≡ core_of n entries → length core.log ≡ length entries
 serial_logged n entries core is = ap (λ (s : State). length s.log) is ∙ length_logged entries
 
 -- as many classes as after the list
-pub classes_logged : (n : ℕ) (entries : List Entry) (core : State) → core ≡ core_of n entries → length (world_of core).classes.rows ≡ classes_of entries
+pub classes_logged : (n : Limits) (entries : List Entry) (core : State) → core ≡ core_of n entries → length (world_of core).classes.rows ≡ classes_of entries
 classes_logged n entries core is = ap (λ (w : World). length w.classes.rows) (world_logged n entries core is)
 
 -- what is accepted in a world is accepted by a core that has this world
-pub accepted_logged : (n : ℕ) (entries : List Entry) (core : State) (e : Event) (w : World) → core ≡ core_of n entries → world_after (events_of entries) ≡ w
-    → IsOk (verdict n w e) → IsOk (verdict core.max_sites (world_of core) e)
+pub accepted_logged : (n : Limits) (entries : List Entry) (core : State) (e : Event) (w : World) → core ≡ core_of n entries → world_after (events_of entries) ≡ w
+    → IsOk (verdict n w e) → IsOk (verdict core.limits (world_of core) e)
 accepted_logged n entries core e w is same accepted =
-    subst (λ (v : World). IsOk (verdict core.max_sites v e)) (sym (world_logged n entries core is ∙ same))
-    (subst (λ (s : State). IsOk (verdict s.max_sites w e)) (sym is) accepted)
+    subst (λ (v : World). IsOk (verdict core.limits v e)) (sym (world_logged n entries core is ∙ same))
+    (subst (λ (s : State). IsOk (verdict s.limits w e)) (sym is) accepted)

@@ -1,8 +1,9 @@
 -- Answers by what is remembered are the calls', after each legal list that goes on the one after which they were given.
-use Rattle.std.specs.Prelude.{◌≡◌, ℕ, Bool, true, false, List, ◌++◌, length, Option, Some, None, IfSome, get_or, if◌then◌else◌}
+use Rattle.std.specs.Prelude.{◌≡◌, ℕ, Bool, true, false, List, ◌++◌, Option, Some, None, IfSome, get_or, if◌then◌else◌}
 use Rattle.std.proofs.Common.{refl, ap, sym, subst, ◌∙◌}
 use Rattle.std.proofs.lemmas.List.{map-append}
 use mathlib.Core.List.{IsPrefix}
+use Rattle.jl_types.specs.declared.limits.Limits.{Limits}
 use Rattle.jl_types.specs.declared.answer.Outcome.{Outcome}
 use Rattle.jl_types.specs.declared.answer.Recv.{Recv}
 use Rattle.jl_types.specs.declared.answer.Recv.TheVariants.{Of}
@@ -40,9 +41,9 @@ module _ (before after : List Entry) (p : IsPrefix before after) where
   on = ap events_of (sym p.1) ∙ map-append (λ (entry : Entry). entry.event) before p.0
 
   module _ (sets : List Set) (right : AreRight (world_after h) sets) (s : ℕ) where
-    module _ (max_sites : ℕ) (legal : IsLegal max_sites after) where
+    module _ (limits : Limits) (legal : IsLegal limits after) where
       closed : IsClosed (world_after (h ++ more)).classes
-      closed = subst (λ (k : List Event). IsClosed (world_after k).classes) on (legal_closed max_sites after legal)
+      closed = subst (λ (k : List Event). IsClosed (world_after k).classes) on (legal_closed limits after legal)
 
       -- one that is remembered
       pub row_after : (x : ℕ) (o : Outcome) → remembered sets s x ≡ Some o → is_site_present (world_after (events_of after)) s ≡ true
@@ -81,11 +82,11 @@ module _ (before after : List Entry) (p : IsPrefix before after) where
         (sym (ap (λ (k : List Event). dispatch (world_after k) s recv) on) ∙ is))
 
 -- what a memo remembers is so after each legal list that goes on its own
-pub row_stays : (max_sites : ℕ) (m n : Remembering) → m ≡ n → AreRight (world_after (events_of m.seen)) m.sets → (s x : ℕ) (found : Option Outcome)
-    → found ≡ remembered m.sets s x → IfSome found (HoldsFrom max_sites n.seen s x)
-row_stays max_sites m n same right s x None is = tt
-row_stays max_sites m n same right s x (Some o) is = λ later p legal present concrete.
-    row_after n.seen later p n.sets (subst (λ (r : Remembering). AreRight (world_after (events_of r.seen)) r.sets) same right) s max_sites legal x o
+pub row_stays : (limits : Limits) (m n : Remembering) → m ≡ n → AreRight (world_after (events_of m.seen)) m.sets → (s x : ℕ) (found : Option Outcome)
+    → found ≡ remembered m.sets s x → IfSome found (HoldsFrom limits n.seen s x)
+row_stays limits m n same right s x None is = tt
+row_stays limits m n same right s x (Some o) is = λ later p legal present concrete.
+    row_after n.seen later p n.sets (subst (λ (r : Remembering). AreRight (world_after (events_of r.seen)) r.sets) same right) s limits legal x o
     (ap (λ (r : Remembering). remembered r.sets s x) (sym same) ∙ sym is) present concrete
 
 -- what is found in the published table
@@ -93,6 +94,6 @@ pub with_shown : (y : Table) (sets : List Set) (s : ℕ) (recv : Recv) (zs : Lis
     → f ≡ answer_with sets (get_or y.links s None) y.classes s recv → f ≡ answer_with sets (installed (events_of zs) s) (classes_of zs) s recv
 with_shown y sets s recv zs f shown same is =
     is ∙ (ap (λ (l : Option Link). answer_with sets l y.classes s recv)
-    (ap (λ (ls : List (Option Link)). get_or ls s None) shown.links ∙ legal_shows (length y.links) y.list.reached.log shown.legal s)
+    (ap (λ (ls : List (Option Link)). get_or ls s None) shown.links ∙ legal_shows y.limits y.list.reached.log shown.legal s)
     ∙ (ap (λ (k : ℕ). answer_with sets (installed (events_of y.list.reached.log) s) k s recv) shown.classes
     ∙ ap (λ (ws : List Entry). answer_with sets (installed (events_of ws) s) (classes_of ws) s recv) (sym same)))

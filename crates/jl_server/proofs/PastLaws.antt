@@ -1,7 +1,8 @@
--- What of a log is behind its first entries tells what of its events is behind the first.
+-- What of a log is after its first entries tells what of its events is after the first.
 use Rattle.std.specs.Prelude.{◌≡◌, ℕ, zero, suc, ◌&&◌, true, List, [], ◌∷◌, drop, length, Option, Some, None, is_some}
 use Rattle.std.specs.List.{cons_option}
 use Rattle.std.proofs.Common.{refl, ap, sym, ◌∙◌}
+use Rattle.jl_types.specs.declared.limits.Limits.{Limits}
 use Rattle.jl_types.specs.Events.Event.{Event}
 use Rattle.jl_types.specs.declared.event.Reply.{Reply}
 use Rattle.jl_types.specs.Values.World.{Class, World}
@@ -28,8 +29,8 @@ module _ (rows : List Class) where
       by_one None k rest = absurd (cc k)
       by_one (Some x) k rest = rest k n
 
--- of a core whose log is the list, and the world after the list: what its entries behind the first tell
-module _ (n : ℕ) (entries : List plain.Entry) (core : State) (is : core ≡ core_of n entries) (w : World) (after : w ≡ world_after (events_of entries))
+-- of a core whose log is the list, and the world after the list: what its entries after the first tell
+module _ (n : Limits) (entries : List plain.Entry) (core : State) (is : core ≡ core_of n entries) (w : World) (after : w ≡ world_after (events_of entries))
     (log rest : List Entry) (from : ℕ) (left : rest ≡ drop from log) (all_told : are_told (world_of core).classes.rows log ≡ true) where
   same : w ≡ world_of core
   same = after ∙ sym (world_logged n entries core is)
@@ -44,7 +45,7 @@ module _ (n : ℕ) (entries : List plain.Entry) (core : State) (is : core ≡ co
       ∙ ap (λ (xs : List (Event × Reply)). drop from xs) (events ∙ ap (λ (s : State). s.log) is))
 
 -- such a log is as long as the list
-pub as_long : (n : ℕ) (entries : List plain.Entry) (core : State) → core ≡ core_of n entries → (log : List Entry)
+pub as_long : (n : Limits) (entries : List plain.Entry) (core : State) → core ≡ core_of n entries → (log : List Entry)
     → are_told (world_of core).classes.rows log ≡ true → shown (world_of core).classes.rows log ≡ core.log → length log ≡ length entries
 as_long n entries core is log all_told events =
     sym (length_told (world_of core).classes.rows log all_told)

@@ -4,7 +4,6 @@ use mathlib.Core.Option.{some}
 use lib.ListN.{get_elem?}
 use Rattle.left_right.specs.Register.{Admits, TurnsAt, Turns, Forks, Merges}
 use Rattle.atomic_table.proofs.Lists.{at_set, at_snoc}
-use Rattle.jl_types.proofs.Written.{length_written}
 use Rattle.jl_server.specs.declared.mark.Tag.{Tag}
 use Rattle.jl_server.specs.declared.table.Table.{Table}
 use Rattle.jl_server.specs.declared.table.Change.{Change}
@@ -18,18 +17,18 @@ admits x views h = (
       (at_snoc views None v seat at),
 )
 
-same_known : (s t : Content) (v : Option Tag) → t.list.reached.book ≡ s.list.reached.book → length t.links ≡ length s.links → Knows s v → Knows t v
-same_known s t None book wide knows = tt
-same_known s t (Some tag) book wide knows = (knows.0 ∙ sym book, knows.1 ∙ sym wide)
+same_known : (s t : Content) (v : Option Tag) → t.list.reached.book ≡ s.list.reached.book → t.limits ≡ s.limits → Knows s v → Knows t v
+same_known s t None book limits knows = tt
+same_known s t (Some tag) book limits knows = (knows.0 ∙ sym book, knows.1 ∙ sym limits)
 
-module _ (seat : ℕ) (v : Option Tag) (x y : Table) (book : y.list.reached.book ≡ x.list.reached.book) (wide : length y.links ≡ length x.links) where
-  -- a table of the same history, with as many sites
+module _ (seat : ℕ) (v : Option Tag) (x y : Table) (book : y.list.reached.book ≡ x.list.reached.book) (limits : y.limits ≡ x.limits) where
+  -- a table of the same history, with the same limits
   pub turns : (w : Option Tag) → Knows (content y) w → (IsShown (content x) → IsShown (content y)) → (views : List (Option Tag)) → Ruled x views
       → Ruled y (set views seat w)
   turns w known shown views h = (
     shown h.0,
     λ j u e. ⊎_elim (λ (t : (j ≡ seat) × (w ≡ u)). subst (λ (z : Option Tag). Knows (content y) z) t.1 known)
-        (λ (t : (j ≢ seat) × (get_elem? views j ≡ some u)). same_known (content x) (content y) u book wide (h.1 j u t.1)) (at_set views seat j w u e),
+        (λ (t : (j ≢ seat) × (get_elem? views j ≡ some u)). same_known (content x) (content y) u book limits (h.1 j u t.1)) (at_set views seat j w u e),
   )
 
   pub publishes : (IsShown (content x) → IsShown (content y)) → TurnsAt Ruled seat v x y Publishes
@@ -59,7 +58,7 @@ pub next_table : (seat : ℕ) (v : Option Tag) (x : Table) (change : Change) →
     → (y : Table) → content y ≡ changed (content x) change → TurnsAt Ruled seat v x y Publishes
 next_table seat v x change book shown y is =
     publishes seat v x y (ap (λ (t : Content). t.list.reached.book) is ∙ book)
-    (ap (λ (t : Content). length t.links) is ∙ length_written change.slots.items x.links)
+    (ap (λ (t : Content). t.limits) is)
     (λ s. subst IsShown (sym is) (shown s))
 
 -- what is pending, where one change was appended to nothing

@@ -1,7 +1,8 @@
 -- What the result of a step of the book says, by what is known of the lists.
-use Rattle.std.specs.Prelude.{◌≡◌, ℕ, ◌<◌, List, [], ◌∷◌, ◌++◌, length, Result, Ok, Err, IfOk, IfErr}
+use Rattle.std.specs.Prelude.{◌≡◌, ◌<◌, List, [], ◌∷◌, ◌++◌, length, Result, Ok, Err, IfOk, IfErr}
 use Rattle.std.proofs.Common.{sym, subst, ◌∙◌}
 use mathlib.Core.List.{IsPrefix}
+use Rattle.jl_types.specs.declared.limits.Limits.{Limits}
 use Rattle.jl_types.specs.Events.Event.{Event}
 use Rattle.jl_types.specs.declared.event.Reply.{Reply}
 use Rattle.jl_types.specs.declared.refusal.Refusal.{Refusal}
@@ -19,7 +20,7 @@ use Rattle.jl_server.proofs.Logs.{accepted_step, entry_step, refused_step}
 
 -- ---- once the event was planned after the list
 
-module _ (n : ℕ) (entries new : List Entry) (e : Event) (plan : Plan) (planned : IsPlanned (core_of n entries) e plan) where
+module _ (n : Limits) (entries new : List Entry) (e : Event) (plan : Plan) (planned : IsPlanned (core_of n entries) e plan) where
   pub is_accepted : (r : Result Reply Refusal) → IfOk r (λ reply. (new ≡ entries ++ planned_entry plan ∷ []) × (reply ≡ plan.reply))
       → IfOk r (λ reply. IsAccepted (core_of n entries) (core_of n new) e reply)
   is_accepted (Ok reply) said = accepted_step n entries e plan planned new reply said.0 said.1
@@ -37,7 +38,7 @@ module _ (n : ℕ) (entries new : List Entry) (e : Event) (plan : Plan) (planned
 
 -- ---- once it is done, after a list that begins the old one
 
-module _ {K : Type 0} (n : ℕ) (seen old new : List Entry) (e : Event) (begun : IsPrefix seen old) where
+module _ {K : Type 0} (n : Limits) (seen old new : List Entry) (e : Event) (begun : IsPrefix seen old) where
   pub receipt_after : (r : Result (Receipt K) (Denied K)) → IfOk r (λ x. new ≡ old ++ entry_after old e x.reply ∷ [])
       → IfOk r (λ x. (x.seen ≡ new) × (x.serial ≡ length new)) → IsLegal n new
       → IfOk r (λ x. IsPrefix seen x.seen × IsLegal n x.seen × (x.serial ≡ length x.seen))

@@ -2,6 +2,7 @@
 use Rattle.std.specs.Prelude.{ℕ, ◌≡◌, ◌==◌, Bool, true, false, List, [], ◌∷◌, ◌++◌, length, map, fold, drop}
 use Rattle.std.specs.List.{list_all}
 use Rattle.logbook.specs.Pages.{Cell, Step, View, Book, Named}
+use Rattle.jl_types.specs.declared.limits.Limits.{Limits}
 use Rattle.jl_types.specs.Events.Event.{Event}
 use Rattle.jl_types.specs.declared.event.EventOf.TheVariants as event
 use Rattle.jl_types.specs.declared.event.Reply.{Reply}
@@ -13,9 +14,9 @@ use Rattle.jl_core.specs.Plans.{Plan}
 abbrev pub logged_of : List Entry → List (Event × Reply)
 logged_of entries = map (λ entry. (entry.event, entry.reply)) entries
 
--- the core whose log the list is
-abbrev pub core_of : ℕ → List Entry → State
-core_of max_sites entries = record { max_sites = max_sites; log = logged_of entries }
+-- the core with these limits whose log the list is
+abbrev pub core_of : Limits → List Entry → State
+core_of limits entries = record { limits = limits; log = logged_of entries }
 
 -- the entry of an event that comes after the list and is answered so
 abbrev pub entry_after : List Entry → Event → Reply → Entry
@@ -38,10 +39,10 @@ is_install _ = false
 abbrev pub installs_alone : ℕ → List Entry → Bool
 installs_alone n entries = list_all (λ entry. is_install entry.event) (drop n entries)
 
--- a server that was not started yet: its history, how many sites may be requested, and how many callers it is to have
+-- a server that was not started yet: its history, its limits, and how many callers it is to have
 pub record Server : Type 0 where
   pub book : Book
-  pub max_sites : ℕ
+  pub limits : Limits
   pub callers : ℕ
 
 -- ---- the rule of the history

@@ -4,6 +4,7 @@ ghost use Rattle.std.specs.Prelude.{◌≡◌, ◌≤◌, ◌+◌, [], ◌∷◌
 ghost use Rattle.std.specs.Prelude.{if◌then◌else◌};
 ghost use Rattle.std.specs.List.{list_all};
 ghost use Rattle.jl_types.specs.declared.refusal.Refusal.TheVariants.{Memory};
+ghost use Rattle.jl_types.specs.Events.Limits.{IsWithin};
 ghost use Rattle.jl_types.specs.Events.Verdict.{verdict};
 ghost use Rattle.jl_types.specs.Linkage.Calls.{dispatch};
 ghost use Rattle.jl_types.specs.Events.History.{world_after, installed, installed_links};
@@ -78,10 +79,10 @@ impl<K: Name, R: Wait + Drop> Model for Book<K, R> {
     ghost view = { λ b. b.list };
 
     ghost invariant = { λ b.
-        (b.core ≡ core_of K.max_sites b.list)
+        (b.core ≡ core_of K.limits b.list)
         × (b.writer.desk.shown.value.list.reached.log ≡ b.list)
         × (b.writer.desk.shown.value.list.reached.book ≡ K.book)
-        × (length b.writer.desk.shown.value.links ≡ K.max_sites)
+        × (b.writer.desk.shown.value.limits ≡ K.limits)
         × (length (drop b.writer.behind b.writer.log.items) ≡ 0)
         × (installs_alone b.since b.list ≡ true) };
 }
@@ -110,10 +111,10 @@ impl<K: Name, R: Wait + Drop> Book<K, R> {
         writer: TableWriter,
         rt: R,
     ) -> Book<K, R>
-        requires core { core ≡ empty_core K.max_sites }
+        requires core { core ≡ empty_core K.limits }
         requires list { list ≡ [] }
         requires shown { (writer.desk.shown.value.list.reached.log ≡ []) × (writer.desk.shown.value.list.reached.book ≡ K.book)
-            × (length writer.desk.shown.value.links ≡ K.max_sites) }
+            × (writer.desk.shown.value.limits ≡ K.limits) }
         requires settled { length (drop writer.behind writer.log.items) ≡ 0 }
         ensures { result ≡ [] }
     {
@@ -138,7 +139,7 @@ impl<K: Name, R: Wait + Drop> Book<K, R> {
     pub fn snapshot(&self, alloc: Global) -> Result<(Snapshot, Seen<K>), AllocError>
         ensures world { IfOk result (λ r. r.0 ≡ record { world = world_after (events_of self.now); serial = length self.now }) }
         ensures seen { IfOk result (λ r. r.1 ≡ self.now) }
-        ensures sites { IfOk result (λ r. length r.0.world.places ≤ K.max_sites) }
+        ensures within { IfOk result (λ r. IsWithin K.limits r.0.world) }
     {
         match self.core.snapshot(alloc) {
             Ok(snapshot) => Ok((snapshot, self.list.again())),
@@ -162,7 +163,7 @@ impl<K: Name, R: Wait + Drop> Book<K, R> {
         ensures world { IfOk result (λ r. r.world ≡ record { world = world_after (events_of self.now); serial = length self.now }) }
         ensures told { IfOk result (λ r. are_told r.world.world.classes.rows r.log ≡ true) }
         ensures entries { IfOk result (λ r. shown r.world.world.classes.rows r.log ≡ logged_of self.now) }
-        ensures answered { IfOk result (λ r. AreAnswered (core_of K.max_sites r.seen)) }
+        ensures answered { IfOk result (λ r. AreAnswered (core_of K.limits r.seen)) }
         ensures files { IfOk result (λ r. list_all has_read_file (events_of r.seen) ≡ true) }
     {
         let whole = self.core.log();
@@ -171,7 +172,7 @@ impl<K: Name, R: Wait + Drop> Book<K, R> {
         Ok(Past { world, log, seen })
     }
 
-    /// What the published list comes to, and that list, with what of its entries is behind the first so many.
+    /// What the published list comes to, and that list, with what of its entries is after the first so many.
     ///
     /// # Errors
     ///
@@ -181,7 +182,7 @@ impl<K: Name, R: Wait + Drop> Book<K, R> {
         ensures world { IfOk result (λ r. r.world ≡ record { world = world_after (events_of self.now); serial = length self.now }) }
         ensures told { IfOk result (λ r. are_told r.world.world.classes.rows r.entries.items ≡ true) }
         ensures entries { IfOk result (λ r. shown r.world.world.classes.rows r.entries.items ≡ drop from (logged_of self.now)) }
-        ensures answered { IfOk result (λ r. AreAnswered (core_of K.max_sites r.seen)) }
+        ensures answered { IfOk result (λ r. AreAnswered (core_of K.limits r.seen)) }
         ensures files { IfOk result (λ r. list_all has_read_file (events_of r.seen) ≡ true) }
         ensures last { length self.now ≤ from + 1 → IfErr result (λ f. f ≡ fault.Memory) }
     {
@@ -220,7 +221,7 @@ impl<K: Name, R: Wait + Drop> Book<K, R> {
     ///
     /// # Errors
     ///
-    /// The first refusal; want of memory where there is none. Nothing has changed then; nor has the history, which grows behind every
+    /// The first refusal; want of memory where there is none. Nothing has changed then; nor has the history, which grows after every
     /// other growth, unless it is the table's queue that lacks memory, which never happens.
     pub fn step<H: Wait>(
         &mut self,
@@ -228,11 +229,11 @@ impl<K: Name, R: Wait + Drop> Book<K, R> {
         alloc: Global,
         event: Event,
     ) -> Result<Receipt<K>, Denied<K>>
-        ensures accepted { IfOk result (λ r. IsAccepted (core_of K.max_sites self.old) (core_of K.max_sites self.new) event r.reply) }
+        ensures accepted { IfOk result (λ r. IsAccepted (core_of K.limits self.old) (core_of K.limits self.new) event r.reply) }
         ensures entry { IfOk result (λ r. self.new ≡ self.old ++ entry_after self.old event r.reply ∷ []) }
         ensures receipt { IfOk result (λ r. (r.seen ≡ self.new) × (r.serial ≡ length self.new)) }
-        ensures legal { IsLegal K.max_sites self.new }
-        ensures refused { IfErr result (λ d. IsRefused (verdict K.max_sites (world_after (events_of self.old)) event) d.refusal) }
+        ensures legal { IsLegal K.limits self.new }
+        ensures refused { IfErr result (λ d. IsRefused (verdict K.limits (world_after (events_of self.old)) event) d.refusal) }
         ensures denied { IfErr result (λ d. (d.seen ≡ self.old) × (self.new ≡ self.old)) }
     {
         self.step_judged(rt, alloc, event, None)
@@ -246,12 +247,12 @@ impl<K: Name, R: Wait + Drop> Book<K, R> {
         event: Event,
         judged: Option<&'a Seen<K>>,
     ) -> Result<Receipt<K>, Denied<K>>
-        requires { IfSome judged (λ list. IsOk (verdict K.max_sites (world_after (events_of list.now)) event)) }
-        ensures accepted { IfOk result (λ r. IsAccepted (core_of K.max_sites self.old) (core_of K.max_sites self.new) event r.reply) }
+        requires { IfSome judged (λ list. IsOk (verdict K.limits (world_after (events_of list.now)) event)) }
+        ensures accepted { IfOk result (λ r. IsAccepted (core_of K.limits self.old) (core_of K.limits self.new) event r.reply) }
         ensures entry { IfOk result (λ r. self.new ≡ self.old ++ entry_after self.old event r.reply ∷ []) }
         ensures receipt { IfOk result (λ r. (r.seen ≡ self.new) × (r.serial ≡ length self.new)) }
-        ensures legal { IsLegal K.max_sites self.new }
-        ensures refused { IfErr result (λ d. IsRefused (verdict K.max_sites (world_after (events_of self.old)) event) d.refusal) }
+        ensures legal { IsLegal K.limits self.new }
+        ensures refused { IfErr result (λ d. IsRefused (verdict K.limits (world_after (events_of self.old)) event) d.refusal) }
         ensures denied { IfErr result (λ d. (d.seen ≡ self.old) × (self.new ≡ self.old)) }
     {
         let stepped = step_on(
@@ -288,7 +289,7 @@ impl<K: Name, R: Wait + Drop> Book<K, R> {
 impl<K: Name, R: Wait + Drop> EventMachine for Book<K, R> {
     ghost use Rattle.jl_server.specs.History.{core_of};
 
-    ghost state = { λ book. core_of K.max_sites book };
+    ghost state = { λ book. core_of K.limits book };
 
     fn accept<'a>(&'a mut self, alloc: Global, event: Event) -> Result<Reply, Refusal> {
         // Its lifetime is named, which a bare `None` would leave open.
@@ -320,18 +321,18 @@ fn step_on<K: Name, H: Wait>(
     event: Event,
     judged: Option<&Seen<K>>,
 ) -> Result<Reply, Refusal>
-    requires so_far { (core.old ≡ core_of K.max_sites list.old) × (installs_alone since.old list.old ≡ true) }
+    requires so_far { (core.old ≡ core_of K.limits list.old) × (installs_alone since.old list.old ≡ true) }
     requires shown { (writer.old.desk.shown.value.list.reached.log ≡ list.old) × (writer.old.desk.shown.value.list.reached.book ≡ K.book)
-        × (length writer.old.desk.shown.value.links ≡ K.max_sites) }
+        × (writer.old.desk.shown.value.limits ≡ K.limits) }
     requires settled { length (drop writer.old.behind writer.old.log.items) ≡ 0 }
-    requires judged { IfSome judged (λ earlier. IsOk (verdict K.max_sites (world_after (events_of earlier.now)) event)) }
-    ensures accepted { IfOk result (IsAccepted (core_of K.max_sites list.old) (core_of K.max_sites list.new) event) }
+    requires judged { IfSome judged (λ earlier. IsOk (verdict K.limits (world_after (events_of earlier.now)) event)) }
+    ensures accepted { IfOk result (IsAccepted (core_of K.limits list.old) (core_of K.limits list.new) event) }
     ensures entry { IfOk result (λ reply. list.new ≡ list.old ++ entry_after list.old event reply ∷ []) }
-    ensures refused { IfErr result (IsRefused (verdict K.max_sites (world_after (events_of list.old)) event)) }
+    ensures refused { IfErr result (IsRefused (verdict K.limits (world_after (events_of list.old)) event)) }
     ensures unchanged { OnErr result (list.new ≡ list.old) }
-    ensures so_far { (core.new ≡ core_of K.max_sites list.new) × (installs_alone since.new list.new ≡ true) }
+    ensures so_far { (core.new ≡ core_of K.limits list.new) × (installs_alone since.new list.new ≡ true) }
     ensures shown { (writer.new.desk.shown.value.list.reached.log ≡ list.new) × (writer.new.desk.shown.value.list.reached.book ≡ K.book)
-        × (length writer.new.desk.shown.value.links ≡ K.max_sites) }
+        × (writer.new.desk.shown.value.limits ≡ K.limits) }
     ensures settled { length (drop writer.new.behind writer.new.log.items) ≡ 0 }
 {
     match next_step(alloc, core, head, list, *since, event, judged) {
@@ -351,20 +352,20 @@ fn publish_next<K: Name, H: Wait>(
     planned: Planned,
     next: Publication<K>,
 ) -> Result<Reply, Refusal>
-    requires so_far { (core.old ≡ core_of K.max_sites list.old) × (installs_alone since.old list.old ≡ true) }
+    requires so_far { (core.old ≡ core_of K.limits list.old) × (installs_alone since.old list.old ≡ true) }
     requires shown { (writer.old.desk.shown.value.list.reached.log ≡ list.old) × (writer.old.desk.shown.value.list.reached.book ≡ K.book)
-        × (length writer.old.desk.shown.value.links ≡ K.max_sites) }
+        × (writer.old.desk.shown.value.limits ≡ K.limits) }
     requires settled { length (drop writer.old.behind writer.old.log.items) ≡ 0 }
-    requires planned { IsAsPlanned (core_of K.max_sites list.old) planned }
+    requires planned { IsAsPlanned (core_of K.limits list.old) planned }
     requires installs { next.installs ≡ is_install (planned_entry planned).event }
     requires list { next.list ≡ list.old ++ planned_entry planned ∷ [] }
     requires change { IsChangeOf K.book planned next.list next.change }
-    requires legal { IsLegal K.max_sites next.list }
+    requires legal { IsLegal K.limits next.list }
     ensures list { IfOk result (λ reply. (list.new ≡ list.old ++ planned_entry planned ∷ []) × (reply ≡ planned.reply)) }
     ensures refused { IfErr result (λ refusal. (refusal ≡ Memory) × (list.new ≡ list.old)) }
-    ensures so_far { (core.new ≡ core_of K.max_sites list.new) × (installs_alone since.new list.new ≡ true) }
+    ensures so_far { (core.new ≡ core_of K.limits list.new) × (installs_alone since.new list.new ≡ true) }
     ensures shown { (writer.new.desk.shown.value.list.reached.log ≡ list.new) × (writer.new.desk.shown.value.list.reached.book ≡ K.book)
-        × (length writer.new.desk.shown.value.links ≡ K.max_sites) }
+        × (writer.new.desk.shown.value.limits ≡ K.limits) }
     ensures settled { length (drop writer.new.behind writer.new.log.items) ≡ 0 }
 {
     let Publication {
@@ -393,15 +394,15 @@ fn next_step<K: Name>(
     event: Event,
     judged: Option<&Seen<K>>,
 ) -> Result<(Planned, Publication<K>), Refusal>
-    requires core { core.old ≡ core_of K.max_sites list.now }
+    requires core { core.old ≡ core_of K.limits list.now }
     requires alone { installs_alone since list.now ≡ true }
-    requires judged { IfSome judged (λ earlier. IsOk (verdict K.max_sites (world_after (events_of earlier.now)) event)) }
-    ensures planned { IfOk result (λ r. IsPlanned (core_of K.max_sites list.now) event r.0) }
+    requires judged { IfSome judged (λ earlier. IsOk (verdict K.limits (world_after (events_of earlier.now)) event)) }
+    ensures planned { IfOk result (λ r. IsPlanned (core_of K.limits list.now) event r.0) }
     ensures installs { IfOk result (λ r. r.1.installs ≡ is_install (planned_entry r.0).event) }
     ensures list { IfOk result (λ r. r.1.list ≡ list.now ++ planned_entry r.0 ∷ []) }
     ensures change { IfOk result (λ r. IsChangeOf K.book r.0 r.1.list r.1.change) }
-    ensures legal { IfOk result (λ r. IsLegal K.max_sites r.1.list) }
-    ensures refused { IfErr result (IsRefused (verdict K.max_sites (world_after (events_of list.now)) event)) }
+    ensures legal { IfOk result (λ r. IsLegal K.limits r.1.list) }
+    ensures refused { IfErr result (IsRefused (verdict K.limits (world_after (events_of list.now)) event)) }
     ensures unchanged { core.new ≡ core.old }
     ensures grown { IfOk result (λ r. head.new ≡ r.1.list) }
     ensures kept { OnErr result (head.new ≡ head.old) }
@@ -425,11 +426,11 @@ fn plan<K: Name>(
     event: Event,
     judged: Option<&Seen<K>>,
 ) -> Result<Planned, Refusal>
-    requires core { core.old ≡ core_of K.max_sites list.now }
+    requires core { core.old ≡ core_of K.limits list.now }
     requires alone { installs_alone since list.now ≡ true }
-    requires judged { IfSome judged (λ earlier. IsOk (verdict K.max_sites (world_after (events_of earlier.now)) event)) }
-    ensures planned { IfOk result (IsPlanned (core_of K.max_sites list.now) event) }
-    ensures refused { IfErr result (IsRefused (verdict K.max_sites (world_after (events_of list.now)) event)) }
+    requires judged { IfSome judged (λ earlier. IsOk (verdict K.limits (world_after (events_of earlier.now)) event)) }
+    ensures planned { IfOk result (IsPlanned (core_of K.limits list.now) event) }
+    ensures refused { IfErr result (IsRefused (verdict K.limits (world_after (events_of list.now)) event)) }
     ensures unchanged { core.new ≡ core.old }
 {
     match judged {
@@ -447,11 +448,11 @@ fn plan_judged<K: Name>(
     event: Event,
     earlier: &Seen<K>,
 ) -> Result<Planned, Refusal>
-    requires core { core.old ≡ core_of K.max_sites list.now }
+    requires core { core.old ≡ core_of K.limits list.now }
     requires alone { installs_alone since list.now ≡ true }
-    requires judged { IsOk (verdict K.max_sites (world_after (events_of earlier.now)) event) }
-    ensures planned { IfOk result (IsPlanned (core_of K.max_sites list.now) event) }
-    ensures refused { IfErr result (IsRefused (verdict K.max_sites (world_after (events_of list.now)) event)) }
+    requires judged { IsOk (verdict K.limits (world_after (events_of earlier.now)) event) }
+    ensures planned { IfOk result (IsPlanned (core_of K.limits list.now) event) }
+    ensures refused { IfErr result (IsRefused (verdict K.limits (world_after (events_of list.now)) event)) }
     ensures unchanged { core.new ≡ core.old }
 {
     if !is_as_after(list, since, earlier) {
@@ -470,9 +471,9 @@ fn plan_new<K: Name>(
     list: &Seen<K>,
     event: Event,
 ) -> Result<Planned, Refusal>
-    requires { core.old ≡ core_of K.max_sites list.now }
-    ensures planned { IfOk result (IsPlanned (core_of K.max_sites list.now) event) }
-    ensures refused { IfErr result (IsRefused (verdict K.max_sites (world_after (events_of list.now)) event)) }
+    requires { core.old ≡ core_of K.limits list.now }
+    ensures planned { IfOk result (IsPlanned (core_of K.limits list.now) event) }
+    ensures refused { IfErr result (IsRefused (verdict K.limits (world_after (events_of list.now)) event)) }
     ensures unchanged { core.new ≡ core.old }
 {
     let _list = list;
@@ -505,10 +506,10 @@ fn what_is_next<K: Name>(
     planned: &Planned,
     installs: bool,
 ) -> Option<Publication<K>>
-    requires { IsAsPlanned (core_of K.max_sites list.now) planned.now }
+    requires { IsAsPlanned (core_of K.limits list.now) planned.now }
     ensures list { IfSome result (λ next. next.list ≡ list.now ++ planned_entry planned.now ∷ []) }
     ensures change { IfSome result (λ next. IsChangeOf K.book planned.now next.list next.change) }
-    ensures legal { IfSome result (λ next. IsLegal K.max_sites next.list) }
+    ensures legal { IfSome result (λ next. IsLegal K.limits next.list) }
     ensures installs { IfSome result (λ next. next.installs ≡ installs) }
     ensures grown { IfSome result (λ next. head.new ≡ next.list) }
     ensures kept { IfNone result (head.new ≡ head.old) }
@@ -532,7 +533,7 @@ fn what_is_next<K: Name>(
 /// This list with the entry of what was planned, which is added to the history. There is nothing where the history is longer, and then it
 /// is as it was.
 fn next_list<K: Name>(head: &mut Head<K>, list: &Seen<K>, planned: &Planned) -> Option<Seen<K>>
-    requires { IsAsPlanned (core_of K.max_sites list.now) planned.now }
+    requires { IsAsPlanned (core_of K.limits list.now) planned.now }
     ensures list { IfSome result (λ next. next ≡ list.now ++ planned_entry planned.now ∷ []) }
     ensures grown { IfSome result (λ next. head.new ≡ next) }
     ensures kept { IfNone result (head.new ≡ head.old) }

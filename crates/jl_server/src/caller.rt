@@ -29,7 +29,7 @@ use std::marker::Model;
 struct TablePlace<K: Name> {
     looking: TableReader,
     seen: Seen<K>,
-    ghost known: { server_of (seat_view looking.place) ≡ Some (K.book, K.max_sites) },
+    ghost known: { server_of (seat_view looking.place) ≡ Some (K.book, K.limits) },
 }
 
 /// A caller: one thread's place at the published table, and what it has seen. A clause sees the list that it has seen. Since each
@@ -61,7 +61,7 @@ impl<K: Name> Model for Caller<K> {
 
 impl<K: Name> Caller<K> {
     pub(crate) fn new(looking: TableReader, seen: Seen<K>) -> Caller<K>
-        requires { server_of (seat_view looking.place) ≡ Some (K.book, K.max_sites) }
+        requires { server_of (seat_view looking.place) ≡ Some (K.book, K.limits) }
         ensures { result ≡ seen }
     {
         Caller {
@@ -88,7 +88,7 @@ impl<K: Name> Caller<K> {
         ensures own { IsPrefix self.old self.new }
         ensures token { IsPrefix token.now self.new }
         ensures one { (self.new ≡ self.old) ⊎ (self.new ≡ token.now) }
-        ensures legal { IsLegal K.max_sites self.new }
+        ensures legal { IsLegal K.limits self.new }
     {
         let seen = self.seen().longer(token);
         self.seat.seen = seen;
@@ -99,7 +99,7 @@ impl<K: Name> Caller<K> {
     /// which never happens.
     pub fn call(&mut self, site: SiteNo, recv: Recv) -> Fast
         ensures own { IsPrefix self.old self.new }
-        ensures legal { IsLegal K.max_sites self.new }
+        ensures legal { IsLegal K.limits self.new }
         ensures answer { (result ≡ fast_answer (installed (events_of self.new) site) (classes_of self.new) recv) ⊎ ((result ≡ Closed) × (self.new ≡ self.old)) }
         ensures now { (a : Answer) → result ≡ Now a → FitsInstalled (events_of self.new) site recv → dispatch (world_after (events_of self.new)) site recv ≡ a }
     {
@@ -112,7 +112,7 @@ impl<K: Name> Caller<K> {
     pub fn call_with(&mut self, memo: &Memo<K>, site: SiteNo, recv: Recv) -> Fast
         ensures own { IsPrefix self.old self.new }
         ensures memo { IsPrefix memo.now.seen self.new }
-        ensures legal { IsLegal K.max_sites self.new }
+        ensures legal { IsLegal K.limits self.new }
         ensures answer { (result ≡ answer_with memo.now.sets (installed (events_of self.new) site) (classes_of self.new) site recv)
             ⊎ ((result ≡ Closed) × ((self.new ≡ self.old) ⊎ (self.new ≡ memo.now.seen))) }
         ensures now { (a : Answer) → result ≡ Now a → FitsMemo (events_of self.new) site recv → dispatch (world_after (events_of self.new)) site recv ≡ a }
@@ -126,7 +126,7 @@ impl<K: Name> Caller<K> {
     pub fn call_all(&mut self, calls: &[(SiteNo, Recv)], answers: &mut [Fast])
         requires { length calls.now ≡ length answers.old }
         ensures own { IsPrefix self.old self.new }
-        ensures legal { IsLegal K.max_sites self.new }
+        ensures legal { IsLegal K.limits self.new }
         ensures answers { (answers.new ≡ answers_at self.new calls.now) ⊎ ((answers.new ≡ all_closed calls.now) × (self.new ≡ self.old)) }
         ensures now { AllZip (AnswersCall (events_of self.new)) calls.now answers.new }
     {
@@ -138,7 +138,7 @@ impl<K: Name> TablePlace<K> {
     /// One call.
     fn call(&mut self, site: SiteNo, recv: Recv) -> Fast
         ensures own { IsPrefix self.old.seen self.new.seen }
-        ensures legal { IsLegal K.max_sites self.new.seen }
+        ensures legal { IsLegal K.limits self.new.seen }
         ensures answer { (result ≡ fast_answer (installed (events_of self.new.seen) site) (classes_of self.new.seen) recv)
             ⊎ ((result ≡ Closed) × (self.new.seen ≡ self.old.seen)) }
     {
@@ -154,7 +154,7 @@ impl<K: Name> TablePlace<K> {
     fn call_with(&mut self, memo: &Memo<K>, site: SiteNo, recv: Recv) -> Fast
         ensures own { IsPrefix self.old.seen self.new.seen }
         ensures memo { IsPrefix memo.now.seen self.new.seen }
-        ensures legal { IsLegal K.max_sites self.new.seen }
+        ensures legal { IsLegal K.limits self.new.seen }
         ensures answer { (result ≡ answer_with memo.now.sets (installed (events_of self.new.seen) site) (classes_of self.new.seen) site recv)
             ⊎ ((result ≡ Closed) × ((self.new.seen ≡ self.old.seen) ⊎ (self.new.seen ≡ memo.now.seen))) }
     {
@@ -170,7 +170,7 @@ impl<K: Name> TablePlace<K> {
     fn call_all(&mut self, calls: &[(SiteNo, Recv)], answers: &mut [Fast])
         requires { length calls.now ≡ length answers.old }
         ensures own { IsPrefix self.old.seen self.new.seen }
-        ensures legal { IsLegal K.max_sites self.new.seen }
+        ensures legal { IsLegal K.limits self.new.seen }
         ensures answers { (answers.new ≡ answers_at self.new.seen calls.now) ⊎ ((answers.new ≡ all_closed calls.now) × (self.new.seen ≡ self.old.seen)) }
     {
         let seen = self.seen.again();
@@ -190,10 +190,10 @@ fn look<K: Name>(
     site: SiteNo,
     recv: Recv,
 ) -> (TableReader, (Seen<K>, Fast))
-    requires { server_of (seat_view looking.place) ≡ Some (K.book, K.max_sites) }
+    requires { server_of (seat_view looking.place) ≡ Some (K.book, K.limits) }
     ensures place { seat_view result.0.place ≡ seat_view looking.place }
     ensures own { IsPrefix seen result.1.0 }
-    ensures legal { IsLegal K.max_sites result.1.0 }
+    ensures legal { IsLegal K.limits result.1.0 }
     ensures answer { (result.1.1 ≡ fast_answer (installed (events_of result.1.0) site) (classes_of result.1.0) recv)
         ⊎ ((result.1.1 ≡ Closed) × (result.1.0 ≡ seen)) }
 {
@@ -214,10 +214,10 @@ fn look_with<K: Name>(
     site: SiteNo,
     recv: Recv,
 ) -> (TableReader, (Seen<K>, Fast))
-    requires { server_of (seat_view looking.place) ≡ Some (K.book, K.max_sites) }
+    requires { server_of (seat_view looking.place) ≡ Some (K.book, K.limits) }
     ensures place { seat_view result.0.place ≡ seat_view looking.place }
     ensures own { IsPrefix seen result.1.0 }
-    ensures legal { IsLegal K.max_sites result.1.0 }
+    ensures legal { IsLegal K.limits result.1.0 }
     ensures answer { (result.1.1 ≡ answer_with memo.now.sets (installed (events_of result.1.0) site) (classes_of result.1.0) site recv)
         ⊎ ((result.1.1 ≡ Closed) × (result.1.0 ≡ seen)) }
 {
@@ -237,12 +237,12 @@ fn look_all<'a, K: Name>(
     calls: &[(SiteNo, Recv)],
     answers: &'a mut [Fast],
 ) -> (TableReader, (Seen<K>, &'a mut [Fast]))
-    requires place { server_of (seat_view looking.place) ≡ Some (K.book, K.max_sites) }
+    requires place { server_of (seat_view looking.place) ≡ Some (K.book, K.limits) }
     requires length { length calls.now ≡ length answers.now }
     ensures place { seat_view result.0.place ≡ seat_view looking.place }
     ensures same { result.1.1.ghost_name ≡ answers.entry.ghost_name }
     ensures own { IsPrefix seen result.1.0 }
-    ensures legal { IsLegal K.max_sites result.1.0 }
+    ensures legal { IsLegal K.limits result.1.0 }
     ensures answers { (result.1.1.now ≡ answers_at result.1.0 calls.now) ⊎ ((result.1.1.now ≡ all_closed calls.now) × (result.1.0 ≡ seen)) }
 {
     match entered(looking, seen) {
@@ -262,14 +262,14 @@ fn entered<K: Name>(
     looking: TableReader,
     seen: Seen<K>,
 ) -> Result<(TableReading, Seen<K>), (TableReader, Seen<K>)>
-    requires { server_of (seat_view looking.place) ≡ Some (K.book, K.max_sites) }
+    requires { server_of (seat_view looking.place) ≡ Some (K.book, K.limits) }
     ensures place { IfOk result (λ r. seat_view r.0.place ≡ seat_view looking.place) }
     ensures shown { IfOk result (λ r. IsShown (content r.0.part.value)) }
     ensures list { IfOk result (λ r. r.1 ≡ r.0.part.value.list.reached.log) }
     ensures own { IfOk result (λ r. IsPrefix seen r.1) }
-    ensures legal { IfOk result (λ r. IsLegal K.max_sites r.1) }
+    ensures legal { IfOk result (λ r. IsLegal K.limits r.1) }
     ensures given { IfErr result (λ r. (seat_view r.0.place ≡ seat_view looking.place) × (r.1 ≡ seen)) }
-    ensures same { IfErr result (λ r. IsPrefix seen r.1 × IsLegal K.max_sites r.1) }
+    ensures same { IfErr result (λ r. IsPrefix seen r.1 × IsLegal K.limits r.1) }
 {
     match enter(looking) {
         Ok(reading) => found(reading, seen),
@@ -289,15 +289,15 @@ fn found<K: Name>(
 ) -> Result<(TableReading, Seen<K>), (TableReader, Seen<K>)>
     requires shown { IsShown (content reading.part.value) }
     requires book { reading.part.value.list.reached.book ≡ K.book }
-    requires legal { IsLegal K.max_sites reading.part.value.list.reached.log }
+    requires legal { IsLegal K.limits reading.part.value.list.reached.log }
     ensures older { IfErr result (λ r. length reading.part.value.list.reached.log < length seen) }
     ensures place { IfOk result (λ r. seat_view r.0.place ≡ seat_view reading.place) }
     ensures shown { IfOk result (λ r. IsShown (content r.0.part.value)) }
     ensures list { IfOk result (λ r. r.1 ≡ r.0.part.value.list.reached.log) }
     ensures own { IfOk result (λ r. IsPrefix seen r.1) }
-    ensures legal { IfOk result (λ r. IsLegal K.max_sites r.1) }
+    ensures legal { IfOk result (λ r. IsLegal K.limits r.1) }
     ensures given { IfErr result (λ r. (seat_view r.0.place ≡ seat_view reading.place) × (r.1 ≡ seen)) }
-    ensures same { IfErr result (λ r. IsPrefix seen r.1 × IsLegal K.max_sites r.1) }
+    ensures same { IfErr result (λ r. IsPrefix seen r.1 × IsLegal K.limits r.1) }
 {
     // Shows that the list is legal.
     let _serial = seen.serial();

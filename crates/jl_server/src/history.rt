@@ -59,20 +59,22 @@ impl Plain<Planned, Entry, u64> for Add {
     ghost state = { λ planned. None };
 }
 
-/// Names one server: its history, and how many sites it has. The call that starts a server picks it.
+/// Names one server: its history, and its limits. The call that starts a server picks it.
 pub trait Name {
-    ghost use Rattle.std.specs.Prelude.{ℕ};
     ghost use Rattle.logbook.specs.Pages.{Book};
+    ghost use Rattle.jl_types.specs.declared.limits.Limits.{Limits};
 
     ghost book: { Book };
 
-    ghost max_sites: { ℕ };
+    ghost limits: { Limits };
 }
 
 impl Name for Brand {
+    ghost use Rattle.jl_types.specs.Events.Limits.{fixed};
+
     ghost book = { record { number = 0; log_name = 0; cells_name = 0 } };
 
-    ghost max_sites = { 1 };
+    ghost limits = { fixed 1 };
 }
 
 /// A history with no entries, which has no name yet.

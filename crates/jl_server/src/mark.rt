@@ -4,6 +4,7 @@ ghost use Rattle.std.specs.Prelude.{◌≡◌, length};
 
 use crate::entry::Entry;
 use crate::history::Law;
+use jl_types::Limits;
 use logbook::Seen as Reached;
 
 /// A list that a history has reached, and its length.
@@ -35,8 +36,8 @@ impl Mark {
     }
 }
 
-/// What a seat at the published table knows of it: whose history its list is of, and how many sites it has. No value is made.
+/// What a seat at the published table knows of it: whose history its list is of, and its limits. No value is made.
 pub struct Tag {
     pub reached: Reached<Entry, u64, Law>,
-    pub sites: u64,
+    pub limits: Limits,
 }

@@ -73,7 +73,7 @@ impl<K: Name> Memo<K> {
     /// gone, and of a retired class, of which there is no object, it still gives what was remembered. Takes no memory.
     pub fn get(&self, site: SiteNo, class: ClassId) -> Option<Outcome>
         ensures remembered { result ≡ remembered self.now.sets site class }
-        ensures stays { IfSome result (HoldsFrom K.max_sites self.now.seen site class) }
+        ensures stays { IfSome result (HoldsFrom K.limits self.now.seen site class) }
     {
         // Opens the invariant: what is remembered holds from the seen list on.
         let _seen = &self.seen;

@@ -2,7 +2,7 @@
 
 ghost use Rattle.std.specs.Prelude.{◌≡◌, ◌≤◌, [], Some, length, drop, replicate, None, IfOk, IfSome};
 ghost use Rattle.left_right.specs.Sides.{view as seat_view};
-ghost use Rattle.jl_core.specs.State.{empty_core};
+ghost use Rattle.jl_types.specs.Events.Limits.{fixed, AreAllowed};
 ghost use Rattle.jl_server.specs.ForProofs.Shown.{server_of};
 
 use crate::book::Book;
@@ -14,6 +14,7 @@ use crate::seen::Seen;
 use crate::server::LinkServer;
 use crate::table::{Change, Table};
 use jl_core::Core;
+use jl_types::Limits;
 use left_right::writer::Writer;
 use std::alloc::{AllocError, Global};
 use std::marker::Model;
@@ -25,36 +26,36 @@ use thiserror::Error;
 #[error("Unmade")]
 pub struct Unmade;
 
-/// A core with an empty log, a history with no entries and a table with no links. A clause sees whose history it is, how many sites
-/// may be requested, and how many callers there are to be.
+/// A core with an empty log, a history with no entries and a table with no links. A clause sees whose history it is, its limits, and how
+/// many callers there are to be.
 pub struct Parts {
     core: Core,
     history: Opened,
     writer: TableWriter,
-    sites: u32,
+    limits: Limits,
     callers: usize,
 }
 
 impl Model for Parts {
-    ghost use Rattle.std.specs.Prelude.{◌≡◌, [], length, drop, replicate, None};
+    ghost use Rattle.std.specs.Prelude.{◌≡◌, [], length, drop};
     ghost use Rattle.jl_core.specs.State.{empty_core};
     ghost use Rattle.jl_server.specs.History.{Server};
 
     ghost Value = { Server };
 
-    ghost view = { λ p. record { book = p.history.reached.book; max_sites = p.sites; callers = p.callers } };
+    ghost view = { λ p. record { book = p.history.reached.book; limits = p.limits; callers = p.callers } };
 
     ghost invariant = { λ p.
-        (p.core ≡ empty_core p.sites)
+        (p.core ≡ empty_core p.limits)
         × (p.writer.desk.shown.value.list.reached.log ≡ [])
         × (p.writer.desk.shown.value.list.reached.book ≡ p.history.reached.book)
-        × (p.writer.desk.shown.value.links ≡ replicate p.sites None)
+        × (p.writer.desk.shown.value.limits ≡ p.limits)
         × (length (drop p.writer.behind p.writer.log.items) ≡ 0) };
 }
 
 impl Parts {
     /// Makes all that the server is to have but its callers, with room for so many: one or more sites that may be requested, and
-    /// 1 to 64 callers.
+    /// 1 to 64 callers. The other limits are those of the programs.
     ///
     /// # Errors
     ///
@@ -62,20 +63,33 @@ impl Parts {
     pub fn new(alloc: Global, max_sites: u32, callers: usize) -> Result<Parts, Unmade>
         requires sites { 1 ≤ max_sites }
         requires callers { (1 ≤ callers) × (callers ≤ 64) }
-        ensures { IfOk result (λ parts. (parts.max_sites ≡ max_sites) × (parts.callers ≡ callers)) }
+        ensures { IfOk result (λ parts. (parts.limits ≡ fixed max_sites) × (parts.callers ≡ callers)) }
+    {
+        Parts::with_limits(alloc, Limits::fixed(max_sites), callers)
+    }
+
+    /// The same, with limits of the server's own.
+    ///
+    /// # Errors
+    ///
+    /// Unmade, where a growth was refused.
+    pub fn with_limits(alloc: Global, limits: Limits, callers: usize) -> Result<Parts, Unmade>
+        requires limits { AreAllowed limits }
+        requires callers { (1 ≤ callers) × (callers ≤ 64) }
+        ensures { IfOk result (λ parts. (parts.limits ≡ limits) × (parts.callers ≡ callers)) }
     {
         let history = Opened::new();
-        let Ok(core) = Core::new(alloc, max_sites) else {
+        let Ok(core) = Core::with_limits(alloc, limits) else {
             return Err(Unmade);
         };
-        let Ok(writer) = first_writer(alloc, max_sites, callers, history.mark()) else {
+        let Ok(writer) = first_writer(alloc, limits, callers, history.mark()) else {
             return Err(Unmade);
         };
         Ok(Parts {
             core,
             history,
             writer,
-            sites: max_sites,
+            limits,
             callers,
         })
     }
@@ -92,7 +106,7 @@ impl Parts {
         rt: R,
     ) -> Result<(Book<K, R>, Vec<Caller<K>>), Unmade>
         requires book { self.book ≡ K.book }
-        requires sites { self.max_sites ≡ K.max_sites }
+        requires limits { self.limits ≡ K.limits }
         ensures book { IfOk result (λ made. made.0 ≡ []) }
         ensures callers { IfOk result (λ made. made.1.items ≡ replicate self.callers []) }
     {
@@ -100,7 +114,7 @@ impl Parts {
             core,
             history,
             writer,
-            sites: _,
+            limits: _,
             callers,
         } = self;
         let (head, list) = history.named::<K>();
@@ -122,7 +136,7 @@ impl Parts {
         rt: R,
     ) -> Result<(LinkServer<K, R>, Vec<Caller<K>>), Unmade>
         requires book { self.book ≡ K.book }
-        requires sites { self.max_sites ≡ K.max_sites }
+        requires limits { self.limits ≡ K.limits }
         ensures { IfOk result (λ made. made.1.items ≡ replicate self.callers []) }
     {
         match self.open(alloc, rt) {
@@ -132,23 +146,23 @@ impl Parts {
     }
 }
 
-/// The writer of a first table, of so many sites and of this list, which has no entries. Want of memory is an error.
+/// The writer of a first table, of a server with these limits and of this list, which has no entries. Want of memory is an error.
 #[tactic(auto, using(crate::proofs::Opens::opens, crate::proofs::Opens::alike))]
 fn first_writer(
     alloc: Global,
-    sites: u32,
+    limits: Limits,
     callers: usize,
     list: Mark,
 ) -> Result<TableWriter, AllocError>
     requires callers { (1 ≤ callers) × (callers ≤ 64) }
     requires list { list.reached.log ≡ [] }
     ensures list { IfOk result (λ w. w.desk.shown.value.list ≡ list) }
-    ensures links { IfOk result (λ w. w.desk.shown.value.links ≡ replicate sites None) }
+    ensures limits { IfOk result (λ w. w.desk.shown.value.limits ≡ limits) }
     ensures settled { IfOk result (λ w. drop w.behind w.log.items ≡ []) }
 {
     let again = list.again();
-    let first = Table::new(alloc, sites, list)?;
-    let second = Table::new(alloc, sites, again)?;
+    let first = Table::new(alloc, limits, list)?;
+    let second = Table::new(alloc, limits, again)?;
     Writer::new(alloc, first, second, callers)
 }
 
@@ -164,11 +178,12 @@ fn first_shown<K: Name, R: Wait>(
     requires list { list.now ≡ [] }
     requires settled { length (drop writer.behind writer.log.items) ≡ 0 }
     requires book { writer.desk.shown.value.list.reached.book ≡ K.book }
-    requires links { writer.desk.shown.value.links ≡ replicate K.max_sites None }
+    requires limits { writer.desk.shown.value.limits ≡ K.limits }
+    requires log { writer.desk.shown.value.list.reached.log ≡ [] }
     ensures settled { IfSome result (λ r. length (drop r.0.behind r.0.log.items) ≡ 0) }
     ensures log { IfSome result (λ r. r.0.desk.shown.value.list.reached.log ≡ []) }
     ensures book { IfSome result (λ r. r.0.desk.shown.value.list.reached.book ≡ K.book) }
-    ensures links { IfSome result (λ r. r.0.desk.shown.value.links ≡ replicate K.max_sites None) }
+    ensures limits { IfSome result (λ r. r.0.desk.shown.value.limits ≡ K.limits) }
     ensures callers { IfSome result (λ r. r.1.items ≡ replicate callers []) }
 {
     let writer = publish_blank(rt, alloc, writer, list)?;
@@ -192,12 +207,13 @@ fn publish_blank<K: Name, R: Wait>(
     requires list { list.now ≡ [] }
     requires settled { length (drop writer.behind writer.log.items) ≡ 0 }
     requires book { writer.desk.shown.value.list.reached.book ≡ K.book }
-    requires links { writer.desk.shown.value.links ≡ replicate K.max_sites None }
+    requires limits { writer.desk.shown.value.limits ≡ K.limits }
+    requires log { writer.desk.shown.value.list.reached.log ≡ [] }
     ensures settled { IfSome result (λ w. length (drop w.behind w.log.items) ≡ 0) }
     ensures log { IfSome result (λ w. w.desk.shown.value.list.reached.log ≡ []) }
     ensures book { IfSome result (λ w. w.desk.shown.value.list.reached.book ≡ K.book) }
-    ensures links { IfSome result (λ w. w.desk.shown.value.links ≡ replicate K.max_sites None) }
-    ensures known { IfSome result (λ w. server_of (seat_view w.desk.place) ≡ Some (K.book, K.max_sites)) }
+    ensures limits { IfSome result (λ w. w.desk.shown.value.limits ≡ K.limits) }
+    ensures known { IfSome result (λ w. server_of (seat_view w.desk.place) ≡ Some (K.book, K.limits)) }
 {
     publish(rt, writer, blank(alloc, list))
 }
@@ -221,7 +237,7 @@ fn make_callers<K: Name>(
     list: &Seen<K>,
     callers: usize,
 ) -> Result<Vec<Caller<K>>, AllocError>
-    requires place { server_of (seat_view writer.old.desk.place) ≡ Some (K.book, K.max_sites) }
+    requires place { server_of (seat_view writer.old.desk.place) ≡ Some (K.book, K.limits) }
     requires list { list.now ≡ [] }
     ensures shown { writer.new.desk.shown ≡ writer.old.desk.shown }
     ensures settled { drop writer.new.behind writer.new.log.items ≡ drop writer.old.behind writer.old.log.items }
@@ -236,7 +252,7 @@ fn make_callers<K: Name>(
 }
 
 fn make_caller<K: Name>(writer: &mut TableWriter, list: &Seen<K>) -> Result<Caller<K>, AllocError>
-    requires { server_of (seat_view writer.old.desk.place) ≡ Some (K.book, K.max_sites) }
+    requires { server_of (seat_view writer.old.desk.place) ≡ Some (K.book, K.limits) }
     ensures shown { writer.new.desk.shown ≡ writer.old.desk.shown }
     ensures settled { drop writer.new.behind writer.new.log.items ≡ drop writer.old.behind writer.old.log.items }
     ensures known { seat_view writer.new.desk.place ≡ seat_view writer.old.desk.place }

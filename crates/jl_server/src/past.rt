@@ -68,12 +68,12 @@ impl<K: Name> Caller<K> {
         server: &LinkServer<K, R>,
     ) -> Result<Past<K>, AllocError>
         ensures own { IsPrefix self.old self.new }
-        ensures legal { IsLegal K.max_sites self.new }
+        ensures legal { IsLegal K.limits self.new }
         ensures seen { IfOk result (λ r. r.seen ≡ self.new) }
         ensures world { IfOk result (λ r. r.world ≡ record { world = world_after (events_of self.new); serial = length self.new }) }
         ensures told { IfOk result (λ r. are_told r.world.world.classes.rows r.log ≡ true) }
         ensures entries { IfOk result (λ r. shown r.world.world.classes.rows r.log ≡ logged_of self.new) }
-        ensures answered { OnOk result (AreAnswered (core_of K.max_sites self.new)) }
+        ensures answered { OnOk result (AreAnswered (core_of K.limits self.new)) }
         ensures files { OnOk result (list_all has_read_file (events_of self.new) ≡ true) }
         ensures unchanged { OnErr result (self.new ≡ self.old) }
     {
@@ -85,7 +85,7 @@ impl<K: Name> Caller<K> {
         Ok(past)
     }
 
-    /// What the server has come to after all that the caller has seen, with the entries behind the first so many, in one hold of the
+    /// What the server has come to after all that the caller has seen, with the entries after the first so many, in one hold of the
     /// lock, for which it waits. Each entry tells one event; there are none where there are no more than so many. The entries aren't
     /// copied, and each class file was read.
     ///
@@ -101,12 +101,12 @@ impl<K: Name> Caller<K> {
         from: u64,
     ) -> Result<Since<K>, EntriesFault>
         ensures own { IsPrefix self.old self.new }
-        ensures legal { IsLegal K.max_sites self.new }
+        ensures legal { IsLegal K.limits self.new }
         ensures seen { IfOk result (λ r. r.seen ≡ self.new) }
         ensures world { IfOk result (λ r. r.world ≡ record { world = world_after (events_of self.new); serial = length self.new }) }
         ensures told { IfOk result (λ r. are_told r.world.world.classes.rows r.entries.items ≡ true) }
         ensures entries { IfOk result (λ r. shown r.world.world.classes.rows r.entries.items ≡ drop from (logged_of self.new)) }
-        ensures answered { OnOk result (AreAnswered (core_of K.max_sites self.new)) }
+        ensures answered { OnOk result (AreAnswered (core_of K.limits self.new)) }
         ensures files { OnOk result (list_all has_read_file (events_of self.new) ≡ true) }
         ensures unchanged { OnErr result (self.new ≡ self.old) }
     {
@@ -126,18 +126,18 @@ fn past_after<K: Name, H: Wait, R: Wait + Drop>(
     server: &LinkServer<K, R>,
     seen: &Seen<K>,
 ) -> Result<Past<K>, AllocError>
-    ensures seen { IfOk result (λ r. IsPrefix seen.now r.seen × IsLegal K.max_sites r.seen) }
+    ensures seen { IfOk result (λ r. IsPrefix seen.now r.seen × IsLegal K.limits r.seen) }
     ensures world { IfOk result (λ r. r.world ≡ record { world = world_after (events_of r.seen); serial = length r.seen }) }
     ensures told { IfOk result (λ r. are_told r.world.world.classes.rows r.log ≡ true) }
     ensures entries { IfOk result (λ r. shown r.world.world.classes.rows r.log ≡ logged_of r.seen) }
-    ensures answered { IfOk result (λ r. AreAnswered (core_of K.max_sites r.seen)) }
+    ensures answered { IfOk result (λ r. AreAnswered (core_of K.limits r.seen)) }
     ensures files { IfOk result (λ r. list_all has_read_file (events_of r.seen) ≡ true) }
 {
     let book = caught_up(rt, server, seen);
     book.past(alloc)
 }
 
-/// What the book has come to after this list, with the entries behind the first so many.
+/// What the book has come to after this list, with the entries after the first so many.
 fn entries_after<K: Name, H: Wait, R: Wait + Drop>(
     rt: &H,
     alloc: Global,
@@ -145,18 +145,18 @@ fn entries_after<K: Name, H: Wait, R: Wait + Drop>(
     seen: &Seen<K>,
     from: u64,
 ) -> Result<Since<K>, EntriesFault>
-    ensures seen { IfOk result (λ r. IsPrefix seen.now r.seen × IsLegal K.max_sites r.seen) }
+    ensures seen { IfOk result (λ r. IsPrefix seen.now r.seen × IsLegal K.limits r.seen) }
     ensures world { IfOk result (λ r. r.world ≡ record { world = world_after (events_of r.seen); serial = length r.seen }) }
     ensures told { IfOk result (λ r. are_told r.world.world.classes.rows r.entries.items ≡ true) }
     ensures entries { IfOk result (λ r. shown r.world.world.classes.rows r.entries.items ≡ drop from (logged_of r.seen)) }
-    ensures answered { IfOk result (λ r. AreAnswered (core_of K.max_sites r.seen)) }
+    ensures answered { IfOk result (λ r. AreAnswered (core_of K.limits r.seen)) }
     ensures files { IfOk result (λ r. list_all has_read_file (events_of r.seen) ≡ true) }
 {
     let book = caught_up(rt, server, seen);
     book.entries(alloc, from)
 }
 
-/// What of a log is behind its first so many entries, once more.
+/// What of a log is after its first so many entries, once more.
 ///
 /// # Errors
 ///

@@ -44,7 +44,7 @@ impl<K: Name> Model for Seen<K> {
 
     ghost view = { λ s. s.reached.log };
 
-    ghost invariant = { λ s. (s.serial ≡ length s.reached.log) × (s.reached.book ≡ K.book) × IsLegal K.max_sites s.reached.log };
+    ghost invariant = { λ s. (s.serial ≡ length s.reached.log) × (s.reached.book ≡ K.book) × IsLegal K.limits s.reached.log };
 }
 
 impl<K: Name> Seen<K> {
@@ -64,7 +64,7 @@ impl<K: Name> Seen<K> {
     /// How many entries the list has: the serial of the event that is its last.
     pub fn serial(&self) -> u64
         ensures length { result ≡ length self.now }
-        ensures legal { IsLegal K.max_sites self.now }
+        ensures legal { IsLegal K.limits self.now }
     {
         self.serial
     }
@@ -73,7 +73,7 @@ impl<K: Name> Seen<K> {
     pub(crate) fn mark(&self) -> Mark
         ensures list { result.reached.log ≡ self.now }
         ensures book { result.reached.book ≡ K.book }
-        ensures legal { IsLegal K.max_sites self.now }
+        ensures legal { IsLegal K.limits self.now }
     {
         Mark {
             serial: self.serial,
@@ -84,7 +84,7 @@ impl<K: Name> Seen<K> {
     /// The list of a mark of this history.
     pub(crate) fn of(mark: &Mark) -> Seen<K>
         requires book { mark.now.reached.book ≡ K.book }
-        requires legal { IsLegal K.max_sites mark.now.reached.log }
+        requires legal { IsLegal K.limits mark.now.reached.log }
         ensures { result ≡ mark.now.reached.log }
     {
         Seen {
@@ -119,7 +119,7 @@ impl<K: Name> Seen<K> {
         ensures one { (result ≡ self.now) ⊎ (result ≡ other.now) }
         ensures this { IsPrefix self.now result }
         ensures that { IsPrefix other.now result }
-        ensures legal { IsLegal K.max_sites result }
+        ensures legal { IsLegal K.limits result }
     {
         if self.serial < other.serial {
             self.begins(other);
@@ -133,7 +133,7 @@ impl<K: Name> Seen<K> {
     /// Adds what was planned to all that was seen, and says whether it did. It did not where the history is longer, or has 2^64 - 1
     /// entries; then the history is as it was.
     pub(crate) fn add(&mut self, head: &mut Head<K>, planned: &Planned) -> bool
-        requires { IsEntry K.max_sites (events_of self.old) (planned_entry planned.now) }
+        requires { IsEntry K.limits (events_of self.old) (planned_entry planned.now) }
         ensures list { MatchBool result (self.new ≡ self.old ++ planned_entry planned.now ∷ []) (self.new ≡ self.old) }
         ensures head { MatchBool result (head.new ≡ self.new) (head.new ≡ head.old) }
     {

@@ -3,6 +3,7 @@
 ghost use Rattle.std.specs.Prelude.{◌≡◌, ◌<◌, ◌≤◌, [], ◌∷◌, ◌++◌, length, IsOk, IfOk, IfErr, IfSome, OnErr};
 ghost use Rattle.std.specs.Sync.Mutex.{mutex_guard_value};
 ghost use mathlib.Core.List.{IsPrefix};
+ghost use Rattle.jl_types.specs.Events.Limits.{IsWithin};
 ghost use Rattle.jl_types.specs.Events.Verdict.{verdict};
 ghost use Rattle.jl_types.specs.Linkage.Calls.{dispatch};
 ghost use Rattle.jl_types.specs.Events.History.{world_after, installed, installed_links};
@@ -62,7 +63,7 @@ impl<K: Name, R: Wait + Drop> LinkServer<K, R> {
         caller: &mut Caller<K>,
     ) -> Result<LinkList, AllocError>
         ensures own { IsPrefix caller.old caller.new }
-        ensures legal { IsLegal K.max_sites caller.new }
+        ensures legal { IsLegal K.limits caller.new }
         ensures serial { IfOk result (λ list. list.serial ≡ length caller.new) }
         ensures rows { IfOk result (λ list. list.rows ≡ installed_links (events_of caller.new)) }
         ensures unchanged { OnErr result (caller.new ≡ caller.old) }
@@ -102,12 +103,12 @@ impl<K: Name> Caller<K> {
         event: Event,
     ) -> Result<Receipt<K>, Denied<K>>
         ensures own { IsPrefix self.old self.new }
-        ensures legal { IsLegal K.max_sites self.new }
+        ensures legal { IsLegal K.limits self.new }
         ensures receipt { IfOk result (λ r. (r.seen ≡ self.new) × (r.serial ≡ length self.new)) }
         ensures entry { IfOk result (λ r. EndsWith self.new event r.reply) }
         ensures longer { IfOk result (λ r. length self.old < length self.new) }
         ensures denied { IfErr result (λ d. d.seen ≡ self.new) }
-        ensures refused { IfErr result (λ d. IsRefused (verdict K.max_sites (world_after (events_of self.new)) event) d.refusal) }
+        ensures refused { IfErr result (λ d. IsRefused (verdict K.limits (world_after (events_of self.new)) event) d.refusal) }
     {
         self.apply_one(rt, alloc, server, event, None)
     }
@@ -126,14 +127,14 @@ impl<K: Name> Caller<K> {
         event: Event,
         judged: &Seen<K>,
     ) -> Result<Receipt<K>, Denied<K>>
-        requires { IsOk (verdict K.max_sites (world_after (events_of judged.now)) event) }
+        requires { IsOk (verdict K.limits (world_after (events_of judged.now)) event) }
         ensures own { IsPrefix self.old self.new }
-        ensures legal { IsLegal K.max_sites self.new }
+        ensures legal { IsLegal K.limits self.new }
         ensures receipt { IfOk result (λ r. (r.seen ≡ self.new) × (r.serial ≡ length self.new)) }
         ensures entry { IfOk result (λ r. EndsWith self.new event r.reply) }
         ensures longer { IfOk result (λ r. length self.old < length self.new) }
         ensures denied { IfErr result (λ d. d.seen ≡ self.new) }
-        ensures refused { IfErr result (λ d. IsRefused (verdict K.max_sites (world_after (events_of self.new)) event) d.refusal) }
+        ensures refused { IfErr result (λ d. IsRefused (verdict K.limits (world_after (events_of self.new)) event) d.refusal) }
     {
         self.apply_one(rt, alloc, server, event, Some(judged))
     }
@@ -147,14 +148,14 @@ impl<K: Name> Caller<K> {
         event: Event,
         judged: Option<&'a Seen<K>>,
     ) -> Result<Receipt<K>, Denied<K>>
-        requires { IfSome judged (λ list. IsOk (verdict K.max_sites (world_after (events_of list.now)) event)) }
+        requires { IfSome judged (λ list. IsOk (verdict K.limits (world_after (events_of list.now)) event)) }
         ensures own { IsPrefix self.old self.new }
-        ensures legal { IsLegal K.max_sites self.new }
+        ensures legal { IsLegal K.limits self.new }
         ensures receipt { IfOk result (λ r. (r.seen ≡ self.new) × (r.serial ≡ length self.new)) }
         ensures entry { IfOk result (λ r. EndsWith self.new event r.reply) }
         ensures longer { IfOk result (λ r. length self.old < length self.new) }
         ensures denied { IfErr result (λ d. d.seen ≡ self.new) }
-        ensures refused { IfErr result (λ d. IsRefused (verdict K.max_sites (world_after (events_of self.new)) event) d.refusal) }
+        ensures refused { IfErr result (λ d. IsRefused (verdict K.limits (world_after (events_of self.new)) event) d.refusal) }
     {
         let answer = apply_after(rt, alloc, server, self.seen(), event, judged);
         match &answer {
@@ -173,10 +174,10 @@ impl<K: Name> Caller<K> {
         server: &LinkServer<K, R>,
     ) -> Result<(Snapshot, Seen<K>), AllocError>
         ensures own { IsPrefix self.old self.new }
-        ensures legal { IsLegal K.max_sites self.new }
+        ensures legal { IsLegal K.limits self.new }
         ensures seen { IfOk result (λ r. r.1 ≡ self.new) }
         ensures world { IfOk result (λ r. r.0 ≡ record { world = world_after (events_of self.new); serial = length self.new }) }
-        ensures sites { IfOk result (λ r. length r.0.world.places ≤ K.max_sites) }
+        ensures within { IfOk result (λ r. IsWithin K.limits r.0.world) }
         ensures unchanged { OnErr result (self.new ≡ self.old) }
     {
         // Shows that the list is legal.
@@ -207,7 +208,7 @@ impl<K: Name> Caller<K> {
         recv: Recv,
     ) -> Answer
         ensures own { IsPrefix self.old self.new }
-        ensures legal { IsLegal K.max_sites self.new }
+        ensures legal { IsLegal K.limits self.new }
         ensures answer { dispatch (world_after (events_of self.new)) site recv ≡ result }
     {
         let asked = ask_after(rt, server, self.seen(), &(site, recv));
@@ -227,7 +228,7 @@ impl<K: Name> Caller<K> {
     ) -> Answer
         ensures own { IsPrefix self.old self.new }
         ensures memo { IsPrefix memo.old.seen self.new }
-        ensures legal { IsLegal K.max_sites self.new }
+        ensures legal { IsLegal K.limits self.new }
         ensures answer { dispatch (world_after (events_of self.new)) site recv ≡ result }
         ensures told { memo.new
             ≡ record { seen = self.new; sets = told memo.old.sets (installed (events_of self.new) site) site recv result } }
@@ -248,7 +249,7 @@ pub(crate) fn caught_up<'a, K: Name, H: Wait, R: Wait + Drop>(
     seen: &Seen<K>,
 ) -> MutexGuard<'a, Book<K, R>>
     ensures begun { IsPrefix seen.now (mutex_guard_value result) }
-    ensures legal { IsLegal K.max_sites (mutex_guard_value result) }
+    ensures legal { IsLegal K.limits (mutex_guard_value result) }
 {
     for _ in rt.forever() {
         let book = server.book.lock(rt);
@@ -267,7 +268,7 @@ fn ask_after<K: Name, H: Wait, R: Wait + Drop>(
     seen: &Seen<K>,
     call: &(SiteNo, Recv),
 ) -> Asked<K>
-    ensures seen { IsPrefix seen.now result.seen × IsLegal K.max_sites result.seen }
+    ensures seen { IsPrefix seen.now result.seen × IsLegal K.limits result.seen }
     ensures answer { dispatch (world_after (events_of result.seen)) call.now.0 call.now.1 ≡ result.answer }
     ensures link { result.link ≡ installed (events_of result.seen) call.now.0 }
     ensures order { AreInOrder (world_after (events_of result.seen)).classes }
@@ -290,12 +291,12 @@ fn apply_after<K: Name, H: Wait, R: Wait + Drop>(
     event: Event,
     judged: Option<&Seen<K>>,
 ) -> Result<Receipt<K>, Denied<K>>
-    requires { IfSome judged (λ list. IsOk (verdict K.max_sites (world_after (events_of list.now)) event)) }
-    ensures receipt { IfOk result (λ r. IsPrefix seen.now r.seen × IsLegal K.max_sites r.seen × (r.serial ≡ length r.seen)) }
+    requires { IfSome judged (λ list. IsOk (verdict K.limits (world_after (events_of list.now)) event)) }
+    ensures receipt { IfOk result (λ r. IsPrefix seen.now r.seen × IsLegal K.limits r.seen × (r.serial ≡ length r.seen)) }
     ensures entry { IfOk result (λ r. EndsWith r.seen event r.reply) }
     ensures longer { IfOk result (λ r. length seen.now < length r.seen) }
-    ensures denied { IfErr result (λ d. IsPrefix seen.now d.seen × IsLegal K.max_sites d.seen) }
-    ensures refused { IfErr result (λ d. IsRefused (verdict K.max_sites (world_after (events_of d.seen)) event) d.refusal) }
+    ensures denied { IfErr result (λ d. IsPrefix seen.now d.seen × IsLegal K.limits d.seen) }
+    ensures refused { IfErr result (λ d. IsRefused (verdict K.limits (world_after (events_of d.seen)) event) d.refusal) }
 {
     let mut book = caught_up(rt, server, seen);
     step_after(rt, alloc, &mut book, seen, event, judged)
@@ -311,12 +312,12 @@ fn step_after<K: Name, H: Wait, R: Wait + Drop>(
     judged: Option<&Seen<K>>,
 ) -> Result<Receipt<K>, Denied<K>>
     requires begun { IsPrefix seen.now book.old }
-    requires judged { IfSome judged (λ list. IsOk (verdict K.max_sites (world_after (events_of list.now)) event)) }
-    ensures receipt { IfOk result (λ r. IsPrefix seen.now r.seen × IsLegal K.max_sites r.seen × (r.serial ≡ length r.seen)) }
+    requires judged { IfSome judged (λ list. IsOk (verdict K.limits (world_after (events_of list.now)) event)) }
+    ensures receipt { IfOk result (λ r. IsPrefix seen.now r.seen × IsLegal K.limits r.seen × (r.serial ≡ length r.seen)) }
     ensures entry { IfOk result (λ r. EndsWith r.seen event r.reply) }
     ensures longer { IfOk result (λ r. length seen.now < length r.seen) }
-    ensures denied { IfErr result (λ d. IsPrefix seen.now d.seen × IsLegal K.max_sites d.seen) }
-    ensures refused { IfErr result (λ d. IsRefused (verdict K.max_sites (world_after (events_of d.seen)) event) d.refusal) }
+    ensures denied { IfErr result (λ d. IsPrefix seen.now d.seen × IsLegal K.limits d.seen) }
+    ensures refused { IfErr result (λ d. IsRefused (verdict K.limits (world_after (events_of d.seen)) event) d.refusal) }
     ensures added { IfOk result (λ r. (book.new ≡ book.old ++ entry_after book.old event r.reply ∷ []) × (r.seen ≡ book.new)) }
     ensures kept { IfErr result (λ d. (book.new ≡ book.old) × (d.seen ≡ book.old)) }
 {
@@ -331,9 +332,9 @@ fn snapshot_after<K: Name, H: Wait, R: Wait + Drop>(
     server: &LinkServer<K, R>,
     seen: &Seen<K>,
 ) -> Result<(Snapshot, Seen<K>), AllocError>
-    ensures seen { IfOk result (λ r. IsPrefix seen.now r.1 × IsLegal K.max_sites r.1) }
+    ensures seen { IfOk result (λ r. IsPrefix seen.now r.1 × IsLegal K.limits r.1) }
     ensures world { IfOk result (λ r. r.0 ≡ record { world = world_after (events_of r.1); serial = length r.1 }) }
-    ensures sites { IfOk result (λ r. length r.0.world.places ≤ K.max_sites) }
+    ensures within { IfOk result (λ r. IsWithin K.limits r.0.world) }
 {
     let book = caught_up(rt, server, seen);
     book.snapshot(alloc)
@@ -346,7 +347,7 @@ fn links_after<K: Name, H: Wait, R: Wait + Drop>(
     server: &LinkServer<K, R>,
     seen: &Seen<K>,
 ) -> Result<(Vec<(SiteNo, Link)>, Seen<K>), AllocError>
-    ensures seen { IfOk result (λ r. IsPrefix seen.now r.1 × IsLegal K.max_sites r.1) }
+    ensures seen { IfOk result (λ r. IsPrefix seen.now r.1 × IsLegal K.limits r.1) }
     ensures rows { IfOk result (λ r. r.0.items ≡ installed_links (events_of r.1)) }
 {
     let book = caught_up(rt, server, seen);

@@ -7,12 +7,13 @@ ghost use Rattle.jl_memo.specs.Answers.{answer_with};
 use crate::links::PublishedLinks;
 use crate::mark::Mark;
 use jl_memo::Memo;
-use jl_types::{Fast, Link, Recv, SiteNo};
+use jl_types::{Fast, Limits, Link, Recv, SiteNo};
 use left_right::Absorb;
 use std::alloc::{AllocError, Global};
 
-/// The links of a list by site, its number of classes, and the list.
+/// The links of a list by site, its number of classes, and the list, of a server with these limits.
 pub struct Table {
+    pub limits: Limits,
     pub links: PublishedLinks,
     pub classes: usize,
     pub list: Mark,
@@ -22,6 +23,7 @@ pub struct Table {
 impl Drop for Table {
     fn drop(self) {
         let Table {
+            limits: _limits,
             links: _links,
             classes: _classes,
             list: _list,
@@ -49,6 +51,7 @@ impl Drop for Change {
 
 /// What two copies of a table have in common. No value of it is made.
 pub struct Content {
+    pub limits: Limits,
     pub links: [Option<Link>; 0],
     pub classes: usize,
     pub list: Mark,
@@ -75,11 +78,12 @@ impl Absorb<Change> for Table {
 
 impl Table {
     /// A table with no links. Want of memory is an error.
-    pub fn new(alloc: Global, sites: u32, list: Mark) -> Result<Table, AllocError>
-        ensures { IfOk result (λ t. (t.links ≡ replicate sites None) × (t.classes ≡ 0) × (t.list ≡ list)) }
+    pub fn new(alloc: Global, limits: Limits, list: Mark) -> Result<Table, AllocError>
+        ensures { IfOk result (λ t. (t.limits ≡ limits) × (t.links ≡ replicate limits.sites None) × (t.classes ≡ 0) × (t.list ≡ list)) }
     {
         Ok(Table {
-            links: PublishedLinks::new(alloc, sites)?,
+            limits,
+            links: PublishedLinks::new(alloc, limits.sites)?,
             classes: 0,
             list,
         })

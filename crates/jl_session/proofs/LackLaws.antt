@@ -36,7 +36,7 @@ some_data (Err r) = (event_refusal_data name_text r, (name_text, spells, refl))
 
 -- what the clauses of the core's event say together
 pub applied_by : (old new : State) (e : Event) (outcome : Result Reply Refusal) → IfOk outcome (IsAccepted old new e)
-    → IfErr outcome (IsRefused (verdict old.max_sites (world_of old) e)) → OnErr outcome (new ≡ old)
+    → IfErr outcome (IsRefused (verdict old.limits (world_of old) e)) → OnErr outcome (new ≡ old)
     → IsApplied old e outcome new
 applied_by old new e (Ok reply) accepted refused unchanged = accepted
 applied_by old new e (Err r) accepted refused unchanged = (refused, unchanged)

@@ -3,6 +3,7 @@ use Rattle.std.specs.Prelude.{◌≡◌, ℕ, List, [], ◌∷◌, ◌++◌, len
 use Rattle.serde_json.specs.Data.{Data}
 use Rattle.jl_types.specs.declared.link.Link.{Link}
 use Rattle.jl_types.specs.Events.Event.{Event}
+use Rattle.jl_types.specs.Events.Limits.{fixed}
 use Rattle.jl_types.specs.declared.event.EventOf.TheVariants as event
 use Rattle.jl_types.specs.declared.event.Reply.{Reply}
 use Rattle.jl_types.specs.declared.refusal.Refusal.{Refusal}
@@ -26,9 +27,9 @@ pub record Session : Type 0 where
 abbrev pub session_over : State → Session
 session_over core = record { core = core; batches = [] }
 
--- nothing happened yet, and so many places may be requested
+-- nothing happened yet, and so many places may be requested; the other limits are those of the programs
 abbrev pub session_of : ℕ → Session
-session_of max_sites = session_over (empty_core max_sites)
+session_of sites = session_over (empty_core (fixed sites))
 
 abbrev pub new_session : Session
 new_session = session_of 65536

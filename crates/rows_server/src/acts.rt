@@ -7,7 +7,8 @@ use crate::workers::{Shared, Worker, receiver};
 use jl_core::Entry;
 use jl_server::{Caller, EntriesFault, Name};
 use jl_types::{
-    Answer, Fast, Link, Made, Outcome, Recv, Refusal, SiteNo, SwitchId, Throwable, Unlinked,
+    Answer, CallSiteFault, DefineFault, Fast, Link, Made, Outcome, Recv, Refusal, SiteNo, SwitchId,
+    Throwable, Unlinked,
 };
 use std::sync::Wait;
 
@@ -34,23 +35,40 @@ pub(crate) fn calls_both<K: Name>(caller: &mut Caller<K>, first: Says, second: S
     answers == [fast(first), fast(second)]
 }
 
-/// Whether the event is refused for an unknown class, after so many.
+/// Whether there are as many of the deed's kind as there may be, as the refusal says.
+fn is_full(deed: &Deed, refusal: &Refusal) -> bool {
+    match (deed, refusal) {
+        (Deed::Loader, Refusal::LoadersFull) => true,
+        (Deed::Define(_, _), Refusal::Define(DefineFault::Full)) => true,
+        (Deed::Request(_, _), Refusal::SitesFull) => true,
+        (Deed::CallSite(_) | Deed::Switch, Refusal::CallSite(CallSiteFault::Full)) => true,
+        _ => false,
+    }
+}
+
+/// Whether the event is refused after so many: since there are as many of its kind as there may be, or for an unknown class.
 fn is_refused<K: Name, R: Wait, S: Wait + Drop>(
     shared: &Shared<'_, K, R, S>,
     caller: &mut Caller<K>,
     deed: &Deed,
+    full: bool,
     serial: u64,
 ) -> bool {
     match shared.event(caller, deed) {
         Some(event) => {
             let (at, answer) = shared.answer(caller, event);
-            at == serial && matches!(answer, Err(Refusal::UnknownClass))
+            at == serial
+                && match &answer {
+                    Ok(_) => false,
+                    Err(Refusal::UnknownClass) => !full,
+                    Err(refusal) => full && is_full(deed, refusal),
+                }
         }
         None => false,
     }
 }
 
-/// Whether the entries behind the first so many are refused, since one of them is forgotten, and the caller has then seen what it had.
+/// Whether the entries after the first so many are refused, since one of them is forgotten, and the caller has then seen what it had.
 pub(crate) fn is_forgotten<K: Name, R: Wait, S: Wait + Drop>(
     shared: &Shared<'_, K, R, S>,
     caller: &mut Caller<K>,
@@ -73,7 +91,7 @@ fn make_switches(entries: &[Entry], numbers: &[u32]) -> bool {
     all
 }
 
-/// Whether the caller is told the entries behind the first so many, which made the switch points of these numbers.
+/// Whether the caller is told the entries after the first so many, which made the switch points of these numbers.
 fn is_told<K: Name, R: Wait, S: Wait + Drop>(
     shared: &Shared<'_, K, R, S>,
     caller: &mut Caller<K>,
@@ -125,7 +143,10 @@ pub(crate) fn acts<K: Name, R: Wait, S: Wait + Drop>(
             shared.does(worker, &Deed::Switch)
                 && worker.last() == (*serial, Made::Switch(SwitchId::new(*number)))
         }
-        Act::IsRefused(deed, serial) => is_refused(shared, &mut worker.caller, deed, *serial),
+        Act::IsRefused(deed, serial) => {
+            is_refused(shared, &mut worker.caller, deed, false, *serial)
+        }
+        Act::IsFull(deed, serial) => is_refused(shared, &mut worker.caller, deed, true, *serial),
         Act::Cannot(deed) => shared.event(&mut worker.caller, deed).is_none(),
         Act::Calls(site, class, says) => worker.call(*site, *class) == fast(*says),
         Act::CallsBoth(first, second) => calls_both(&mut worker.caller, *first, *second),

@@ -15,7 +15,7 @@ use jl_names::Seq;
 use jl_relink::World;
 use jl_renewal::{Released, Renumbering, carry, fresh_links, install_all, refill};
 use jl_server::{Book, Caller, LinkServer, Name, Past};
-use jl_types::{Answer, CallSiteId, Fast, Link, Made, Refusal, SiteNo, SwitchId, Unlinked};
+use jl_types::{Answer, CallSiteId, Fast, Limits, Link, Made, Refusal, SiteNo, SwitchId, Unlinked};
 use std::alloc::{AllocError, Global};
 use std::sync::Wait;
 
@@ -98,14 +98,21 @@ fn refilled<K: Name, L: Name, S: Wait + Drop>(
     book: &mut Book<L, S>,
     past: &Past<K>,
     gone: &[u32],
-    sites: u32,
+    limits: Limits,
 ) -> Result<Renumbering, Refusal>
     requires past { IsPast past.now.world.world past.now.log }
     requires book { book.old ≡ [] }
-    requires sites { sites ≡ L.max_sites }
+    requires limits { limits ≡ L.limits }
 {
     let released = released(alloc, gone)?;
-    refill(alloc, book, past.world.world(), &past.log, &released, sites)
+    refill(
+        alloc,
+        book,
+        past.world.world(),
+        &past.log,
+        &released,
+        limits,
+    )
 }
 
 /// The same of what the old server has come to, which has forgotten what is past, with how many events that is.
@@ -114,17 +121,17 @@ pub(crate) fn begin<K: Name, L: Name, R: Wait, S: Wait + Drop>(
     caller: &mut Caller<K>,
     book: &mut Book<L, S>,
     gone: &[u32],
-    sites: u32,
+    limits: Limits,
 ) -> Option<(u64, Renumbering)>
     requires book { book.old ≡ [] }
-    requires sites { sites ≡ L.max_sites }
+    requires limits { limits ≡ L.limits }
 {
     old.server.forget(old.rt);
     if !is_forgotten(old, caller, 0) {
         return None;
     }
     match &caller.past(old.rt, old.alloc, old.server) {
-        Ok(past) => match refilled(old.alloc, book, past, gone, sites) {
+        Ok(past) => match refilled(old.alloc, book, past, gone, limits) {
             Ok(numbers) => Some((past.seen.serial(), numbers)),
             Err(_) => None,
         },

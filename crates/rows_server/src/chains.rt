@@ -12,6 +12,7 @@ use crate::deeds::Deed::*;
 use crate::scripts::Part;
 use crate::workers::{Shared, Worker, employ};
 use jl_server::{Book, Caller, LinkServer, Name, Parts};
+use jl_types::Limits;
 use std::alloc::Global;
 use std::marker::{Brand, PhantomData};
 use std::process::Abort;
@@ -128,13 +129,13 @@ fn comes_over<K: Name, L: Name, R: Wait, S: Wait + Drop>(
     old: &Shared<'_, K, R, S>,
     worker: &mut Worker<K>,
     book: &mut Book<L, S>,
-    sites: u32,
+    limits: Limits,
     number: u32,
 ) -> bool
     requires book { book.old ≡ [] }
-    requires sites { sites ≡ L.max_sites }
+    requires limits { limits ≡ L.limits }
 {
-    match begin(old, &mut worker.caller, book, GONE, sites) {
+    match begin(old, &mut worker.caller, book, GONE, limits) {
         Some((from, mut numbers)) => {
             let mut from = from;
             links_come(old, &mut worker.caller, book, &numbers)
@@ -153,11 +154,11 @@ fn goes_over<'a, K: Name, L: Name, R: Wait, T: Then<R>>(
     alloc: Global,
     old: (LinkServer<K, &'a R>, Worker<K>),
     fresh: (Book<L, &'a R>, Worker<L>),
-    sites: u32,
+    limits: Limits,
     number: u32,
 ) -> bool
     requires book { fresh.0 ≡ [] }
-    requires sites { sites ≡ L.max_sites }
+    requires limits { limits ≡ L.limits }
 {
     let (server, mut worker) = old;
     let (mut book, caller) = fresh;
@@ -165,7 +166,7 @@ fn goes_over<'a, K: Name, L: Name, R: Wait, T: Then<R>>(
         &shared(rt, alloc, &server),
         &mut worker,
         &mut book,
-        sites,
+        limits,
         number,
     );
     drop(worker);
@@ -185,17 +186,17 @@ fn opens<'a, K: Name, L: Name, R: Wait, T: Then<R>>(
     alloc: Global,
     old: (LinkServer<K, &'a R>, Worker<K>),
     fresh: Parts,
-    sites: u32,
+    limits: Limits,
     number: u32,
 ) -> bool
     requires book { fresh.book ≡ L.book }
-    requires sites { fresh.max_sites ≡ L.max_sites }
-    requires limit { sites ≡ L.max_sites }
+    requires limits { fresh.limits ≡ L.limits }
+    requires same { limits ≡ L.limits }
 {
     match fresh.open::<L, &R>(alloc, rt) {
         Ok((book, callers)) => match worker_of(alloc, callers) {
             Some(caller) => {
-                goes_over::<K, L, R, T>(rt, alloc, old, (book, caller), sites, number)
+                goes_over::<K, L, R, T>(rt, alloc, old, (book, caller), limits, number)
             }
             None => false,
         },
@@ -238,7 +239,8 @@ impl<R: Wait, T: Then<R>> Then<R> for Over<T> {
     ) -> bool {
         match Parts::new(alloc, SITES, 1) {
             Ok(fresh) => {
-                opens::<K, Brand, R, T>(rt, alloc, (server, worker), fresh, SITES, number)
+                let limits = Limits::fixed(SITES);
+                opens::<K, Brand, R, T>(rt, alloc, (server, worker), fresh, limits, number)
             }
             Err(_) => false,
         }
@@ -260,7 +262,7 @@ fn begins<'a, K: Name, R: Wait>(
 /// The same on the server of these parts.
 fn is_started<K: Name, R: Wait>(rt: &R, alloc: Global, parts: Parts) -> bool
     requires book { parts.book ≡ K.book }
-    requires sites { parts.max_sites ≡ K.max_sites }
+    requires limits { parts.limits ≡ K.limits }
 {
     match parts.start::<K, &R>(alloc, rt) {
         Ok((server, callers)) => match worker_of(alloc, callers) {

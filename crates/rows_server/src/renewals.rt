@@ -13,7 +13,7 @@ use crate::scripts::Part;
 use crate::workers::{Shared, Worker, employ};
 use jl_renewal::Renumbering;
 use jl_server::{Book, Caller, LinkServer, Name, Parts};
-use jl_types::ClassId;
+use jl_types::{ClassId, Limits};
 use rows_threads::{Round, at_once};
 use std::alloc::{AllocError, Global};
 use std::marker::{Brand, Model};
@@ -148,20 +148,21 @@ const CALLS: &[CallRow] = &[
 /// The call site that was bound to nothing has got a guard by a switch point that is invalid.
 const LATER_CALL: &CallRow = &CallRow(12, None, Runs(3, 2), false);
 
-/// A book that has taken no event, and how many sites may be requested there.
+/// A book that has taken no event, and its limits.
 struct Fresh<L: Name, S: Wait + Drop> {
     book: Book<L, S>,
-    sites: u32,
+    limits: Limits,
 }
 
 impl<L: Name, S: Wait + Drop> Model for Fresh<L, S> {
-    ghost use Rattle.std.specs.Prelude.{◌≡◌, ℕ, []};
+    ghost use Rattle.std.specs.Prelude.{◌≡◌, []};
+    ghost use Rattle.jl_types.specs.declared.limits.Limits.{Limits};
 
-    ghost Value = { ℕ };
+    ghost Value = { Limits };
 
-    ghost view = { λ f. f.sites };
+    ghost view = { λ f. f.limits };
 
-    ghost invariant = { λ f. (f.book ≡ []) × (f.sites ≡ L.max_sites) };
+    ghost invariant = { λ f. (f.book ≡ []) × (f.limits ≡ L.limits) };
 }
 
 /// Written out, so that what drops one makes one call of it and doesn't take apart what it holds.
@@ -169,18 +170,18 @@ impl<L: Name, S: Wait + Drop> Drop for Fresh<L, S> {
     fn drop(self) {
         let Fresh {
             book: _book,
-            sites: _sites,
+            limits: _limits,
         } = self;
     }
 }
 
 impl<L: Name, S: Wait + Drop> Fresh<L, S> {
-    fn into_parts(self) -> (Book<L, S>, u32)
+    fn into_parts(self) -> (Book<L, S>, Limits)
         ensures book { result.0 ≡ [] }
-        ensures sites { result.1 ≡ L.max_sites }
+        ensures limits { result.1 ≡ L.limits }
     {
-        let Fresh { book, sites } = self;
-        (book, sites)
+        let Fresh { book, limits } = self;
+        (book, limits)
     }
 }
 
@@ -437,12 +438,12 @@ fn come_over<K: Name, L: Name, R: Wait, S: Wait + Drop>(
     renewal: &Renewal<'_, K, L, R, S>,
     caller: &mut Caller<K>,
     book: &mut Book<L, S>,
-    sites: u32,
+    limits: Limits,
 ) -> Option<Renumbering>
     requires book { book.old ≡ [] }
-    requires sites { sites ≡ L.max_sites }
+    requires limits { limits ≡ L.limits }
 {
-    match begin(&renewal.old, caller, book, GONE, sites) {
+    match begin(&renewal.old, caller, book, GONE, limits) {
         Some((from, mut numbers)) => {
             renewal.begun.store(1, Ordering::SeqCst);
             if carries_on(renewal, caller, book, &mut numbers, from) {
@@ -461,8 +462,8 @@ fn renewed<K: Name, L: Name, R: Wait, S: Wait + Drop>(
     caller: &mut Caller<K>,
     fresh: Fresh<L, S>,
 ) -> Option<Pair<L, S>> {
-    let (mut book, sites) = fresh.into_parts();
-    match come_over(renewal, caller, &mut book, sites) {
+    let (mut book, limits) = fresh.into_parts();
+    match come_over(renewal, caller, &mut book, limits) {
         Some(numbers) => Some(Pair {
             server: LinkServer::of(book),
             numbers,
@@ -609,15 +610,15 @@ fn is_opened<'a, K: Name + Send + Sync, L: Name + Send + Sync, R: Threads + Wait
     server: &LinkServer<K, &'a R>,
     old: Vec<Worker<K>>,
     fresh: Parts,
-    sites: u32,
+    limits: Limits,
 ) -> bool
     requires book { fresh.book ≡ L.book }
-    requires sites { fresh.max_sites ≡ L.max_sites }
-    requires limit { sites ≡ L.max_sites }
+    requires limits { fresh.limits ≡ L.limits }
+    requires same { limits ≡ L.limits }
 {
     match fresh.open::<L, &R>(alloc, rt) {
         Ok((book, callers)) => match employ(alloc, callers) {
-            Ok(mut callers) => is_so(rt, alloc, server, old, &mut callers, Fresh { book, sites }),
+            Ok(mut callers) => is_so(rt, alloc, server, old, &mut callers, Fresh { book, limits }),
             Err(_) => false,
         },
         Err(_) => false,
@@ -632,7 +633,10 @@ fn is_made<'a, K: Name + Send + Sync, R: Threads + Wait + Sync>(
     old: Vec<Worker<K>>,
 ) -> bool {
     match Parts::new(alloc, SITES, THREADS) {
-        Ok(fresh) => is_opened::<K, Brand, R>(rt, alloc, server, old, fresh, SITES),
+        Ok(fresh) => {
+            let limits = Limits::fixed(SITES);
+            is_opened::<K, Brand, R>(rt, alloc, server, old, fresh, limits)
+        }
         Err(_) => false,
     }
 }
@@ -644,7 +648,7 @@ fn is_started<K: Name + Send + Sync, R: Threads + Wait + Sync>(
     old: Parts,
 ) -> bool
     requires book { old.book ≡ K.book }
-    requires sites { old.max_sites ≡ K.max_sites }
+    requires limits { old.limits ≡ K.limits }
 {
     match old.start::<K, &R>(alloc, rt) {
         Ok((server, callers)) => match employ(alloc, callers) {

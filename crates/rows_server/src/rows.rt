@@ -1,7 +1,7 @@
 //! Rows of two callers in one thread, with a memo beside them.
 
 use crate::acts::{acts, fast};
-use crate::deeds::Class::{A, B, C, E, M, Object, R};
+use crate::deeds::Class::{A, B, C, E, M, Object, R, T};
 use crate::deeds::Deed::*;
 use crate::deeds::{Deed, ONE_SITE, method};
 use crate::rows::Line::*;
@@ -227,6 +227,30 @@ const FORGOTTEN: &[Line] = &[
     Second(Calls(0, Some(4), Runs(4))),
     Second(TakesSnapshot(11)),
 ];
+
+/// Two classes of loader 0, and loader 1.
+const TWO_LOADERS: &[Deed] = &[Define(0, Object), Define(0, A), Loader];
+
+/// A server with 1 site, 2 loaders, 3 classes, 1 call site and 1 switch point has as many of each, one kind after another, and takes no more
+/// of it, while it takes others. Loader 1 goes, and still there is no room for another one.
+const FULL_LINES: &[Line] = &[
+    First(DoesAll(TWO_LOADERS)),
+    First(IsFull(Loader, 3)),
+    First(Does(Define(0, T))),
+    Second(IsFull(Define(0, M), 4)),
+    First(IsFull(Define(0, B), 4)),
+    First(Does(CallSite(2))),
+    First(IsFull(CallSite(2), 5)),
+    First(MakesSwitch(6, 0)),
+    Second(IsFull(Switch, 6)),
+    First(Does(Request(2, 0))),
+    First(IsFull(Request(2, 5), 7)),
+    First(Does(Request(2, 0))),
+    First(Does(Retire(1))),
+    Second(IsFull(Loader, 9)),
+];
+
+pub(crate) const FULL: &Row = &Row(4, FULL_LINES);
 
 /// The server goes.
 const GONE: &[Line] = &[First(Calls(0, None, Misses))];

@@ -25,6 +25,8 @@ pub(crate) enum Act {
     MakesSwitch(u64, u32),
     /// What it does is refused for an unknown class, after so many events.
     IsRefused(Deed, u64),
+    /// What it does is refused after so many events, since there ever were as many of its kind as there may be.
+    IsFull(Deed, u64),
     /// There is no such event.
     Cannot(Deed),
     /// Its call at the site, on an object of the class or null.
@@ -39,11 +41,11 @@ pub(crate) enum Act {
     Lists(&'static [u32]),
     /// The server forgets what is past.
     Forgets,
-    /// The entries behind the first so many are refused, since the server has forgotten one of them. It has then seen what it had.
+    /// The entries after the first so many are refused, since the server has forgotten one of them. It has then seen what it had.
     IsForgotten(u64),
     /// It is told the whole log, which has so many entries.
     HasLog(u64),
-    /// It is told the entries behind the first so many, which made the switch points of these numbers.
+    /// It is told the entries after the first so many, which made the switch points of these numbers.
     IsTold(u64, &'static [u32]),
     /// It tells what it has seen.
     Tells,

@@ -8,13 +8,13 @@ use crate::definitions::{BEFORE, are_called, request_all};
 use crate::farms::{BETWEEN, DURING, Farm, MEETING, MIXED, is_farm};
 use crate::races::race_of;
 use crate::replays::{ALL, are_dense, gathered, is_replayed, storm};
-use crate::rows::{ROWS, Row, is_row};
+use crate::rows::{FULL, ROWS, Row, is_row};
 use crate::scripts::Part;
 use crate::scripts::Says::IsClosed;
 use crate::workers::{Shared, Told, Worker, employ};
 use crate::{definitions, replays};
 use jl_server::{LinkServer, Name, Parts};
-use jl_types::Fast;
+use jl_types::{Fast, Limits};
 use rows_threads::{Round, at_once};
 use std::alloc::{AllocError, Global};
 use std::marker::Brand;
@@ -29,11 +29,22 @@ const RACES: usize = 1000;
 /// How often a farm runs whose threads are to meet in many ways.
 const FARMS: usize = 100;
 
+/// The limits of a server that comes to each of them.
+const FEW: Limits = Limits {
+    sites: 1,
+    loaders: 2,
+    classes: 3,
+    call_sites: 1,
+    switches: 1,
+};
+
 /// What is done on a new server.
 #[derive(Clone, Copy)]
 enum Test {
     /// The row of two callers.
     Row(&'static Row),
+    /// The row of two callers of a server that comes to its limits.
+    Full,
     /// The race about the retirement, or about the definition.
     Race(bool),
     /// The farm of so many workers.
@@ -49,7 +60,7 @@ fn callers_of(test: Test) -> usize
     ensures { (1 ≤ result) × (result ≤ 64) }
 {
     match test {
-        Test::Row(_) | Test::Race(_) => 2,
+        Test::Row(_) | Test::Full | Test::Race(_) => 2,
         Test::Farm(workers, _) => if workers < 17 { workers + 2 } else { 2 },
         Test::Storm => 9,
         Test::Definitions(_) => 6,
@@ -107,7 +118,7 @@ fn is_begun<K: Name, R: Wait, S: Wait + Drop>(
     test: Test,
 ) -> bool {
     match test {
-        Test::Row(_) => true,
+        Test::Row(_) | Test::Full => true,
         Test::Race(retires) => begins(shared, workers, race_of(retires).before),
         Test::Farm(_, farm) => begins(shared, workers, farm.before()),
         Test::Storm => begins(shared, workers, DYNAMIC) && begins(shared, workers, &[*ALL]),
@@ -115,7 +126,7 @@ fn is_begun<K: Name, R: Wait, S: Wait + Drop>(
     }
 }
 
-/// Whether what comes behind the threads is so. The first caller is left, or both of a row.
+/// Whether what comes after the threads is so. The first caller is left, or both of a row.
 fn is_done<K: Name + Send + Sync, R: Threads + Wait + Sync, S: Wait + Drop + Send + Sync>(
     shared: &Shared<'_, K, R, S>,
     workers: &mut Vec<Worker<K>>,
@@ -123,6 +134,7 @@ fn is_done<K: Name + Send + Sync, R: Threads + Wait + Sync, S: Wait + Drop + Sen
 ) -> bool {
     match test {
         Test::Row(row) => is_row(shared, workers.as_mut_slice(), row),
+        Test::Full => is_row(shared, workers.as_mut_slice(), FULL),
         Test::Race(_) => true,
         Test::Farm(count, farm) => is_farm(shared, workers, count, farm),
         Test::Storm => is_farm(shared, workers, 3, DURING),
@@ -224,7 +236,7 @@ fn is_so<K: Name + Send + Sync, R: Threads + Wait + Sync>(
     test: Test,
 ) -> bool
     requires book { parts.book ≡ K.book }
-    requires sites { parts.max_sites ≡ K.max_sites }
+    requires limits { parts.limits ≡ K.limits }
 {
     match parts.start::<K, &R>(alloc, rt) {
         Ok((server, callers)) => is_so_on(rt, alloc, server, employ(alloc, callers), test),
@@ -232,9 +244,21 @@ fn is_so<K: Name + Send + Sync, R: Threads + Wait + Sync>(
     }
 }
 
-/// Whether the test is so on a new server of 64 sites.
+/// The limits of the test's server.
+fn limits_of(test: Test) -> Limits {
+    match test {
+        Test::Full => FEW,
+        _ => Limits::fixed(64),
+    }
+}
+
+/// Whether the test is so on a new server.
 fn is_right<R: Threads + Wait + Sync>(rt: &R, alloc: Global, test: Test) -> bool {
-    match Parts::new(alloc, 64, callers_of(test)) {
+    let limits = limits_of(test);
+    if !limits.are_allowed() {
+        return false;
+    }
+    match Parts::with_limits(alloc, limits, callers_of(test)) {
         Ok(parts) => is_so::<Brand, R>(rt, alloc, parts, test),
         Err(_) => false,
     }
@@ -245,6 +269,11 @@ fn two_callers(rt: HostRuntime) {
     for (index, row) in ROWS.iter().enumerate() {
         assert!(rt; is_right(&rt, rt.alloc(), Test::Row(row)), "{index}");
     }
+}
+
+#[test]
+fn refuses_what_is_over_its_limits(rt: HostRuntime) {
+    assert!(rt; is_right(&rt, rt.alloc(), Test::Full));
 }
 
 #[test]

@@ -45,7 +45,7 @@ impl<K: Name> Drop for Worker<K> {
     }
 }
 
-/// What an event was answered, behind a list of so many events. It is none where the answer shows another list.
+/// What an event was answered, after a list of so many events. It is none where the answer shows another list.
 type Answered = (u64, Result<Reply, Refusal>);
 
 /// An object of the class, or null.

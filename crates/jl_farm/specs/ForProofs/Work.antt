@@ -1,5 +1,6 @@
 -- What workers do with their turns at the queue. A means of proof.
 use Rattle.std.specs.Prelude.{◌≡◌, ◌<◌, ◌≤◌, ◌+◌, ◌++◌, ◌&&◌, ℕ, nat_lt, nat_le, List, [], length, All, Contains, cond}
+use Rattle.jl_types.specs.declared.limits.Limits.{Limits}
 use mathlib.Core.List.{IsPrefix}
 use Rattle.crossbeam_queue.specs.Passes.{view}
 use Rattle.jl_types.specs.declared.refusal.Refusal.{Refusal}
@@ -44,12 +45,12 @@ abbrev pub between : ℕ → ℕ → ℕ → ℕ
 between from to k = cond (nat_lt from k && nat_le k to) 1 0
 
 -- The worker took jobs and reported them, in the order in which it took them, each install once.
-pub record Works {K : Type 0} (max_sites : ℕ) (jobs : List (List ℕ)) (old new : Worker K) : Type 0 where
+pub record Works {K : Type 0} (limits : Limits) (jobs : List (List ℕ)) (old new : Worker K) : Type 0 where
   pub more : List (Report K)
   pub reports : new.reports.items ≡ old.reports.items ++ more
   pub pass : view new.pass ≡ pass_view (view old.pass).parts (view old.pass).put ((view old.pass).taken ++ jobs_of more)
   pub own : IsPrefix old.caller new.caller
-  pub shown : All (λ report. IsShown max_sites old.caller (sites_of jobs report.job) report.outcome) more
+  pub shown : All (λ report. IsShown limits old.caller (sites_of jobs report.job) report.outcome) more
   pub once : (serial : ℕ) → installs_of serial more ≤ between (length old.caller) (length new.caller) serial
 
 -- A worker that has just begun, of one of these callers.
@@ -59,9 +60,9 @@ pub record IsHired {K : Type 0} (callers : List (List Entry)) (worker : Worker K
   pub none : worker.reports.items ≡ []
 
 -- A worker took just the jobs that it reported, and its reports are shown; it had seen what one of the callers had.
-pub record HasReported {K : Type 0} (max_sites : ℕ) (callers : List (List Entry)) (jobs : List (List ℕ)) (worker : Worker K) : Type 0 where
+pub record HasReported {K : Type 0} (limits : Limits) (callers : List (List Entry)) (jobs : List (List ℕ)) (worker : Worker K) : Type 0 where
   pub taken : (view worker.pass).taken ≡ jobs_of worker.reports.items
-  pub shown : All (IsReport max_sites callers jobs) worker.reports.items
+  pub shown : All (IsReport limits callers jobs) worker.reports.items
   pub before : List Entry
   pub of_caller : Contains callers before
   pub own : IsPrefix before worker.caller

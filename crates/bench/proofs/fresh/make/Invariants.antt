@@ -2,4 +2,4 @@ use Rattle.bench.proofs.fresh.make.Given as goal
 
 -- the server that is started
 abbrev pub ghosts-start : goal.ghosts-start
-ghosts-start g a = record { book = a.parts.book; max_sites = a.parts.max_sites }
+ghosts-start g a = record { book = a.parts.book; limits = a.parts.limits }

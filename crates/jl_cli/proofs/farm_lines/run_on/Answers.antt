@@ -20,7 +20,7 @@ returns-clause-answered g c = (
 pub returns-in_err-answer_input-clause-whole : goal.returns-in_err-answer_input-clause-whole
 returns-in_err-answer_input-clause-whole g c =
     exactly c.from_residual.result (Line c.in_err-answer_input.field-0.0)
-    (FarmWhole g.K.Name.max_sites (g.R.Source.remaining c.args.reader.now) (g.W.Sink.contents c.args.writer.now)
+    (FarmWhole g.K.Name.limits (g.R.Source.remaining c.args.reader.now) (g.W.Sink.contents c.args.writer.now)
     (g.W.Sink.contents c.answer_input.new.writer)
     (HasRisen (g.W.Sink.failures c.args.writer.now) (g.W.Sink.failures c.answer_input.new.writer)))
     c.from_residual.ensures.1
@@ -30,7 +30,7 @@ returns-in_err-answer_input-clause-whole g c =
 pub returns-in_err-text-clause-whole : goal.returns-in_err-text-clause-whole
 returns-in_err-text-clause-whole g c =
     exactly c.from_residual-in_err-text.result c.in_err-text.field-0.0
-    (FarmWhole g.K.Name.max_sites (g.R.Source.remaining c.args.reader.now) (g.W.Sink.contents c.args.writer.now)
+    (FarmWhole g.K.Name.limits (g.R.Source.remaining c.args.reader.now) (g.W.Sink.contents c.args.writer.now)
     (g.W.Sink.contents c.answer_input.new.writer)
     (HasRisen (g.W.Sink.failures c.args.writer.now) (g.W.Sink.failures c.answer_input.new.writer)))
     c.from_residual-in_err-text.ensures.1
@@ -40,7 +40,7 @@ returns-in_err-text-clause-whole g c =
 pub returns-in_err-write_last-clause-whole : goal.returns-in_err-write_last-clause-whole
 returns-in_err-write_last-clause-whole g c =
     exactly c.from_residual-in_err-write_last.result (Line c.in_err-write_last.field-0.0)
-    (FarmWhole g.K.Name.max_sites (g.R.Source.remaining c.args.reader.now) (g.W.Sink.contents c.args.writer.now)
+    (FarmWhole g.K.Name.limits (g.R.Source.remaining c.args.reader.now) (g.W.Sink.contents c.args.writer.now)
     (g.W.Sink.contents c.write_last.new.writer)
     (HasRisen (g.W.Sink.failures c.args.writer.now) (g.W.Sink.failures c.write_last.new.writer)))
     c.from_residual-in_err-write_last.ensures.1
@@ -53,14 +53,14 @@ returns-in_err-write_last-clause-whole g c =
 pub returns-in_err-answer_input-clause-read : goal.returns-in_err-answer_input-clause-read
 returns-in_err-answer_input-clause-read g c = λ e none.
     let f = c.in_err-answer_input.field-0.0 in
-    read_of (IsFarmAnswer g.K.Name.max_sites) c.args.caller.now _ c.answer_input.new.session (g.R.Source.remaining c.args.reader.now)
+    read_of (IsFarmAnswer g.K.Name.limits) c.args.caller.now _ c.answer_input.new.session (g.R.Source.remaining c.args.reader.now)
     (g.R.Source.remaining c.answer_input.new.reader) (g.W.Sink.contents c.args.writer.now) (g.W.Sink.contents c.answer_input.new.writer)
     c.requires.fresh (c.in_err-answer_input.ensures.read (ap Err (same_line c.from_residual.result f Device c.from_residual.ensures.1 e)) none)
 
 pub returns-in_err-answer_input-clause-memory : goal.returns-in_err-answer_input-clause-memory
 returns-in_err-answer_input-clause-memory g c = λ e more.
     let f = c.in_err-answer_input.field-0.0 in
-    lines_earlier g.K.Name.max_sites c.args.caller.now c.answer_input.new.session (g.R.Source.remaining c.args.reader.now)
+    lines_earlier g.K.Name.limits c.args.caller.now c.answer_input.new.session (g.R.Source.remaining c.args.reader.now)
     (g.R.Source.before c.answer_input.new.reader) (g.W.Sink.contents c.args.writer.now) (g.W.Sink.contents c.answer_input.new.writer)
     c.requires.fresh (c.in_err-answer_input.ensures.memory (ap Err (same_line c.from_residual.result f Memory c.from_residual.ensures.1 e)) more)
 
@@ -77,7 +77,7 @@ returns-in_err-text-clause-read g c = λ e none.
 
 pub returns-in_err-text-clause-memory : goal.returns-in_err-text-clause-memory
 returns-in_err-text-clause-memory g c = λ e more.
-    behind_all g.K.Name.max_sites c.args.caller.now c.answer_input.new.session (g.R.Source.remaining c.args.reader.now) _
+    behind_all g.K.Name.limits c.args.caller.now c.answer_input.new.session (g.R.Source.remaining c.args.reader.now) _
     (g.W.Sink.contents c.args.writer.now) (g.W.Sink.contents c.answer_input.new.writer) (g.W.Sink.contents c.answer_input.new.writer)
     c.requires.fresh c.in_ok-answer_input.ensures.answered.1 (Keeps-refl _)
 
@@ -97,7 +97,7 @@ pub returns-in_err-write_last-clause-memory : goal.returns-in_err-write_last-cla
 returns-in_err-write_last-clause-memory g c = λ e more.
     let f = c.in_err-write_last.field-0.0 in
     let is = same_line c.from_residual-in_err-write_last.result f Memory c.from_residual-in_err-write_last.ensures.1 e in
-    behind_all g.K.Name.max_sites c.args.caller.now c.answer_input.new.session (g.R.Source.remaining c.args.reader.now) _
+    behind_all g.K.Name.limits c.args.caller.now c.answer_input.new.session (g.R.Source.remaining c.args.reader.now) _
     (g.W.Sink.contents c.args.writer.now) (g.W.Sink.contents c.answer_input.new.writer) (g.W.Sink.contents c.write_last.new.writer)
     c.requires.fresh c.in_ok-answer_input.ensures.answered.1
     (c.in_err-write_last.ensures.memory (λ d. let clash : Memory ≡ Device = sym is ∙ d in absurd cc)).1

@@ -7,8 +7,8 @@ use Rattle.jl_farm.proofs.crew.gather.Given as goal
 abbrev pub invariant-loop-other : goal.invariant-loop-other
 invariant-loop-other g l = record {
   pass : IsPassOf l.queue l.lead.pass;
-  lead : HasReported g.K.Name.max_sites l.callers.value.items l.jobs l.lead;
-  crew : All (λ worker. IsPassOf l.queue worker.pass × HasOne worker × HasReported g.K.Name.max_sites l.callers.value.items l.jobs worker) l.crew.items;
+  lead : HasReported g.K.Name.limits l.callers.value.items l.jobs l.lead;
+  crew : All (λ worker. IsPassOf l.queue worker.pass × HasOne worker × HasReported g.K.Name.limits l.callers.value.items l.jobs worker) l.crew.items;
   put : (view l.lead.pass).put ≡ (view l.fn.lead.pass).put;
   parts : (view l.lead.pass).parts + vec_len l.crew ≡ (view l.fn.lead.pass).parts + vec_len l.fn.crew;
   taken : (others : ℕ) × (others + vec_len l.crew ≡ vec_len l.fn.crew) × HasTaken others l.fn.lead l.lead;

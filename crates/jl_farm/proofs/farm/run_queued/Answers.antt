@@ -17,7 +17,7 @@ finish-requires-clause-crew g c =
     let callers : c.of-callers.result.value.items ≡ c.args.workers.items = ap (λ v. v.items) c.of-callers.ensures in
     let hired = subst (λ (cs : List (List Entry)). All (λ (worker : Worker g.row.K.Denot). IsHired cs worker × Pass worker) c.in_ok-crew.crew.items)
     (sym callers) c.in_ok-crew.ensures.crew in
-    crew_reported g.K.Name.max_sites c.args.jobs.now c.of-callers.result.value.items Pass c.in_ok-crew.crew.items c.serve_all.new.crew.items hired
+    crew_reported g.K.Name.limits c.args.jobs.now c.of-callers.result.value.items Pass c.in_ok-crew.crew.items c.serve_all.new.crew.items hired
     c.serve_all.ensures
 
 pub returns-clause-jobs : goal.returns-clause-jobs
@@ -28,7 +28,7 @@ returns-clause-jobs g c =
 
 pub returns-clause-shown : goal.returns-clause-shown
 returns-clause-shown g c =
-    let n = g.K.Name.max_sites in
+    let n = g.K.Name.limits in
     let callers : c.of-callers.result.value.items ≡ c.args.workers.items = ap (λ v. v.items) c.of-callers.ensures in
     let by_callers = subst (λ (cs : List (List Entry)). All (IsReport {K = g.row.K.Denot} n cs c.args.jobs.now) c.in_ok-reports.reports.items) callers
     c.in_ok-reports.ensures.shown in
@@ -38,12 +38,12 @@ pub returns-clause-history : goal.returns-clause-history
 returns-clause-history g c = history_in_order _ _ c.in_order.ensures.all c.in_ok-reports.ensures.history
 
 pub returns-clause-sites : goal.returns-clause-sites
-returns-clause-sites g c = same_sites g.K.Name.max_sites c.args.workers.items c.args.jobs.now _ (returns-clause-history g c) (returns-clause-shown g c)
+returns-clause-sites g c = same_sites g.K.Name.limits c.args.workers.items c.args.jobs.now _ (returns-clause-history g c) (returns-clause-shown g c)
 
 pub returns-clause-installs : goal.returns-clause-installs
 returns-clause-installs g c =
     let R : Worker g.row.K.Denot → Worker g.row.K.Denot → Type 0 = λ old new. IsPassOf c.args.queue.now new.pass
-    × Works g.K.Name.max_sites c.args.jobs.now old new in
+    × Works g.K.Name.limits c.args.jobs.now old new in
     let same = length_all_zip R c.in_ok-crew.crew.items c.serve_all.new.crew.items c.serve_all.ensures in
     λ serial.
     omega (

@@ -8,7 +8,7 @@ returns-clause-jobs g c = c.in_ok-reports.ensures.jobs ∙ ap (range_with_len 0)
 
 pub returns-clause-shown : goal.returns-clause-shown
 returns-clause-shown g c =
-    subst (λ (js : List (List ℕ)). All (IsReport {K = g.row.K.Denot} g.K.Name.max_sites c.args.workers.items js) c.in_ok-reports.reports.items)
+    subst (λ (js : List (List ℕ)). All (IsReport {K = g.row.K.Denot} g.K.Name.limits c.args.workers.items js) c.in_ok-reports.reports.items)
     c.as_slice-all.ensures.value c.in_ok-reports.ensures.shown
 
 pub returns-clause-sites : goal.returns-clause-sites

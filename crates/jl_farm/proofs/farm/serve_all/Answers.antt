@@ -17,7 +17,7 @@ at_once-requires-sync-T g c κs = λ _. record {
 pub returns : goal.returns
 returns g c =
     let R : Worker g.row.K.Denot → Worker g.row.K.Denot → Type 0 = λ old new. IsPassOf c.args.floor.now.queue.now new.pass
-    × Works g.K.Name.max_sites c.args.floor.now.jobs.now old new in
+    × Works g.K.Name.limits c.args.floor.now.jobs.now old new in
     let items = c.as_mut_slice.ensures.value in
     zip_served R c.args.crew.now.items c.at_once.new.workers c.args.crew.now.len (ap length (sym items) ∙ c.as_mut_slice.ensures.len) (c.at_once.auto.workers
     ∙ ap length items)

@@ -6,7 +6,7 @@ use Rattle.jl_server.proofs.book.next_list.Goals as goal
 
 pub add-requires : goal.add-requires
 add-requires g c =
-    let n = g.K.Name.max_sites in
+    let n = g.K.Name.limits in
     let plan = c.args.planned.now in
     subst (λ (es : List Entry). IsEntry n (events_of es) (planned_entry plan)) (sym c.again-next.ensures)
     (entry_next n c.args.list.now c.requires.0 plan c.requires.1)

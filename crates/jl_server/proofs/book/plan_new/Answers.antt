@@ -18,6 +18,6 @@ pub returns-clause-refused : goal.returns-clause-refused
 returns-clause-refused g c =
     for_err
     (λ refusal said.
-    refused_logged g.K.Name.max_sites c.args.list.now c.args.event refusal
-    (subst (λ (s : State). IsRefused (verdict s.max_sites (world_of s) c.args.event) refusal) c.requires said))
+    refused_logged g.K.Name.limits c.args.list.now c.args.event refusal
+    (subst (λ (s : State). IsRefused (verdict s.limits (world_of s) c.args.event) refusal) c.requires said))
     c.plan.result c.plan.ensures.refused

@@ -1,6 +1,5 @@
-use Rattle.std.proofs.Common.{List, [], ◌∷◌, ◌++◌, length, ap, subst, sym, ◌∙◌}
+use Rattle.std.proofs.Common.{List, [], ◌∷◌, ◌++◌, ap, subst, sym, ◌∙◌}
 use Rattle.jl_types.specs.Events.Entries.{Entry, IsLegal}
-use Rattle.jl_types.proofs.Written.{length_written}
 use Rattle.jl_server.specs.History.{core_of, planned_entry}
 use Rattle.jl_server.specs.ForProofs.Shown.{content}
 use Rattle.jl_server.proofs.Logs.{core_next, classes_logged}
@@ -10,7 +9,7 @@ use Rattle.jl_server.proofs.book.publish_next.Goals as goal
 
 pub commit_shown-requires-clause-shown : goal.commit_shown-requires-clause-shown
 commit_shown-requires-clause-shown g c =
-    let n = g.K.Name.max_sites in
+    let n = g.K.Name.limits in
     let xs : List Entry = c.args.list.now in
     let e : Entry = planned_entry c.args.planned in
     let p = c.requires.planned in
@@ -22,7 +21,7 @@ commit_shown-requires-clause-shown g c =
 
 pub returns-in-Some-clause-so_far : goal.returns-in-Some-clause-so_far
 returns-in-Some-clause-so_far g c =
-    let n = g.K.Name.max_sites in
+    let n = g.K.Name.limits in
     let p = c.requires.planned in (
       c.in-Some.ensures.core.0 ∙ (core_next n c.args.list.now p.0 c.args.planned p.1 ∙ ap (core_of n) (sym c.requires.list)),
       alone_next c.args.next.installs c.args.since.now c.since_after.result c.args.list.now c.args.next.list
@@ -35,5 +34,5 @@ returns-in-Some-clause-shown g c =
     let shown = c.in-Some.ensures.shown in (
       ap (λ t. t.list.reached.log) shown ∙ change.log,
       ap (λ t. t.list.reached.book) shown ∙ change.book,
-      ap (λ t. length t.links) shown ∙ (length_written c.args.next.change.slots.items c.args.writer.now.desk.shown.value.links ∙ c.requires.shown.2),
+      ap (λ t. t.limits) shown ∙ c.requires.shown.2,
     )

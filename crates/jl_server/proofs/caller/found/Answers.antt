@@ -5,4 +5,4 @@ use Rattle.jl_server.proofs.caller.found.Goals as goal
 
 pub of-list-requires-clause-legal : goal.of-list-requires-clause-legal
 of-list-requires-clause-legal g c =
-    subst (λ (y : Table). IsLegal g.K.Name.max_sites y.list.reached.log) (sym c.get-table.ensures) c.requires.legal
+    subst (λ (y : Table). IsLegal g.K.Name.limits y.list.reached.log) (sym c.get-table.ensures) c.requires.legal

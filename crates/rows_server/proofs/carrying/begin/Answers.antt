@@ -20,8 +20,8 @@ refilled-requires-clause-past g c =
     let is = c.in-Ok.is in
     let past = c.in-Ok.past in
     let list = c.past.new.self in
-    is_past g.K.Name.max_sites past.world.world past.log list
+    is_past g.K.Name.limits past.world.world past.log list
     (ap (λ s. s.world)
     (holds (λ s. s.world ≡ record { world = world_after (events_of list); serial = length list }) result is c.past.ensures.world))
     (holds (λ s. shown s.world.world.classes.rows s.log ≡ logged_of list) result is c.past.ensures.entries)
-    (holds_on (AreAnswered (core_of g.K.Name.max_sites list)) result is c.past.ensures.answered)
+    (holds_on (AreAnswered (core_of g.K.Name.limits list)) result is c.past.ensures.answered)

@@ -2,4 +2,4 @@ use Rattle.rows_server.proofs.renewals.is_made.Given as goal
 
 -- the fresh server
 abbrev pub ghosts-is_opened : goal.ghosts-is_opened
-ghosts-is_opened g a = record { book = a.fresh.book; max_sites = a.fresh.max_sites }
+ghosts-is_opened g a = record { book = a.fresh.book; limits = a.fresh.limits }

@@ -2,7 +2,7 @@ use Rattle.jl_farm.proofs.Outcomes.{accepted_prepared, installed, not_installed,
 use Rattle.jl_farm.proofs.shared.Shared.install.Goals as goal
 
 pub apply_judged-requires : goal.apply_judged-requires
-apply_judged-requires g c = accepted_prepared g.K.Name.max_sites _ _ _ _ c.requires.prepared.0 c.requires.batch c.requires.rows
+apply_judged-requires g c = accepted_prepared g.K.Name.limits _ _ _ _ c.requires.prepared.0 c.requires.batch c.requires.rows
 
 pub returns-in-Ok-clause-shown : goal.returns-in-Ok-clause-shown
 returns-in-Ok-clause-shown g c = installed _ _ _ _ _ _ c.requires.rows c.in-Ok.ensures.receipt c.in-Ok.ensures.own c.in-Ok.ensures.legal c.in-Ok.ensures.longer

@@ -8,5 +8,5 @@ abbrev pub invariant-loop : goal.invariant-loop
 invariant-loop g l = record {
   pass : IsPassOf l.self.queue.now l.worker.pass;
   part : 0 < (view l.worker.pass).parts;
-  works : Works g.K.Name.max_sites l.self.jobs.now l.fn.worker l.worker;
+  works : Works g.K.Name.limits l.self.jobs.now l.fn.worker l.worker;
 }

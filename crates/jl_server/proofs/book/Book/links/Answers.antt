@@ -7,6 +7,6 @@ use Rattle.jl_server.proofs.book.Book.links.Goals as goal
 
 pub returns-in-Ok : goal.returns-in-Ok
 returns-in-Ok g c =
-    let n = g.K.Name.max_sites in
+    let n = g.K.Name.limits in
     let is = c.self.invariant.0 ∙ ap (core_of n) c.self.view_is in
     c.in-Ok.ensures ∙ ap installed_links (ap events is ∙ events_logged n c.args.self.now)

@@ -10,7 +10,7 @@ use Rattle.jl_server.proofs.book.BookEventMachine.accept.Goals as goal
 
 pub returns-clause-refused : goal.returns-clause-refused
 returns-clause-refused g c =
-    let n = g.K.Name.max_sites in
+    let n = g.K.Name.limits in
     subst (λ (h : List Event). IfErr c.step_on.result (IsRefused (verdict n (world_after h) c.args.event))) (sym (events_logged n c.args.self.now))
     (subst (λ (xs : List Entry). IfErr c.step_on.result (IsRefused (verdict n (world_after (events_of xs)) c.args.event))) c.self.view_is
     c.step_on.ensures.refused)

@@ -5,7 +5,7 @@ use Rattle.jl_server.proofs.caller.Caller.call_with.Goals as goal
 
 pub returns-clause-now : goal.returns-clause-now
 returns-clause-now g c a is fits =
-    let n = g.K.Name.max_sites in
+    let n = g.K.Name.limits in
     let done = c.call_with.ensures in
     let seen = c.call_with.new.self.seen in
     let memo = c.args.memo.now in

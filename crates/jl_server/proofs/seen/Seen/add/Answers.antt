@@ -32,9 +32,9 @@ invariant_of-self g c =
     let grown : c.compare_exchange-found.new.seen.log ≡ log ++ e ∷ [] =
     c.compare_exchange-found.ensures.7 same ∙ (ap (λ s. s.log ++ c.plain-offer.result.ask ∷ []) again
     ∙ ap (λ (x : Entry). log ++ x ∷ []) c.plain-offer.ensures.1) in
-    let entry : IsEntry g.K.Name.max_sites (events_of log) e = subst (λ (l : List Entry). IsEntry g.K.Name.max_sites (events_of l) e)
+    let entry : IsEntry g.K.Name.limits (events_of log) e = subst (λ (l : List Entry). IsEntry g.K.Name.limits (events_of l) e)
     (sym c.self.view_is) c.requires in (
       rw grown (omega (arith, length-append log (e ∷ []), c.self.invariant.0, c.in-Some.ensures)),
       c.compare_exchange-found.ensures.0 ∙ (ap (λ s. s.book) again ∙ c.self.invariant.1),
-      subst (λ (l : List Entry). IsLegal g.K.Name.max_sites l) (sym grown) (legal_more g.K.Name.max_sites log e c.self.invariant.2 entry),
+      subst (λ (l : List Entry). IsLegal g.K.Name.limits l) (sym grown) (legal_more g.K.Name.limits log e c.self.invariant.2 entry),
     )
