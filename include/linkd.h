@@ -32,7 +32,7 @@ extern "C" {
 #endif
 
 /* Grows with each change of this header; linkd_version() tells it of the library. */
-#define LINKD_VERSION 5
+#define LINKD_VERSION 6
 
 typedef struct linkd linkd;
 typedef struct linkd_seat linkd_seat;
@@ -49,7 +49,7 @@ enum linkd_status {
     LINKD_UNKNOWN_CLASS = 2,   /* there is no class of this number or name; of a request, also a retired one */
     LINKD_NO_SUCH_PLACE = 3,   /* the class has no such method, or no invocation there */
     LINKD_NOT_LINKABLE = 4,    /* fault is a linkd_not_linkable_fault */
-    LINKD_SITES_FULL = 5,
+    LINKD_SITES_FULL = 5,      /* there are as many as the linker may have */
     LINKD_CALL_SITE = 6,       /* fault is a linkd_call_site_fault */
     LINKD_NOT_DYNAMIC = 7,     /* the site is no invokedynamic */
     LINKD_ALREADY_BOUND = 8,   /* place is the call site that it is bound to */
@@ -61,7 +61,7 @@ enum linkd_status {
     LINKD_BATCH_SIZE = 14,     /* no sites, or more than 256 */
     LINKD_MEMORY = 15,         /* want of memory; of a call that is given bytes, text or an array, maybe in the place of another refusal */
     LINKD_DELEGATE = 16,       /* fault is a linkd_delegate_fault */
-    LINKD_LOADERS_FULL = 17,
+    LINKD_LOADERS_FULL = 17,   /* there are as many as the linker may have */
     LINKD_RETIRE = 19,         /* fault is a linkd_retire_fault */
     LINKD_NO_CLASS_FILE = 32,  /* the bytes are no class file: fault is a linkd_class_fault */
     LINKD_MALFORMED = 33,      /* a kind, type, target or link that is none, a number that is too large, or another linker than a renewal's */
@@ -90,7 +90,7 @@ enum linkd_define_fault {
     LINKD_NOT_AN_INTERFACE = 7,
     LINKD_INACCESSIBLE_PARENT = 8,
     LINKD_SECOND_OBJECT = 9,
-    LINKD_CLASSES_FULL = 10
+    LINKD_CLASSES_FULL = 10 /* there are as many as the linker may have */
 };
 
 /* Why an invocation is never linked. */
@@ -113,7 +113,7 @@ enum linkd_call_site_fault {
     LINKD_NOT_STATIC = 5,
     LINKD_UNKNOWN_SWITCH = 6,
     LINKD_TOO_DEEP = 7,
-    LINKD_CALL_SITES_FULL = 8,
+    LINKD_CALL_SITES_FULL = 8, /* there are as many as the linker may have; of a new switch point, as many of these */
     LINKD_INVOKER_ORDER = 9 /* place is the call site that the target invokes */
 };
 
@@ -287,16 +287,20 @@ size_t linkd_size(void);
 size_t linkd_align(void);
 void linkd_blank(linkd *at);
 
-/* Opens the linker, without classes; at most max_sites sites may be requested, 1 to 1,048,576 (else LINKD_MALFORMED). LINKD_OPEN_ALREADY,
- * LINKD_MEMORY. */
+/* Opens the linker, without classes; at most max_sites sites may be requested, 1 to 1,048,576 (else LINKD_MALFORMED). It may have 1,048,576
+ * loaders, classes, call sites and switch points. LINKD_OPEN_ALREADY, LINKD_MEMORY. */
 uint32_t linkd_open(linkd *at, uint32_t max_sites);
+/* As linkd_open, but it may have as many of each kind as is said here: so many numbers of the kind it ever gives, those of what is retired
+ * among them. sites: 1 to 1,048,576; each of the others: 1 to 1,048,576, or 0, which stands for 1,048,576. Loader 0 counts as one.
+ * LINKD_OPEN_ALREADY; LINKD_MALFORMED, where sites is 0 or one of them is above 1,048,576; LINKD_MEMORY. */
+uint32_t linkd_open_with(linkd *at, uint32_t sites, uint32_t loaders, uint32_t classes, uint32_t call_sites, uint32_t switches);
 /* Lets all go that the linker has; it isn't open then. */
 void linkd_close(linkd *at);
 
 /* Events. Loader 0 is there from the start; all numbers are given from 0 on. Each may be LINKD_DONE, LINKD_CLOSED and LINKD_MEMORY; the
  * other statuses stand at each. Where nothing is said of place, it is 0. */
 
-/* number is the loader. LINKD_LOADERS_FULL: there are 1,024. */
+/* number is the loader. LINKD_LOADERS_FULL: there are as many as the linker may have. */
 uint32_t linkd_new_loader(linkd *at, linkd_told *told);
 /* Defines the class of a class file. Its major version is 45 to 61, those of SE 17. number is the class. LINKD_NO_CLASS_FILE, of which
  * linkd_class_fault says the place; LINKD_DEFINE. */
@@ -325,7 +329,7 @@ uint32_t linkd_new_call_site_of(linkd *at, uint32_t kind, const uint8_t *type, s
 uint32_t linkd_set_target(linkd *at, uint32_t call_site, const uint8_t *target, size_t target_length, linkd_told *told);
 /* LINKD_MALFORMED, where the parts are none, as above; LINKD_CALL_SITE as above. */
 uint32_t linkd_set_target_of(linkd *at, uint32_t call_site, const linkd_target_part *parts, size_t count, linkd_told *told);
-/* number is the switch point. LINKD_CALL_SITE with LINKD_CALL_SITES_FULL: there are 65,536. */
+/* number is the switch point. LINKD_CALL_SITE with LINKD_CALL_SITES_FULL: there are as many as the linker may have. */
 uint32_t linkd_new_switch(linkd *at, linkd_told *told);
 /* LINKD_CALL_SITE with LINKD_UNKNOWN_SWITCH: one of them is none, and none is invalidated. */
 uint32_t linkd_invalidate(linkd *at, const uint32_t *switches, size_t count, linkd_told *told);
@@ -404,7 +408,8 @@ uint32_t linkd_take(linkd *at, uint8_t *out, size_t capacity, size_t *length);
  * that stays is bound to it or the target of a later one that stays invokes it, and a switch point also where the target of a call site
  * that stays guards by it. They keep their order and get new numbers, from 0 on; a site that stays has its link there, too, if it had one.
  * In each array the new number of each old one is written in its place, or LINKD_NO_NUMBER; behind as many as linkd_counts says it is as
- * before. max_sites: as linkd_open. What linkd_named, linkd_take and the command prepare kept isn't taken over.
+ * before. max_sites: as linkd_open. Of each other kind `fresh` may have as many as `at`. What linkd_named, linkd_take and the command prepare
+ * kept isn't taken over.
  * Counts as a call on the two linkers, which are not one. What a seat, a memo or a view has is of `at` and its numbers: before it is used
  * with `fresh`, the seat is refreshed and the view taken from it, and the memo closed and opened.
  * In this order: LINKD_CLOSED, where `at` isn't open; LINKD_OPEN_ALREADY, where `fresh` is; LINKD_MALFORMED, as linkd_open;
@@ -449,10 +454,11 @@ size_t linkd_renewal_align(void);
 void linkd_renewal_blank(linkd_renewal *at);
 
 /* Begins a renewal of the linker as it is now: what stays is said at linkd_renew_into. At most max_sites sites may be requested in the fresh
- * linker; give as many as the linker was opened with, or a request that is still to come may be LINKD_SITES_FULL there. What the linker has
- * is shared and not copied, but for the pages of links that events have touched since a seat was last refreshed; each event that it keeps is
- * shared, those of all classes and delegations among them. So this call takes as long as a seat's refresh and these would, and the second event
- * after it copies the list of requested sites, as after a view. From here on the linker forgets no event until the renewal is finished or left.
+ * linker; give as many as the linker was opened with, or a request that is still to come may be LINKD_SITES_FULL there. Of each other kind the
+ * fresh linker may have as many as the linker. What the linker has is shared and not copied, but for the pages of links that events have
+ * touched since a seat was last refreshed; each event that it keeps is shared, those of all classes and delegations among them. So this call
+ * takes as long as a seat's refresh and these would, and the second event after it copies the list of requested sites, as after a view. From
+ * here on the linker forgets no event until the renewal is finished or left.
  * Counts as a call on the renewal and on the linker.
  * In this order: LINKD_CLOSED, where the linker isn't open; LINKD_OPEN_ALREADY, where the renewal has begun and wasn't left;
  * LINKD_MALFORMED, where max_sites is 0 or above 1,048,576; LINKD_MEMORY. Where it isn't done the renewal is as before. */

@@ -54,7 +54,7 @@ numbered! {
         InaccessibleParent = 8: "a parent is inaccessible",
         /// Another loader than the first one defines java/lang/Object.
         SecondObject = 9: "a second java/lang/Object",
-        /// There are 65,536 classes.
+        /// There are as many classes as the linker may have.
         Full = 10: "there is no room for more classes",
     }
 }
@@ -132,7 +132,7 @@ numbered! {
         UnknownSwitch = 6: "unknown switch point",
         /// The target is deeper than 64, or has more than 255 parts.
         TooDeep = 7: "the target is too deep or too large",
-        /// There are 65,536 of them.
+        /// There are as many of them as the linker may have.
         Full = 8: "there is no room for more",
         /// It would invoke a call site that isn't older.
         InvokerOrder = 9: "it invokes a call site that isn't older",
@@ -219,7 +219,7 @@ pub enum Error {
     Memory,
     /// The loader doesn't find the class by the other.
     Delegate(DelegateFault),
-    /// There are 1,024 loaders.
+    /// There are as many loaders as the linker may have.
     LoadersFull,
     /// The loader isn't retired.
     Retire(RetireFault),

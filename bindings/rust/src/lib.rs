@@ -20,6 +20,7 @@ mod answer;
 mod block;
 mod error;
 mod invocation;
+mod limits;
 mod linker;
 mod memo;
 mod raw;
@@ -30,6 +31,7 @@ mod view;
 pub use answer::{Answer, Link, Outcome, Row, Target, Throwable, Unlinked};
 pub use error::{CallSiteFault, ClassFault, DefineFault, DelegateFault, Error, NotLinkable, RetireFault};
 pub use invocation::{Instruction, Invocation};
+pub use limits::Limits;
 pub use linker::{CallSiteKind, Linker};
 pub use memo::Memo;
 pub use renewal::{Released, Renewal, Renumbering, Unfinished};
@@ -48,17 +50,17 @@ pub fn version() -> u32 {
 /// SE 17 to SE 25 say the same of all that is read. It isn't claimed that a JVM of SE 17 would take such a file.
 pub const NEWEST_KNOWN: u16 = 69;
 
-/// A number of the linker, of one kind, of which it gives at most so many.
+/// A number of the linker, of one kind.
 macro_rules! id {
-    ($(#[$doc:meta])* $name:ident, $word:literal, $most:literal) => {
+    ($(#[$doc:meta])* $name:ident, $word:literal) => {
         $(#[$doc])*
         #[derive(Clone, Copy, Debug, PartialEq, Eq, PartialOrd, Ord, Hash)]
         pub struct $name(pub(crate) u32);
 
         impl $name {
-            #[doc = concat!("The id of a number that was kept elsewhere, as in compiled code. A linker gives those below ", $most, ".")]
+            /// The id of a number that was kept elsewhere, as in compiled code. A linker gives those below [`Limits::MOST`].
             pub const fn from_number(number: u32) -> Option<$name> {
-                if number < $most {
+                if number < Limits::MOST {
                     Some($name(number))
                 } else {
                     None
@@ -82,32 +84,27 @@ macro_rules! id {
 id!(
     /// A class that is defined.
     ClassId,
-    "class",
-    65_536
+    "class"
 );
 id!(
     /// A loader.
     LoaderId,
-    "loader",
-    1_024
+    "loader"
 );
 id!(
     /// An invocation that is requested.
     SiteId,
-    "site",
-    1_048_576
+    "site"
 );
 id!(
     /// A call site of java.lang.invoke.
     CallSiteId,
-    "call site",
-    65_536
+    "call site"
 );
 id!(
     /// A switch point of java.lang.invoke.
     SwitchId,
-    "switch point",
-    65_536
+    "switch point"
 );
 
 impl LoaderId {

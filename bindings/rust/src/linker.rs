@@ -4,7 +4,7 @@ use crate::error::done;
 use crate::invocation::{invocation, Invocation};
 use crate::raw::{self, Told};
 use crate::{
-    Answer, CallSiteId, ClassId, Error, Link, LoaderId, Memo, Released, Renewal, Renumbering, Seat, SiteId, SwitchId, Target, View,
+    Answer, CallSiteId, ClassId, Error, Limits, Link, LoaderId, Memo, Released, Renewal, Renumbering, Seat, SiteId, SwitchId, Target, View,
 };
 use std::fmt;
 use std::sync::atomic::{AtomicU64, Ordering};
@@ -69,12 +69,25 @@ fn copied<T: Clone + Default>(mut call: impl FnMut(*mut T, usize, &mut usize) ->
 }
 
 impl Linker {
-    /// A linker without classes, in which at most so many sites may be requested: 1 to 1,048,576, or else [`Error::Malformed`].
+    /// A linker without classes, in which at most so many sites may be requested: 1 to 1,048,576, or else [`Error::Malformed`]. There may be
+    /// 1,048,576 loaders, classes, call sites and switch points.
     pub fn open(max_sites: u32) -> Result<Linker, Error> {
+        // SAFETY: the linker is no one else's yet.
+        Linker::opened(max_sites, |at| unsafe { raw::linkd_open(at, max_sites) })
+    }
+
+    /// A linker without classes, which gives at most so many numbers of each kind. [`Error::Malformed`], where there can be no such limits.
+    pub fn open_with(limits: Limits) -> Result<Linker, Error> {
+        let Limits { sites, loaders, classes, call_sites, switches } = limits;
+        // SAFETY: the linker is no one else's yet.
+        Linker::opened(sites, |at| unsafe { raw::linkd_open_with(at, sites, loaders, classes, call_sites, switches) })
+    }
+
+    /// One that the call opens.
+    fn opened(max_sites: u32, open: impl FnOnce(*mut raw::Opaque) -> u32) -> Result<Linker, Error> {
         assert_eq!(crate::version(), raw::VERSION, "the archive is of another version of the header than this crate");
         let linker = Linker::blank(max_sites);
-        // SAFETY: the linker is no one else's yet.
-        done(unsafe { raw::linkd_open(linker.at(), max_sites) }, &Told::default())?;
+        done(open(linker.at()), &Told::default())?;
         Ok(linker)
     }
 
@@ -324,7 +337,7 @@ impl Linker {
     /// A fresh linker that has what stays of this one, which is left as it is, and the ids there: of what is retired or not used any more
     /// something stays in a linker, so a program that runs for long goes over to a fresh one from time to time. What stays are the loaders
     /// that aren't retired, their classes and the sites in these, and call sites and switch points as [`Released`] says; a site that stays has
-    /// its link. So many sites may be requested there, 1 to 1,048,576, or else [`Error::Malformed`].
+    /// its link. So many sites may be requested there, 1 to 1,048,576, or else [`Error::Malformed`]; its other limits are this one's.
     ///
     /// A seat goes over by its next [`refresh`](Seat::refresh) from the fresh linker, and a view by its next [`take`](View::take); a memo is
     /// one of the old linker.

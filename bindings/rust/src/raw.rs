@@ -1,6 +1,6 @@
 //! The calls of `include/linkd.h`, of this version. Nothing compares these declarations with the header but the crate's tests.
 
-pub const VERSION: u32 = 5;
+pub const VERSION: u32 = 6;
 
 /// A linker, a seat, a memo, a view or a renewal, in a block of a size that the library tells.
 #[repr(C)]
@@ -88,6 +88,7 @@ extern "C" {
     pub fn linkd_align() -> usize;
     pub fn linkd_blank(at: *mut Opaque);
     pub fn linkd_open(at: *mut Opaque, max_sites: u32) -> u32;
+    pub fn linkd_open_with(at: *mut Opaque, sites: u32, loaders: u32, classes: u32, call_sites: u32, switches: u32) -> u32;
     pub fn linkd_close(at: *mut Opaque);
     pub fn linkd_new_loader(at: *mut Opaque, told: *mut Told) -> u32;
     pub fn linkd_define(at: *mut Opaque, loader: u32, bytes: *const u8, length: usize, told: *mut Told) -> u32;

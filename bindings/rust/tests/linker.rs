@@ -3,8 +3,9 @@
 mod file;
 
 use linkd::{
-    Answer, CallSiteFault, CallSiteId, CallSiteKind, ClassFault, ClassId, DefineFault, DelegateFault, Error, Instruction, Invocation, Link,
-    Linker, LoaderId, NotLinkable, Outcome, Released, Renewal, RetireFault, SiteId, SwitchId, Target, Throwable, Unlinked, NEWEST_KNOWN,
+    Answer, CallSiteFault, CallSiteId, CallSiteKind, ClassFault, ClassId, DefineFault, DelegateFault, Error, Instruction, Invocation,
+    Limits, Link, Linker, LoaderId, NotLinkable, Outcome, Released, Renewal, RetireFault, SiteId, SwitchId, Target, Throwable, Unlinked,
+    NEWEST_KNOWN,
 };
 use std::sync::{Arc, Mutex};
 
@@ -609,11 +610,57 @@ fn ids_are_made_of_the_numbers_that_a_linker_gives() -> Result<(), Error> {
     assert_eq!(ClassId::from_number(m.number()), Some(m));
     assert_eq!(SiteId::from_number(site.number()), Some(site));
     assert_eq!(linker.call(SiteId::from_number(0).unwrap(), ClassId::from_number(2)), answers(a));
-    assert_eq!((LoaderId::from_number(0), LoaderId::from_number(1_024)), (Some(LoaderId::FIRST), None));
-    assert_eq!(ClassId::from_number(65_535).map(ClassId::number), Some(65_535));
-    assert_eq!((ClassId::from_number(65_536), ClassId::from_number(u32::MAX)), (None, None));
+    assert_eq!((LoaderId::from_number(0), LoaderId::from_number(1_048_576)), (Some(LoaderId::FIRST), None));
+    assert_eq!(ClassId::from_number(1_048_575).map(ClassId::number), Some(1_048_575));
+    assert_eq!((ClassId::from_number(1_048_576), ClassId::from_number(u32::MAX)), (None, None));
     assert_eq!(SiteId::from_number(1_048_575).map(SiteId::number), Some(1_048_575));
-    assert_eq!((SiteId::from_number(1_048_576), CallSiteId::from_number(65_536), SwitchId::from_number(65_536)), (None, None, None));
+    assert_eq!((SiteId::from_number(1_048_576), CallSiteId::from_number(1_048_576), SwitchId::from_number(1_048_576)), (None, None, None));
+    Ok(())
+}
+
+#[test]
+fn a_linker_has_limits_of_its_own() -> Result<(), Error> {
+    let limits = Limits { sites: 1, loaders: 2, classes: 3, call_sites: 1, switches: 1 };
+    let mut linker = Linker::open_with(limits)?;
+    linker.define(&object())?;
+    let a = linker.define(&with_f("A", OBJECT))?;
+    let m = linker.define(&caller())?;
+    assert_eq!(linker.define(&with_f("B", OBJECT)), Err(Error::Define(DefineFault::Full)));
+    assert_eq!(linker.new_loader()?.number(), 1);
+    assert_eq!(linker.new_loader(), Err(Error::LoadersFull));
+    linker.request(m, 0, 0)?;
+    assert_eq!(linker.request(m, 0, 3), Err(Error::SitesFull));
+    linker.new_switch()?;
+    assert_eq!(linker.new_switch(), Err(Error::CallSite(CallSiteFault::Full)));
+    let target = Target::Method(m, 1);
+    linker.new_call_site(CallSiteKind::Mutable, b"()V", &target)?;
+    assert_eq!(linker.new_call_site(CallSiteKind::Mutable, b"()V", &target), Err(Error::CallSite(CallSiteFault::Full)));
+
+    // A fresh linker has the limits, too, but for the sites.
+    let (mut fresh, numbers) = linker.renew(2, &Released::default())?;
+    assert_eq!(numbers.class(a), Some(a));
+    assert_eq!(fresh.new_loader(), Err(Error::LoadersFull));
+    assert_eq!(fresh.request(m, 0, 3)?.number(), 1);
+    Ok(())
+}
+
+#[test]
+fn limits_are_refused_or_as_wide_as_may_be() -> Result<(), Error> {
+    let wide = Limits::of_sites(1);
+    assert_eq!(Linker::open_with(Limits { sites: 0, ..wide }).err(), Some(Error::Malformed));
+    for too_many in [
+        Limits { sites: Limits::MOST + 1, ..wide },
+        Limits { loaders: Limits::MOST + 1, ..wide },
+        Limits { classes: Limits::MOST + 1, ..wide },
+        Limits { call_sites: Limits::MOST + 1, ..wide },
+        Limits { switches: Limits::MOST + 1, ..wide },
+    ] {
+        assert_eq!(Linker::open_with(too_many).err(), Some(Error::Malformed), "{too_many:?}");
+    }
+    let mut linker = Linker::open_with(Limits { sites: 1, loaders: 0, classes: 0, call_sites: 0, switches: 0 })?;
+    for number in 1..=2_000 {
+        assert_eq!(linker.new_loader()?.number(), number);
+    }
     Ok(())
 }
 

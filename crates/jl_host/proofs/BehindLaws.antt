@@ -30,9 +30,9 @@ module _ (core : State) (links : List (Option Link)) (n : ℕ) (x : Option Link)
 
 -- what is right stays so, and each site that an item of these touches is right
 pub record IsWritten {A : Type 0} (core : State) (test : ℕ → A → Bool) (items : List A) (old new : List (Option Link)) : Type 0 where
-  pub all : length new ≡ room_for core.max_sites
+  pub all : length new ≡ room_for core.limits.sites
   pub kept : (s : ℕ) → IsNow core old s → IsNow core new s
-  pub written : (s : ℕ) → s < room_for core.max_sites → list_any (test s) items ≡ true → IsNow core new s
+  pub written : (s : ℕ) → s < room_for core.limits.sites → list_any (test s) items ≡ true → IsNow core new s
 
 either : (a b : Bool) → (a || b) ≡ true → {P : Type 0} → (a ≡ true → P) → (b ≡ true → P) → P
 either true b e f g = f refl
@@ -40,8 +40,8 @@ either false b e f g = g e
 
 pub one_written : {A : Type 0} (core : State) (test : ℕ → A → Bool) (items : List A) (i : ℕ) (item : A) (old links new : List (Option Link)) → i < length items
     → item ≡ get_or items i item
-    → IsWritten core test (take i items) old links → length new ≡ room_for core.max_sites → ((s : ℕ) → IsNow core links s → IsNow core new s)
-    → ((s : ℕ) → s < room_for core.max_sites → test s item ≡ true → IsNow core new s) → IsWritten core test (take (i + 1) items) old new
+    → IsWritten core test (take i items) old links → length new ≡ room_for core.limits.sites → ((s : ℕ) → IsNow core links s → IsNow core new s)
+    → ((s : ℕ) → s < room_for core.limits.sites → test s item ≡ true → IsNow core new s) → IsWritten core test (take (i + 1) items) old new
 one_written core test items i item old links new few at so_far all kept written = record {
   all = all;
   kept = λ s now. kept s (so_far.kept s now);

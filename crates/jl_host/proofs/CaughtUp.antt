@@ -11,6 +11,7 @@ use Rattle.std.proofs.lemmas.List.Folds.{list_any-append, list_any_at}
 use Rattle.std.proofs.lemmas.List.FromFn.{get_or-map-range_with_len, length-map-range_with_len}
 use Rattle.std.proofs.lemmas.Option.{none-some, same_Some}
 use Rattle.jl_types.specs.declared.answer.Unlinked.{Unlinked}
+use Rattle.jl_types.specs.declared.limits.Limits.{Limits}
 use Rattle.jl_types.specs.declared.link.Link.{Link}
 use Rattle.jl_types.specs.Events.Event.{Event}
 use Rattle.jl_types.specs.declared.event.EventOf.TheVariants as event
@@ -40,12 +41,12 @@ both_false true b e = cc
 
 -- ---- one event more
 
-module _ (links : List (Option Link)) (n m : ℕ) (log : List (Event × Reply)) (e : Event) (reply : Reply) where
+module _ (links : List (Option Link)) (n : ℕ) (m : Limits) (log : List (Event × Reply)) (e : Event) (reply : Reply) where
   abbrev before : State
-  before = record { max_sites = m; log = log }
+  before = record { limits = m; log = log }
 
   abbrev after : State
-  after = record { max_sites = m; log = log ++ (e, reply) ∷ [] }
+  after = record { limits = m; log = log ++ (e, reply) ∷ [] }
 
   events_after : events after ≡ events before ++ e ∷ []
   events_after = map-append (λ (entry : Event × Reply). entry.0) log ((e, reply) ∷ [])
@@ -72,8 +73,8 @@ pub accepted_behind : (links : List (Option Link)) (n : ℕ) (old new : State) (
     → IsBehind links n new
 accepted_behind links n old new e reply is accepted =
     subst (IsBehind links n) (sym accepted.logged)
-    (one_behind links n old.max_sites old.log e reply is
-    (sym (accepted_of (dropped (events old) e) (verdict old.max_sites (world_after (events old)) e) reply accepted.answered).1))
+    (one_behind links n old.limits old.log e reply is
+    (sym (accepted_of (dropped (events old) e) (verdict old.limits (world_after (events old)) e) reply accepted.answered).1))
 
 pub applied_behind : (links : List (Option Link)) (n : ℕ) (old new : State) (e : Event) (outcome : Result Reply Refusal) → IsBehind links n old
     → IsApplied old e outcome new → IsBehind links n new
@@ -139,10 +140,10 @@ module _ (rows : List Class) (s : ℕ) where
 
 -- of links that were behind, once those of the touched sites were written
 pub caught_up : (core : State) (old new : List (Option Link)) (n : ℕ) (rows : List Class) (entries : List Entry) → IsBehind old n core
-    → are_told rows entries ≡ true → shown rows entries ≡ core.log → length new ≡ room_for core.max_sites
+    → are_told rows entries ≡ true → shown rows entries ≡ core.log → length new ≡ room_for core.limits.sites
     → ((s : ℕ) → IsNow core old s → IsNow core new s)
-    → ((s : ℕ) → s < room_for core.max_sites → list_any (touched_by s) (drop n entries) ≡ true → IsNow core new s)
-    → (s : ℕ) → s < room_for core.max_sites → IsNow core new s
+    → ((s : ℕ) → s < room_for core.limits.sites → list_any (touched_by s) (drop n entries) ≡ true → IsNow core new s)
+    → (s : ℕ) → s < room_for core.limits.sites → IsNow core new s
 caught_up core old new n rows entries is all_told shown_is all kept written s low = by_test (list_any (touched_by s) (drop n entries)) refl
   where
     by_test : (b : Bool) → list_any (touched_by s) (drop n entries) ≡ b → IsNow core new s
@@ -150,14 +151,14 @@ caught_up core old new n rows entries is all_told shown_is all kept written s lo
     by_test false e =
         kept s (is.same s low (ap (λ log. list_any (touches s) (drop n log)) (sym shown_is) ∙ sym (same_touches rows s entries n all_told) ∙ e))
 
-pub all_links : (core : State) (links : List (Option Link)) → length links ≡ room_for core.max_sites
-    → ((s : ℕ) → s < room_for core.max_sites → IsNow core links s)
-    → links ≡ map (installed (events core)) (range_with_len 0 (room_for core.max_sites))
+pub all_links : (core : State) (links : List (Option Link)) → length links ≡ room_for core.limits.sites
+    → ((s : ℕ) → s < room_for core.limits.sites → IsNow core links s)
+    → links ≡ map (installed (events core)) (range_with_len 0 (room_for core.limits.sites))
 all_links core links all now =
-    ext_get_or None links (map (installed (events core)) (range_with_len 0 (room_for core.max_sites)))
-    (all ∙ sym (length-map-range_with_len (installed (events core)) 0 (room_for core.max_sites)))
-    (λ i low. let few : i < room_for core.max_sites = omega (arith, low, all) in
-    now i few ∙ sym (get_or-map-range_with_len (installed (events core)) 0 (room_for core.max_sites) i i None few (omega arith)))
+    ext_get_or None links (map (installed (events core)) (range_with_len 0 (room_for core.limits.sites)))
+    (all ∙ sym (length-map-range_with_len (installed (events core)) 0 (room_for core.limits.sites)))
+    (λ i low. let few : i < room_for core.limits.sites = omega (arith, low, all) in
+    now i few ∙ sym (get_or-map-range_with_len (installed (events core)) 0 (room_for core.limits.sites) i i None few (omega arith)))
 
 -- ---- all links, written anew
 
@@ -177,16 +178,16 @@ unlisted core s none = by_link (installed (events core) s) refl
             list_any_at (λ (row : ℕ × Link). row.0 == s) rows c.0 (s, l) c.1 (ap (λ (row : ℕ × Link). row.0 == s) c.2 ∙ (Decides-eqb s s).1 refl)
 
 -- of no links, once those of the listed sites were written
-pub written_anew : (core : State) (blank new : List (Option Link)) → blank ≡ replicate (room_for core.max_sites) None
+pub written_anew : (core : State) (blank new : List (Option Link)) → blank ≡ replicate (room_for core.limits.sites) None
     → ((s : ℕ) → IsNow core blank s → IsNow core new s)
-    → ((s : ℕ) → s < room_for core.max_sites → list_any (λ row. row.0 == s) (links_of core) ≡ true → IsNow core new s)
-    → (s : ℕ) → s < room_for core.max_sites → IsNow core new s
+    → ((s : ℕ) → s < room_for core.limits.sites → list_any (λ row. row.0 == s) (links_of core) ≡ true → IsNow core new s)
+    → (s : ℕ) → s < room_for core.limits.sites → IsNow core new s
 written_anew core blank new none kept written s low = by_test (list_any (λ row. row.0 == s) (links_of core)) refl
   where
     by_test : (b : Bool) → list_any (λ row. row.0 == s) (links_of core) ≡ b → IsNow core new s
     by_test true e = written s low e
     by_test false e =
-        kept s (ap (λ links. get_or links s nothing) none ∙ (get_or-replicate (room_for core.max_sites) s nothing nothing low ∙ sym (unlisted core s e)))
+        kept s (ap (λ links. get_or links s nothing) none ∙ (get_or-replicate (room_for core.limits.sites) s nothing nothing low ∙ sym (unlisted core s e)))
       where
         nothing : Option Link
         nothing = None
@@ -257,14 +258,14 @@ module _ (s : ℕ) where
       (λ k. ap (λ b. b && all_below (λ n. nat_le n k || is_link (scratch_after h n s) l) (length h + 1)) (none k)) (length h))
   unsettled h none (Err reason) = refl
 
-pub nothing_behind : (core : State) (max_sites : ℕ) (links : List (Option Link)) → core.max_sites ≡ max_sites → max_sites < 2 ^ 32
+pub nothing_behind : (core : State) (max_sites : ℕ) (links : List (Option Link)) → core.limits.sites ≡ max_sites → max_sites < 2 ^ 32
     → links ≡ replicate (room_for max_sites) None → IsBehind links 0 core
 nothing_behind core max_sites links is few all =
     subst (λ xs. IsBehind xs 0 core) (sym (all ∙ ap (λ m. replicate (room_for m) none) (sym is))) (record {
       few = omega (arith, is, few);
-      all = length-replicate (room_for core.max_sites) none;
+      all = length-replicate (room_for core.limits.sites) none;
       reached = omega arith;
-      same = λ s low quiet. get_or-replicate (room_for core.max_sites) s none none low
+      same = λ s low quiet. get_or-replicate (room_for core.limits.sites) s none none low
           ∙ sym (unsettled s (events core) (touches_none s core.log quiet) (scratch (world_of core) s));
     })
   where

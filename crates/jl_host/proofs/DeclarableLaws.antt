@@ -29,6 +29,7 @@ use Rattle.jl_types.specs.declared.answer.Throwable.TheVariants.{NoSuchMethodErr
 use Rattle.jl_types.specs.declared.answer.Unlinked.{Unlinked}
 use Rattle.jl_types.specs.declared.answer.Unlinked.TheVariants.{Gone}
 use Rattle.jl_types.specs.declared.event.EventOf.TheVariants as event
+use Rattle.jl_types.specs.declared.limits.Limits.{Limits}
 use Rattle.jl_types.specs.declared.link.Link.{Link}
 use Rattle.jl_types.specs.declared.link.Link.TheVariants.{Direct, Table, Mega}
 use Rattle.jl_types.specs.declared.link.TableKind.{TableKind}
@@ -54,7 +55,7 @@ use Rattle.jl_types.specs.Linkage.Targets.{is_valid, run_by, run_below, method_o
 use Rattle.jl_types.specs.Linkage.Links.{outcome_by, outcome, table_rows, table_or_mega, runs, virtual_link, link_by, link_of, scratch}
 use Rattle.jl_types.specs.Events.Event.{Event}
 use Rattle.jl_types.specs.Events.Definitions.{class_made}
-use Rattle.jl_types.specs.Events.Verdict.{is_constant, most_of_a_kind, new_call_site_fault, set_target_fault, retargeted, verdict, step}
+use Rattle.jl_types.specs.Events.Verdict.{is_constant, new_call_site_fault, set_target_fault, retargeted, verdict, step}
 use Rattle.jl_types.specs.Events.History.{world_after}
 use Rattle.jl_types.proofs.Bools.{first_test, second_test}
 use Rattle.jl_types.proofs.Firsts.{first_none, test_none}
@@ -445,11 +446,11 @@ module _ (w : World) (few : AllByRecursion IsFew w.classes.rows) where
       named_in_part c ty t (first_none (part_fault w c ty t) []
       (first_none (then_some (nat_lt 64 (depth t) || nat_lt 255 (parts t)) TooDeep) (part_fault w c ty t ∷ []) e).1).0
 
-  named_when_new : (ty : List ℕ) (t : Target) → new_call_site_fault w ty t ≡ None → NamesDeclarable t
-  named_when_new ty t e =
+  named_when_new : (most : ℕ) (ty : List ℕ) (t : Target) → new_call_site_fault most w ty t ≡ None → NamesDeclarable t
+  named_when_new most ty t e =
       let c = length w.sites.call_sites in
       named_in_target c ty t (first_none (target_fault w c ty t) []
-      (first_none (then_some (nat_le most_of_a_kind c) Full) (target_fault w c ty t ∷ []) e).1).0
+      (first_none (then_some (nat_le most c) Full) (target_fault w c ty t ∷ []) e).1).0
 
   named_when_set : (c : ℕ) (t : Target) (found : Option CallSite) → set_target_fault w c found t ≡ None → NamesDeclarable t
   named_when_set c t None e = cc
@@ -479,40 +480,40 @@ all_retargeted sites c t all is = by_site (slice_get sites c)
 abbrev AreDeclarable : World → Type 0
 AreDeclarable w = AllByRecursion IsFew w.classes.rows × AllByRecursion IsDeclarableSite w.sites.call_sites
 
-declarable_after : (max_sites : ℕ) (w : World) → AreDeclarable w → (e : Event) → IsOk (verdict max_sites w e) → has_read_file e ≡ true
+declarable_after : (limits : Limits) (w : World) → AreDeclarable w → (e : Event) → IsOk (verdict limits w e) → has_read_file e ≡ true
     → AreDeclarable (step w e)
-declarable_after max_sites w all event.NewLoader accepted read = all
-declarable_after max_sites w all (event.Define loader file) accepted read = (
+declarable_after limits w all event.NewLoader accepted read = all
+declarable_after limits w all (event.Define loader file) accepted read = (
   with_last IsFew w.classes.rows (class_made w.classes loader file) all.0
       (second_test (extends_object file.flags file.superclass) (nat_lt (length file.methods) 65536) read),
   all.1,
 )
-declarable_after max_sites w all (event.Delegate loader name to) accepted read = all
-declarable_after max_sites w all (event.Request place) accepted read = all
-declarable_after max_sites w all (event.NewCallSite kind ty t) accepted read = (
+declarable_after limits w all (event.Delegate loader name to) accepted read = all
+declarable_after limits w all (event.Request place) accepted read = all
+declarable_after limits w all (event.NewCallSite kind ty t) accepted read = (
   all.0,
   with_last IsDeclarableSite w.sites.call_sites (record { kind = kind; ty = ty; target = t }) all.1
-      (named_when_new w all.0 ty t (no_fault refusal.CallSite (new_call_site_fault w ty t) _ accepted)),
+      (named_when_new w all.0 limits.call_sites ty t (no_fault refusal.CallSite (new_call_site_fault limits.call_sites w ty t) _ accepted)),
 )
-declarable_after max_sites w all (event.SetTarget c t) accepted read = (
+declarable_after limits w all (event.SetTarget c t) accepted read = (
   all.0,
   all_retargeted w.sites.call_sites c t all.1
       (named_when_set w all.0 c t (slice_get w.sites.call_sites c)
       (no_fault refusal.CallSite (set_target_fault w c (slice_get w.sites.call_sites c) t) _ accepted)),
 )
-declarable_after max_sites w all event.NewSwitch accepted read = all
-declarable_after max_sites w all (event.Invalidate points) accepted read = all
-declarable_after max_sites w all (event.Bind s c) accepted read = all
-declarable_after max_sites w all (event.Install rows) accepted read = all
-declarable_after max_sites w all (event.Retire loader) accepted read = all
+declarable_after limits w all event.NewSwitch accepted read = all
+declarable_after limits w all (event.Invalidate points) accepted read = all
+declarable_after limits w all (event.Bind s c) accepted read = all
+declarable_after limits w all (event.Install rows) accepted read = all
+declarable_after limits w all (event.Retire loader) accepted read = all
 
-from : (max_sites : ℕ) (h : List Event) (w : World) → AreDeclarable w
-    → ((n : ℕ) (e : Event) → slice_get h n ≡ Some e → IsOk (verdict max_sites (fold step w (take n h)) e)) → list_all has_read_file h ≡ true
+from : (limits : Limits) (h : List Event) (w : World) → AreDeclarable w
+    → ((n : ℕ) (e : Event) → slice_get h n ≡ Some e → IsOk (verdict limits (fold step w (take n h)) e)) → list_all has_read_file h ≡ true
     → AreDeclarable (fold step w h)
-from max_sites [] w all each files = all
-from max_sites (e ∷ h) w all each files =
-    from max_sites h (step w e)
-    (declarable_after max_sites w all e (each 0 e refl) (first_test (has_read_file e) (list_all has_read_file h) files))
+from limits [] w all each files = all
+from limits (e ∷ h) w all each files =
+    from limits h (step w e)
+    (declarable_after limits w all e (each 0 e refl) (first_test (has_read_file e) (list_all has_read_file h) files))
     (λ n f at. each (suc n) f at) (second_test (has_read_file e) (list_all has_read_file h) files)
 
 -- ---- a site
@@ -559,7 +560,7 @@ module _ (w : World) (all : AreDeclarable w) (s : ℕ) where
       of_result (Err reason) h e = cc
       of_result (Ok l) h e = let same : l ≡ link = cc in ap runs_declarable (sym same) ∙ h
 
-pub declarable_from_scratch : (max_sites : ℕ) (h : List Event) → AreAccepted max_sites h → (s : ℕ) (link : Link)
+pub declarable_from_scratch : (limits : Limits) (h : List Event) → AreAccepted limits h → (s : ℕ) (link : Link)
     → scratch (world_after h) s ≡ Ok link → runs_declarable link ≡ true
-declarable_from_scratch max_sites h accepted s link is =
-    scratch_declarable (world_after h) (from max_sites h nothing_yet (tt, tt) accepted.each accepted.files) s link is
+declarable_from_scratch limits h accepted s link is =
+    scratch_declarable (world_after h) (from limits h nothing_yet (tt, tt) accepted.each accepted.files) s link is

@@ -188,7 +188,7 @@ refused_status (refusal.Retire f) e = omega (arith, e)
 accepts_by : (old next : State) (links : List (ℕ × Link)) (outcome : Result Reply Refusal) → IsApplied old (event.Install links) outcome next
     → done ≡ status_of outcome → Accepts (world_of old) links
 accepts_by old next links (Ok reply) applied is =
-    (accepted_installs (world_of old) old.max_sites links).0 (made_by _ (install_fault (world_of old) links) reply applied.answered)
+    (accepted_installs (world_of old) old.limits links).0 (made_by _ (install_fault (world_of old) links) reply applied.answered)
 accepts_by old next links (Err r) applied is = absurd (refused_status r is)
 
 module _ (rows : List LinkRow) (old : Opened) (present after : LinkShown) (told : Told) (next : Opened) where

@@ -2,11 +2,13 @@
 pub mod ReadingLaws
 pub mod TargetLaws
 pub mod FileLaws
--- what it is shown: links again, waiting sites, renewed numbers
+-- what it is shown: links again, waiting sites, renewed numbers; and its limits
 pub mod ReadAgain
 pub mod DeclarableLaws
 pub mod GivenLaws
 pub mod AwaitedLaws
+pub mod LimitLaws
+pub mod ShortLaws
 pub mod RenewLaws
 pub mod RenewingLaws
 pub mod EndLaws

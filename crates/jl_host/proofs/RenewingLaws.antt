@@ -79,7 +79,7 @@ is_other core old all place same at (inr past) = inr (omega (arith, past, same, 
 
 -- ---- the fresh core is made
 
-pub ready_from : (old : Renewing) (start : Start) (made : Fresh) → old.start ≡ Some start → IsMade start old.max_sites made
+pub ready_from : (old : Renewing) (start : Start) (made : Fresh) → old.start ≡ Some start → IsMade start old.limits made
     → IsReady old (record old { start = None; fresh = Some made })
 ready_from old start made is is_made = rw is (made, is_made, refl)
 

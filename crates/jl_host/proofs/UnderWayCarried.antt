@@ -134,8 +134,8 @@ installs_told rows (event.Retire loader) links is = cc
 
 module _ (k : Flags) (w : World) (entry : Entry) (e : Event) (named : event_of w.classes.rows entry.event ≡ Some e) (old next : State)
     (accepted : IsAccepted old next e entry.reply) (read : has_read_file e ≡ true) (f g : Fresh) (beside : IsBeside k old f.core f.numbers) where
-  ok : IsOk (verdict old.max_sites (world_of old) e)
-  ok = ap is_ok (accepted_of (dropped (events old) e) (verdict old.max_sites (world_of old) e) entry.reply accepted.answered).0
+  ok : IsOk (verdict old.limits (world_of old) e)
+  ok = ap is_ok (accepted_of (dropped (events old) e) (verdict old.limits (world_of old) e) entry.reply accepted.answered).0
 
   by_rows : (rows : List (ℕ × Link)) → IsBeside k next f.core f.numbers → IsLinked rows f g → IsBeside k next g.core g.numbers
   by_rows [] passed same = subst (λ (h : Fresh). IsBeside k next h.core h.numbers) (sym same) passed
@@ -160,18 +160,18 @@ module _ (k : Flags) (w : World) (entry : Entry) (e : Event) (named : event_of w
   -- its links are those of the old core then, too
   module _ (links : HaveSameLinks old f.core f.numbers) where
     module _ (rows : List (ℕ × Link)) (installed : IsAccepted old next (event.Install rows) entry.reply) where
-      may_install : IsOk (verdict old.max_sites (world_of old) (event.Install rows))
+      may_install : IsOk (verdict old.limits (world_of old) (event.Install rows))
       may_install =
-          ap is_ok (accepted_of (dropped (events old) (event.Install rows)) (verdict old.max_sites (world_of old) (event.Install rows))
+          ap is_ok (accepted_of (dropped (events old) (event.Install rows)) (verdict old.limits (world_of old) (event.Install rows))
           entry.reply installed.answered).0
 
-      none_refused : IsOk (verdict f.core.max_sites (world_of f.core) (event.Install [])) → ⊥
+      none_refused : IsOk (verdict f.core.limits (world_of f.core) (event.Install [])) → ⊥
       none_refused e = cc
 
       links_by_rows : (there : List (ℕ × Link)) → fresh_rows (world_of f.core) f.numbers rows ≡ there → IsLinked there f g
           → HaveSameLinks next g.core g.numbers
       links_by_rows [] is same =
-          absurd (none_refused (subst (λ (rs : List (ℕ × Link)). IsOk (verdict f.core.max_sites (world_of f.core) (event.Install rs))) is
+          absurd (none_refused (subst (λ (rs : List (ℕ × Link)). IsOk (verdict f.core.limits (world_of f.core) (event.Install rs))) is
           (install_accepted k old f.core f.numbers beside rows may_install)))
       links_by_rows (row ∷ others) is linked =
           let there = subst (λ (rs : List (ℕ × Link)). IsAccepted f.core g.core (event.Install rs) linked.0.0) (sym is) linked.0.1 in

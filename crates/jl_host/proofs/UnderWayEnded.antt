@@ -93,7 +93,7 @@ ready_takes_none old new is = by_start old.start is
   where
     by_start : (o : Option Start)
         → MatchOption o (new ≡ old)
-        (λ start. (made : Fresh) × IsMade start old.max_sites made × (new ≡ record old { start = None; fresh = Some made }))
+        (λ start. (made : Fresh) × IsMade start old.limits made × (new ≡ record old { start = None; fresh = Some made }))
         → new.taken ≡ old.taken
     by_start None same = ap (λ (renewing : Renewing). renewing.taken) same
     by_start (Some start) made = ap (λ (renewing : Renewing). renewing.taken) made.2

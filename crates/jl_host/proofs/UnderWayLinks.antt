@@ -5,6 +5,7 @@ use Rattle.std.specs.List.{range_with_len, cons_option}
 use Rattle.std.proofs.Common.{refl, sym, ap, subst, ◌∙◌, arith, append_assoc}
 use Rattle.std.proofs.lemmas.List.{append-nil}
 use Rattle.jl_types.specs.declared.event.Made.{Made}
+use Rattle.jl_types.specs.declared.limits.Limits.{Limits}
 use Rattle.jl_types.specs.declared.link.Link.{Link}
 use Rattle.jl_types.specs.declared.refusal.Refusal.{Refusal}
 use Rattle.jl_types.specs.Values.World.{World}
@@ -25,18 +26,18 @@ given : (r : Result Made Refusal) → IsOk r → (made : Made) × (r ≡ Ok made
 given (Ok made) ok = (made, refl)
 given (Err refusal) ok = cc
 
-places_within : (max_sites : ℕ) (front rest : List Event) → AreAccepted max_sites (front ++ rest) → length (world_after front).places ≤ max_sites
-    → length (world_after (front ++ rest)).places ≤ max_sites
-places_within max_sites front [] accepted few =
-    subst (λ (h : List Event). length (world_after h).places ≤ max_sites) (sym (append-nil front)) few
-places_within max_sites front (e ∷ rest) accepted few =
-    let made = given (verdict max_sites (world_after front) e) (next_accepted max_sites front e rest accepted) in
-    subst (λ (h : List Event). length (world_after h).places ≤ max_sites) (append_assoc front (e ∷ []) rest)
-    (places_within max_sites (front ++ e ∷ []) rest (subst (AreAccepted max_sites) (sym (append_assoc front (e ∷ []) rest)) accepted)
-    (subst (λ (w : World). length w.places ≤ max_sites) (sym (world_more front e)) (limit_step max_sites (world_after front) e made.0 made.1 few)))
+places_within : (limits : Limits) (front rest : List Event) → AreAccepted limits (front ++ rest) → length (world_after front).places ≤ limits.sites
+    → length (world_after (front ++ rest)).places ≤ limits.sites
+places_within limits front [] accepted few =
+    subst (λ (h : List Event). length (world_after h).places ≤ limits.sites) (sym (append-nil front)) few
+places_within limits front (e ∷ rest) accepted few =
+    let made = given (verdict limits (world_after front) e) (next_accepted limits front e rest accepted) in
+    subst (λ (h : List Event). length (world_after h).places ≤ limits.sites) (append_assoc front (e ∷ []) rest)
+    (places_within limits (front ++ e ∷ []) rest (subst (AreAccepted limits) (sym (append_assoc front (e ∷ []) rest)) accepted)
+    (subst (λ (w : World). length w.places ≤ limits.sites) (sym (world_more front e)) (limit_step limits (world_after front) e made.0 made.1 few)))
 
-pub few_places : (begun : State) → AreAccepted begun.max_sites (events begun) → length (world_of begun).places ≤ begun.max_sites
-few_places begun accepted = places_within begun.max_sites [] (events begun) accepted (omega arith)
+pub few_places : (begun : State) → AreAccepted begun.limits (events begun) → length (world_of begun).places ≤ begun.limits.sites
+few_places begun accepted = places_within begun.limits [] (events begun) accepted (omega arith)
 
 -- ---- what is listed
 
@@ -51,13 +52,13 @@ same_listed f g most a (suc n) le same =
 room : (places max_sites : ℕ) → places ≤ max_sites → places ≤ room_for max_sites
 room places max_sites le = omega arith
 
-pub listed_links : (begun : State) → AreAccepted begun.max_sites (events begun)
+pub listed_links : (begun : State) → AreAccepted begun.limits (events begun)
     → listed (seen_of begun).links (length (world_of begun).places) ≡ links_of begun
 listed_links begun accepted =
     same_listed (row_at (seen_of begun).links) (λ s. option_map (λ (l : Link). (s, l)) (installed (events begun) s))
     (length (world_of begun).places) 0 (length (world_of begun).places) (omega arith) (λ s lt.
-    let few = room (length (world_of begun).places) begun.max_sites (few_places begun accepted) in
+    let few = room (length (world_of begun).places) begun.limits.sites (few_places begun accepted) in
     let at : 0 + s ≡ s = omega arith in
     ap (λ (o : Option (Option Link)). option_map (λ (l : Link). (s, l)) (option_and_then (λ slot. slot) o))
-    (mapped (installed (events begun)) 0 (room_for begun.max_sites) s (omega (arith, lt, few)))
+    (mapped (installed (events begun)) 0 (room_for begun.limits.sites) s (omega (arith, lt, few)))
     ∙ ap (λ (t : ℕ). option_map (λ (l : Link). (s, l)) (installed (events begun) t)) at)

@@ -1,15 +1,14 @@
 -- Lists of entries, and what they tell as the core goes on.
-use Rattle.std.specs.Prelude.{◌≡◌, ◌<◌, ◌≤◌, ℕ, zero, suc, ◌&&◌, true, List, [], ◌∷◌, ◌++◌, fold, length, slice_get, take, drop, Option, Some, None}
+use Rattle.std.specs.Prelude.{◌≡◌, ◌&&◌, true, List, [], ◌∷◌, ◌++◌, length, slice_get, Option, Some, None}
 use Rattle.std.specs.Prelude.{option_map, is_some}
 use Rattle.std.specs.List.{cons_option}
 use Rattle.std.proofs.Common.{refl, sym, ap, subst, ◌∙◌, arith, append_assoc}
 use Rattle.std.proofs.lemmas.Bool.{and_parts}
-use Rattle.std.proofs.lemmas.List.{append-nil, map-append, take-append-drop}
+use Rattle.std.proofs.lemmas.List.{append-nil, map-append}
 use Rattle.std.proofs.lemmas.List.Elements.{filter_map-append}
 use Rattle.std.proofs.lemmas.List.Folds.{list_all-append}
-use Rattle.std.proofs.lemmas.List.Sums.{fold-append}
 use Rattle.jl_types.specs.declared.event.Reply.{Reply}
-use Rattle.jl_types.specs.Values.World.{Class, World, nothing_yet}
+use Rattle.jl_types.specs.Values.World.{Class}
 use Rattle.jl_types.specs.Events.Event.{Event}
 use Rattle.jl_types.specs.Events.Verdict.{step}
 use Rattle.jl_types.specs.Events.History.{world_after}
@@ -18,7 +17,6 @@ use Rattle.jl_events.proofs.AcceptedLaws.{rows_stay}
 use Rattle.jl_relink.specs.Laws.{has_read_file}
 use Rattle.jl_core.specs.State.{State, events, world_of, IsAccepted}
 use Rattle.jl_core.specs.Logs.{Entry, told, are_told, shown}
-use Rattle.jl_core.proofs.LogLaws.{told_still}
 use Rattle.jl_host.specs.UnderWay.{HasAccepted, AreAmong}
 
 -- ---- lists

@@ -1,9 +1,11 @@
 -- A renewal stays under way as its fresh core is made.
-use Rattle.std.specs.Prelude.{◌≡◌, ◌≤◌, ℕ, List, ◌++◌, map, filter_map, Some, None}
+use Rattle.std.specs.Prelude.{◌≡◌, ℕ, List, ◌++◌, map, filter_map, Some, None}
 use Rattle.std.proofs.Common.{refl, sym, ap, subst, ◌∙◌, inl, inr}
 use Rattle.std.proofs.lemmas.Option.{MatchOption-at_some, MatchOption-at_none}
+use Rattle.jl_types.specs.declared.limits.Limits.{Limits}
 use Rattle.jl_types.specs.declared.event.Reply.{Reply}
 use Rattle.jl_types.specs.Events.Event.{Event}
+use Rattle.jl_types.specs.Events.Limits.{AreNoFewer}
 use Rattle.jl_types.specs.Events.History.{world_after}
 use Rattle.jl_relink.specs.Laws.{AreAccepted}
 use Rattle.jl_types.specs.declared.link.Link.{Link}
@@ -21,7 +23,7 @@ use Rattle.jl_renewal.proofs.LinkLaws.{same_world}
 use Rattle.jl_renewal.proofs.ComeOver.{renewal_world, links_are_refilled}
 use Rattle.jl_renewal.proofs.RenewalLaws.{told_are_events}
 use Rattle.jl_renewal.proofs.MovedBeside.{beside_first}
-use Rattle.jl_host.specs.Renewing.{Start, Fresh, Renewing, IsMade, IsReady}
+use Rattle.jl_host.specs.Renewing.{Fresh, Renewing, IsMade, IsReady}
 use Rattle.jl_host.specs.UnderWay.{start_of, IsGathering, IsUnderWay}
 use Rattle.jl_host.proofs.UnderWayLinks.{listed_links}
 
@@ -36,9 +38,9 @@ told_is begun released past logged =
     (told_are_events (world_of begun) n past
     ∙ ap (λ (log : List (Event × Reply)). filter_map (class_event (world_of begun) n) (map (λ (x : Event × Reply). x.0) log)) logged)
 
-module _ (begun : State) (released : Released) (max_sites : ℕ) (past : List Entry) (made : Fresh) (accepted : AreAccepted begun.max_sites (events begun))
-    (limit : begun.max_sites ≤ max_sites) (logged : shown (world_of begun).classes.rows past ≡ begun.log)
-    (is_made : IsMade (start_of begun past released) max_sites made) where
+module _ (begun : State) (released : Released) (limits : Limits) (past : List Entry) (made : Fresh) (accepted : AreAccepted begun.limits (events begun))
+    (limit : AreNoFewer begun.limits limits) (logged : shown (world_of begun).classes.rows past ≡ begun.log)
+    (is_made : IsMade (start_of begun past released) limits made) where
   abbrev numbers : Numbers
   numbers = numbers_of (world_of begun) released
 
@@ -56,9 +58,9 @@ module _ (begun : State) (released : Released) (max_sites : ℕ) (past : List En
   beside_made : IsBeside (flags_of (world_of begun) released) begun made.core made.numbers
   beside_made =
       beside_first begun made.core released made.numbers accepted
-      (subst (λ (m : ℕ). begun.max_sites ≤ m) (sym (is_made.linked.adds.limit ∙ is_made.refilled.adds.limit)) limit) its_world is_made.refilled.numbers
+      (subst (AreNoFewer begun.limits) (sym (is_made.linked.adds.limit ∙ is_made.refilled.adds.limit)) limit) its_world is_made.refilled.numbers
 
-  refilled : IsRefilled (world_of begun) past released made.numbers (empty_core max_sites) is_made.between
+  refilled : IsRefilled (world_of begun) past released made.numbers (empty_core limits) is_made.between
   refilled = record {
     numbers = is_made.refilled.numbers;
     limit = is_made.refilled.adds.limit;
@@ -69,7 +71,7 @@ module _ (begun : State) (released : Released) (max_sites : ℕ) (past : List En
 
   links_made : HaveSameLinks begun made.core made.numbers
   links_made =
-      links_are_refilled begun released accepted (empty_core max_sites) is_made.between made.core past made.numbers refilled
+      links_are_refilled begun released accepted (empty_core limits) is_made.between made.core past made.numbers refilled
       (subst (λ (rows : List (ℕ × Link)). Installs (fresh_rows (world_of is_made.between) made.numbers rows) is_made.between made.core)
       (listed_links begun accepted) is_made.linked)
 
@@ -80,7 +82,7 @@ module _ (begun : State) (released : Released) (core : State) (old new : Renewin
   as_before same = subst (λ (renewing : Renewing). IsUnderWay begun released core renewing) (sym same) way
 
   made_under_way : (first : IsGathering begun released core way.had (shown old.defined.classes.rows old.waiting ++ way.later) old) (made : Fresh)
-      → IsMade (start_of begun first.past released) old.max_sites made
+      → IsMade (start_of begun first.past released) old.limits made
       → IsUnderWay begun released core (record old { start = None; fresh = Some made })
   made_under_way first made is_made = record {
     had = way.had;
@@ -97,8 +99,8 @@ module _ (begun : State) (released : Released) (core : State) (old new : Renewin
       made = made;
       fresh = refl;
       numbers = made.numbers;
-      beside = beside_made begun released old.max_sites first.past made first.accepted first.limit first.entries.events is_made;
-      links = links_made begun released old.max_sites first.past made first.accepted first.limit first.entries.events is_made;
+      beside = beside_made begun released old.limits first.past made first.accepted first.limit first.entries.events is_made;
+      links = links_made begun released old.limits first.past made first.accepted first.limit first.entries.events is_made;
       noted = inl refl;
     });
   }
@@ -107,10 +109,10 @@ module _ (begun : State) (released : Released) (core : State) (old new : Renewin
   ready_under_way is = elim way.phase [
     | inl first ↦
         let made = MatchOption-at_some (new ≡ old)
-        (λ start. (made : Fresh) × IsMade start old.max_sites made × (new ≡ record old { start = None; fresh = Some made }))
+        (λ start. (made : Fresh) × IsMade start old.limits made × (new ≡ record old { start = None; fresh = Some made }))
         (start_of begun first.past released) first.start is in
         subst (λ (renewing : Renewing). IsUnderWay begun released core renewing) (sym made.2) (made_under_way first made.0 made.1)
     | inr second ↦
         as_before (MatchOption-at_none (new ≡ old)
-        (λ start. (made : Fresh) × IsMade start old.max_sites made × (new ≡ record old { start = None; fresh = Some made })) second.start is)
+        (λ start. (made : Fresh) × IsMade start old.limits made × (new ≡ record old { start = None; fresh = Some made })) second.start is)
   ]

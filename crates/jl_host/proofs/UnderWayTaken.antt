@@ -6,6 +6,7 @@ use Rattle.std.proofs.lemmas.Option.{same_Some, slice_get_within}
 use Rattle.jl_types.specs.declared.event.Reply.{Reply}
 use Rattle.jl_types.specs.Values.World.{World, Class, Classes}
 use Rattle.jl_types.specs.Events.Event.{Event}
+use Rattle.jl_types.specs.Events.Limits.{AreNoFewer}
 use Rattle.jl_types.proofs.Lists.{element_at}
 use Rattle.jl_events.specs.Accepted.{event_of}
 use Rattle.jl_events.proofs.AcceptedLaws.{event_still}
@@ -19,14 +20,15 @@ use Rattle.jl_renewal.specs.Carries.{carried}
 use Rattle.jl_host.specs.Linkers.{Opened}
 use Rattle.jl_host.specs.Renewing.{Renewing, HasBegun, AreBrought, IsTakenFrom}
 use Rattle.jl_host.specs.UnderWay.{HasAccepted, AreAmong, IsGathering, IsHeldUp, HasFresh, IsUnderWay}
+use Rattle.jl_host.proofs.LimitLaws.{no_fewer_for}
 use Rattle.jl_host.proofs.UnderWayLists.{same_fronts, some_of, both_told, told_both, first_told, shown_both, accepted_more, classes_next}
 
 -- ---- the begin
 
 pub begun_under_way : (opened : Opened) (released : Released) (max_sites : ℕ) (renewing : Renewing)
-    → AreAccepted opened.session.core.max_sites (events opened.session.core) → opened.session.core.max_sites ≤ max_sites
+    → AreAccepted opened.session.core.limits (events opened.session.core) → opened.session.core.limits.sites ≤ max_sites
     → HasBegun opened released max_sites renewing → IsUnderWay opened.session.core released opened.session.core renewing
-begun_under_way opened released max_sites renewing accepted limit (past, entries, is) =
+begun_under_way opened released max_sites renewing accepted limit (past, entries, allowed, is) =
     subst (λ (renewing : Renewing). IsUnderWay opened.session.core released opened.session.core renewing) (sym is) (record {
       had = opened.session.core.log;
       later = [];
@@ -36,7 +38,8 @@ begun_under_way opened released max_sites renewing accepted limit (past, entries
       classes = λ c row at. absurd (nothing c row at);
       phase = inl (record {
         accepted = accepted;
-        limit = limit;
+        allowed = allowed;
+        limit = no_fewer_for opened.session.core max_sites limit;
         log = refl;
         grown = refl;
         past = past;
@@ -77,6 +80,7 @@ module _ (begun : State) (released : Released) (core after : State) (e : Event) 
     phase = elim way.phase [
       | inl first ↦ inl (record {
         accepted = first.accepted;
+        allowed = first.allowed;
         limit = first.limit;
         log = first.log;
         grown =
@@ -227,7 +231,8 @@ module _ (begun : State) (released : Released) (core : State) (most : ℕ) (old 
       → IsGathering begun released core way.had (shown rows new.waiting ++ shown now rest) new
   gathering_next first = record {
     accepted = first.accepted;
-    limit = subst (λ (m : ℕ). begun.max_sites ≤ m) (sym taking.2.max_sites) first.limit;
+    allowed = first.allowed;
+    limit = subst (AreNoFewer begun.limits) (sym taking.2.limits) first.limit;
     log = first.log;
     grown = subst (λ (xs : List (Event × Reply)). HasAccepted begun xs core) left_is first.grown;
     past = first.past;

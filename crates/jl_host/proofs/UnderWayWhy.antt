@@ -42,7 +42,7 @@ use Rattle.jl_host.proofs.UnderWayFilled.{come_over, held_front}
 record IsNext (w : World) (core : State) (entry : Entry) (old : State) : Type 0 where
   event : Event
   named : event_of w.classes.rows entry.event ≡ Some event
-  ok : IsOk (verdict old.max_sites (world_of old) event)
+  ok : IsOk (verdict old.limits (world_of old) event)
   at : slice_get core.log (length old.log) ≡ Some (event, entry.reply)
 
 next_is : (w : World) (core : State) (entry : Entry) (others : List Entry) (later : List (Event × Reply)) (old : State)
@@ -56,7 +56,7 @@ next_is w core entry others later old all grown =
     record {
       event = e.0;
       named = e.1;
-      ok = ap is_ok (accepted_of (dropped (events old) e.0) (verdict old.max_sites (world_of old) e.0) entry.reply next.1.answered).0;
+      ok = ap is_ok (accepted_of (dropped (events old) e.0) (verdict old.limits (world_of old) e.0) entry.reply next.1.answered).0;
       at =
           ap (λ (log : List (Event × Reply)). slice_get log (length old.log))
           (log_grows (shown w.classes.rows (entry ∷ others) ++ later) old core grown ∙ ap (λ (xs : List (Event × Reply)). old.log ++ (xs ++ later)) is)
@@ -118,9 +118,9 @@ module _ (k : Flags) (w : World) (core : State) (entry : Entry) (old : State) (n
   by_install (Refused r) (Some rows) is (inr (inl refused)) =
       let same : next.event ≡ event.Install rows =
       same_Some next.event (event.Install rows) (sym next.named ∙ installs_told w.classes.rows entry.event rows is) in
-      absurd (not_both (verdict f.core.max_sites (world_of f.core) (event.Install (fresh_rows (world_of f.core) f.numbers rows))) r refused
+      absurd (not_both (verdict f.core.limits (world_of f.core) (event.Install (fresh_rows (world_of f.core) f.numbers rows))) r refused
       (install_accepted k old f.core f.numbers beside rows
-      (subst (λ (e : Event). IsOk (verdict old.max_sites (world_of old) e)) same next.ok)))
+      (subst (λ (e : Event). IsOk (verdict old.limits (world_of old) e)) same next.ok)))
 
   why_beside : (fault : CarryFault)
       → MatchOption (installs_of entry.event) (IsUncarried w entry f.numbers f.core fault)

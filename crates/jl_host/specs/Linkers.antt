@@ -1,6 +1,6 @@
 -- What stands behind a linker that is open, and what each call on a linker leaves, by the status that it answers.
-use Rattle.std.specs.Prelude.{◌^◌, ◌≡◌, ◌⊎◌, ◌-◌, ◌<◌, ◌≤◌, ℕ, nat_lt, ◌==◌, List, [], length, slice_get, Option, Some, None, option_map, Result, Ok, Err}
-use Rattle.std.specs.Prelude.{if◌then◌else◌}
+use Rattle.std.specs.Prelude.{◌^◌, ◌≡◌, ◌⊎◌, ◌-◌, ◌<◌, ◌≤◌, ℕ, nat_le, nat_lt, ◌==◌, List, [], length, slice_get, Option, Some, None, option_map, Result, Ok, Err}
+use Rattle.std.specs.Prelude.{if◌then◌else◌, Bool, ◌&&◌, MatchBool}
 use Rattle.std.specs.Option.{option_map_or}
 use Rattle.jl_classfile.specs.declared.fault.ClassFault.{ClassFault}
 use Rattle.jl_classfile.specs.Parts.{Parts}
@@ -8,6 +8,7 @@ use Rattle.jl_classfile.specs.ClassFiles.{IsClassUpTo}
 use Rattle.jl_classfile.specs.Conditions.{newest_of_17}
 use Rattle.jl_classfile.specs.Shown.{shown}
 use Rattle.jl_classfile.specs.Faults.{IsFaultUpTo}
+use Rattle.jl_types.specs.declared.limits.Limits.{Limits}
 use Rattle.jl_types.specs.Events.Event.{Event}
 use Rattle.jl_types.specs.declared.event.EventOf.TheVariants as event
 use Rattle.jl_types.specs.declared.event.Reply.{Reply}
@@ -43,9 +44,9 @@ pub record Opened : Type 0 where
 abbrev pub opened_over : State → Opened
 opened_over core = record { session = session_over core; said = []; named = None }
 
--- nothing happened yet, and so many places may be requested
-abbrev pub newly_opened : ℕ → Opened
-newly_opened max_sites = opened_over (empty_core max_sites)
+-- nothing happened yet, and there may be so many of each kind
+abbrev pub newly_opened : Limits → Opened
+newly_opened limits = opened_over (empty_core limits)
 
 -- ---- opening
 
@@ -53,13 +54,47 @@ newly_opened max_sites = opened_over (empty_core max_sites)
 abbrev pub most_sites : ℕ
 most_sites = 2 ^ 20
 
+-- as many of each other kind as a linker may have
+abbrev pub wide : ℕ → Limits
+wide sites = record { sites = sites; loaders = 2 ^ 20; classes = 2 ^ 20; call_sites = 2 ^ 20; switches = 2 ^ 20 }
+
 -- open already; no number of sites that may be; want of memory; or open, with nothing in it
 abbrev pub IsOpen : ℕ → Option Opened → ℕ → Option Opened → Type 0
 IsOpen max_sites (Some old) status new = (status ≡ open_already) × (new ≡ Some old)
 IsOpen max_sites None status new =
-    ((status ≡ done) × (1 ≤ max_sites) × (max_sites ≤ most_sites) × (new ≡ Some (newly_opened max_sites)))
+    ((status ≡ done) × (1 ≤ max_sites) × (max_sites ≤ most_sites) × (new ≡ Some (newly_opened (wide max_sites))))
     ⊎ ((status ≡ malformed) × ((max_sites ≡ 0) ⊎ (most_sites < max_sites)) × (new ≡ None))
     ⊎ ((status ≡ memory) × (1 ≤ max_sites) × (max_sites ≤ most_sites) × (new ≡ None))
+
+abbrev pub limits_of : ℕ → ℕ → ℕ → ℕ → ℕ → Limits
+limits_of sites loaders classes call_sites switches =
+    record { sites = sites; loaders = loaders; classes = classes; call_sites = call_sites; switches = switches }
+
+-- there are some sites, and of no kind there are more than 2^20
+abbrev pub may_be_asked : Limits → Bool
+may_be_asked asked =
+    nat_le 1 asked.sites
+    && (nat_le asked.sites most_sites
+    && (nat_le asked.loaders (2 ^ 20)
+    && (nat_le asked.classes (2 ^ 20)
+    && (nat_le asked.call_sites (2 ^ 20)
+    && nat_le asked.switches (2 ^ 20)))))
+
+-- 0 stands for 2^20
+abbrev pub limit_asked : ℕ → ℕ
+limit_asked n = if n == 0 then 2 ^ 20 else n
+
+abbrev pub limits_asked : Limits → Limits
+limits_asked asked =
+    limits_of asked.sites (limit_asked asked.loaders) (limit_asked asked.classes) (limit_asked asked.call_sites) (limit_asked asked.switches)
+
+-- open already; or open with these limits, and with nothing in it, or memory lacked; or these limits may not be
+abbrev pub IsOpenWith : Limits → Option Opened → ℕ → Option Opened → Type 0
+IsOpenWith asked (Some old) status new = (status ≡ open_already) × (new ≡ Some old)
+IsOpenWith asked None status new =
+    MatchBool (may_be_asked asked)
+    (((status ≡ done) × (new ≡ Some (newly_opened (limits_asked asked)))) ⊎ ((status ≡ memory) × (new ≡ None)))
+    ((status ≡ malformed) × (new ≡ None))
 
 -- ---- events
 

@@ -1,5 +1,8 @@
 -- How many there are of each, and what a renewal leaves.
 use Rattle.std.specs.Prelude.{◌≡◌, ◌⊎◌, ◌<◌, ℕ, Bool, nat_le, ◌&&◌, List, ◌++◌, map, drop, length, Option, Some, None, MatchBool}
+use Rattle.jl_types.specs.declared.limits.Limits.{Limits}
+use Rattle.jl_types.specs.declared.refusal.Refusal.{Refusal}
+use Rattle.jl_types.specs.declared.refusal.Refusal.TheVariants.{Memory, SitesFull}
 use Rattle.jl_types.specs.Values.World.{World}
 use Rattle.jl_core.specs.State.{State, world_of}
 use Rattle.jl_renewal.specs.declared.released.Released.{Released}
@@ -82,6 +85,15 @@ with_numbers n before =
 abbrev pub may_be : ℕ → Bool
 may_be max_sites = nat_le 1 max_sites && nat_le max_sites most_sites
 
+-- those of the core, but for so many sites: a fresh linker has them
+abbrev pub limits_for : State → ℕ → Limits
+limits_for core max_sites = record core.limits { sites = max_sites }
+
+-- why a core is not renewed with its limits but for so many sites: more sites stay, or memory lacked
+abbrev pub IsShort : ℕ → State → Refusal → Type 0
+IsShort max_sites core r =
+    ((r ≡ SitesFull) × (max_sites < how_many (staying_sites (world_of core).classes (world_of core).places))) ⊎ (r ≡ Memory)
+
 -- what the host has let go
 abbrev pub released_of : List ℕ → List ℕ → Released
 released_of call_sites switches = record { call_sites = call_sites; switches = switches }
@@ -93,7 +105,7 @@ IsUnrenewed reason fresh before status new after = (status ≡ reason) × (new �
 -- the other linker is open over the renewed core, and its numbers were written
 abbrev pub IsRenewed : Released → ℕ → State → Arrays → ℕ → Option Opened → Arrays → Type 0
 IsRenewed released max_sites old before status new after =
-    (made : State × Numbers) × IsRenewal old released max_sites made × (status ≡ done) × (new ≡ Some (opened_over made.0))
+    (made : State × Numbers) × IsRenewal old released (limits_for old max_sites) made × (status ≡ done) × (new ≡ Some (opened_over made.0))
     × (after ≡ with_numbers made.1 before)
 
 -- that; or more sites stay than may be requested; or memory lacked

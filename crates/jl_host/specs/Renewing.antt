@@ -3,6 +3,7 @@ use Rattle.std.specs.Prelude.{◌≡◌, ◌⊎◌, ◌+◌, ◌-◌, ◌^◌, �
 use Rattle.std.specs.Prelude.{Option, Some, None, option_map, option_and_then, MatchBool, MatchOption}
 use Rattle.std.specs.Option.{unwrap_or, option_map_or, option_or}
 use Rattle.std.specs.List.{range_with_len}
+use Rattle.jl_types.specs.declared.limits.Limits.{Limits}
 use Rattle.jl_types.specs.declared.event.EventOf.TheVariants as event
 use Rattle.jl_types.specs.declared.event.Reply.{Reply}
 use Rattle.jl_types.specs.declared.link.Link.{Link}
@@ -10,6 +11,7 @@ use Rattle.jl_types.specs.declared.refusal.Refusal.{Refusal}
 use Rattle.jl_types.specs.declared.refusal.Refusal.TheVariants.{Memory}
 use Rattle.jl_types.specs.Values.Target.{Target, Method, Guard, Invoker}
 use Rattle.jl_types.specs.Values.World.{World, Classes, nothing_yet}
+use Rattle.jl_types.specs.Events.Limits.{AreAllowed}
 use Rattle.jl_types.specs.Events.Verdict.{verdict}
 use Rattle.jl_events.specs.Accepted.{Accepted}
 use Rattle.jl_relink.specs.Preparations.{Snapshot}
@@ -29,7 +31,7 @@ use Rattle.jl_host.specs.Numbers.{done, memory, malformed, closed, open_already,
 use Rattle.jl_host.specs.Telling.{nothing, told_of_refusal, told_of_released}
 use Rattle.jl_host.specs.Linkers.{Opened, opened_over}
 use Rattle.jl_host.specs.Seats.{seen_of}
-use Rattle.jl_host.specs.Renewals.{Arrays, have_room, counts_of, counts_in, with_numbers, may_be}
+use Rattle.jl_host.specs.Renewals.{Arrays, have_room, counts_of, counts_in, with_numbers, may_be, limits_for}
 
 -- ---- what a renewal has
 
@@ -49,7 +51,7 @@ pub record Fresh : Type 0 where
 pub record Renewing : Type 0 where
   pub start : Option Start  -- until the fresh core is made
   pub fresh : Option Fresh  -- from then on
-  pub max_sites : ℕ  -- how many places may be requested there
+  pub limits : Limits  -- those of the fresh core
   pub taken : ℕ  -- up to which of the linker's events entries were taken
   pub waiting : List Entry  -- those taken since the begin that the fresh core doesn't have yet
   pub defined : World  -- the classes as they were when entries were taken
@@ -62,9 +64,9 @@ pub record AreEntries (core : State) (entries : List Entry) : Type 0 where
   pub events : shown (world_of core).classes.rows entries ≡ core.log
   pub told_then : AreToldThen core entries
 
-abbrev pub begun_from : Start → ℕ → Renewing
-begun_from start max_sites =
-    record { start = Some start; fresh = None; max_sites = max_sites; taken = start.seen.serial; waiting = []; defined = nothing_yet }
+abbrev pub begun_from : Start → Limits → Renewing
+begun_from start limits =
+    record { start = Some start; fresh = None; limits = limits; taken = start.seen.serial; waiting = []; defined = nothing_yet }
 
 -- of this linker with these entries, of which its host has released these
 abbrev pub begun_in : Opened → List Entry → Released → ℕ → Renewing
@@ -75,12 +77,13 @@ begun_in opened past released max_sites =
       sites = length (world_of opened.session.core).places;
       links = (seen_of opened.session.core).links;
       released = released;
-    }) max_sites
+    }) (limits_for opened.session.core max_sites)
 
--- a renewal of it that begins
+-- a renewal of it that begins; its limits are such as a linker may have
 abbrev pub HasBegun : Opened → Released → ℕ → Renewing → Type 0
 HasBegun opened released max_sites renewing =
-    (past : List Entry) × AreEntries opened.session.core past × (renewing ≡ begun_in opened past released max_sites)
+    (past : List Entry) × AreEntries opened.session.core past × AreAllowed opened.session.core.limits
+    × (renewing ≡ begun_in opened past released max_sites)
 
 -- the linker isn't open, and none begins; or one begins
 abbrev pub IsBegunOf : Option Opened → Released → ℕ → Option Renewing → Type 0
@@ -107,7 +110,7 @@ AreBrought cs old new = (new.classes ≡ cs) ⊎ ((new ≡ old) × (length cs.ro
 pub record AreTaken (core : State) (portion : List Entry) (old new : Renewing) : Type 0 where
   pub start : new.start ≡ old.start
   pub fresh : new.fresh ≡ old.fresh
-  pub max_sites : new.max_sites ≡ old.max_sites
+  pub limits : new.limits ≡ old.limits
   pub taken : new.taken ≡ old.taken + length portion
   pub waiting : new.waiting ≡ old.waiting ++ portion
   pub defined : AreBrought (world_of core).classes old.defined new.defined
@@ -145,17 +148,17 @@ abbrev pub listed : List (Option Link) → ℕ → List (ℕ × Link)
 listed links sites = filter_map (row_at links) (range_with_len 0 sites)
 
 -- The fresh core has accepted the events of a renewal of what there was at the begin, and installed the links of the sites that had one.
-pub record IsMade (start : Start) (max_sites : ℕ) (made : Fresh) : Type 0 where
+pub record IsMade (start : Start) (limits : Limits) (made : Fresh) : Type 0 where
   pub between : State
-  pub refilled : IsFilledFrom start.seen.world start.past start.released made.numbers (empty_core max_sites) between
+  pub refilled : IsFilledFrom start.seen.world start.past start.released made.numbers (empty_core limits) between
   pub linked : Installs (fresh_rows (world_of between) made.numbers (listed start.links start.sites)) between made.core
 
--- none is made: more sites stay than may be requested there; or memory lacked; or an event was refused
-abbrev pub IsUnmade : Start → ℕ → Refusal → Type 0
-IsUnmade start max_sites r =
-    ((after : State) × IsPartlyFilled start.seen.world start.past start.released max_sites (empty_core max_sites) after r)
+-- none is made: more stays than it may have; or memory lacked; or an event was refused
+abbrev pub IsUnmade : Start → Limits → Refusal → Type 0
+IsUnmade start limits r =
+    ((after : State) × IsPartlyFilled start.seen.world start.past start.released limits (empty_core limits) after r)
     ⊎ (r ≡ Memory)
-    ⊎ ((n : Numbers) × (between after : State) × IsFilledFrom start.seen.world start.past start.released n (empty_core max_sites) between
+    ⊎ ((n : Numbers) × (between after : State) × IsFilledFrom start.seen.world start.past start.released n (empty_core limits) between
     × StopsAt (fresh_rows (world_of between) n (listed start.links start.sites)) between after r)
 
 -- ---- an entry is carried over
@@ -202,7 +205,7 @@ gone_of n _ = None
 
 -- the links of an install aren't installed: the core refuses them, or memory lacked
 abbrev pub AreUnlinked : List (ℕ × Link) → State → Refusal → Type 0
-AreUnlinked rows core r = (r ≡ Memory) ⊎ IsRefused (verdict core.max_sites (world_of core) (event.Install rows)) r
+AreUnlinked rows core r = (r ≡ Memory) ⊎ IsRefused (verdict core.limits (world_of core) (event.Install rows)) r
 
 abbrev pub IsUnlinked : List (ℕ × Link) → State → CarryFault → Type 0
 IsUnlinked rows core Gone = ⊥
@@ -229,11 +232,11 @@ pub record StopsBefore (w : World) (entries left : List Entry) (old : Fresh) (fa
 -- the fresh core is made, if it wasn't
 abbrev pub IsReady : Renewing → Renewing → Type 0
 IsReady old new = MatchOption old.start (new ≡ old)
-    (λ start. (made : Fresh) × IsMade start old.max_sites made × (new ≡ record old { start = None; fresh = Some made }))
+    (λ start. (made : Fresh) × IsMade start old.limits made × (new ≡ record old { start = None; fresh = Some made }))
 
 -- none is made, for this
 abbrev pub IsUnready : Renewing → Refusal → Type 0
-IsUnready old r = (start : Start) × (old.start ≡ Some start) × IsUnmade start old.max_sites r
+IsUnready old r = (start : Start) × (old.start ≡ Some start) × IsUnmade start old.limits r
 
 -- all entries that wait are carried over, if the fresh core is there
 abbrev pub AreAllCarried : Renewing → Renewing → Type 0

@@ -21,7 +21,7 @@ pub record SeatView : Type 0 where
 
 abbrev pub seen_of : State → SeatView
 seen_of core = record {
-  links = map (installed (events core)) (range_with_len 0 (room_for core.max_sites));
+  links = map (installed (events core)) (range_with_len 0 (room_for core.limits.sites));
   classes = length (world_of core).classes.rows;
 }
 

@@ -1,9 +1,10 @@
 -- A renewal in steps that is under way, beside the one linker of which it was begun.
-use Rattle.std.specs.Prelude.{◌≡◌, ◌⊎◌, ◌+◌, ◌-◌, ◌≤◌, ℕ, Bool, true, false, slice_get, List, [], ◌∷◌, ◌++◌, length, Some, None}
+use Rattle.std.specs.Prelude.{◌≡◌, ◌⊎◌, ◌+◌, ◌-◌, ℕ, Bool, true, false, slice_get, List, [], ◌∷◌, ◌++◌, length, Some, None}
 use Rattle.jl_types.specs.declared.event.EventOf.TheVariants as event
 use Rattle.jl_types.specs.declared.event.Reply.{Reply}
 use Rattle.jl_types.specs.declared.refusal.Refusal.{Refusal}
 use Rattle.jl_types.specs.Events.Event.{Event}
+use Rattle.jl_types.specs.Events.Limits.{AreAllowed, AreNoFewer}
 use Rattle.jl_types.specs.Values.World.{Class}
 use Rattle.jl_relink.specs.Laws.{AreAccepted, has_read_file}
 use Rattle.jl_core.specs.State.{State, events, world_of, IsAccepted}
@@ -43,8 +44,9 @@ start_of begun past released = record {
 
 -- What was had at the begin isn't carried over yet. What is left came since.
 pub record IsGathering (begun : State) (released : Released) (core : State) (had left : List (Event × Reply)) (renewing : Renewing) : Type 0 where
-  pub accepted : AreAccepted begun.max_sites (events begun)
-  pub limit : begun.max_sites ≤ renewing.max_sites
+  pub accepted : AreAccepted begun.limits (events begun)
+  pub allowed : AreAllowed begun.limits
+  pub limit : AreNoFewer begun.limits renewing.limits
   pub log : begun.log ≡ had
   pub grown : HasAccepted begun left core
   pub past : List Entry

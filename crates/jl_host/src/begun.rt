@@ -3,6 +3,7 @@
 ghost use Rattle.std.specs.Prelude.{◌≡◌, ◌≤◌, ◌<◌, ◌⊎◌, take, drop, length, ◌++◌, ◌+◌, ◌-◌, option_copied};
 ghost use Rattle.std.specs.Prelude.{IfOk, IfErr, IfSome, IfNone, OnOk, OnErr};
 ghost use Rattle.std.specs.Vec.{vec_len, vec_capacity};
+ghost use Rattle.jl_types.specs.Events.Limits.{AreAllowed};
 ghost use Rattle.jl_host.specs.Renewing as renewing;
 ghost use Rattle.jl_host.specs.Renewing.{AreTaken, IsTakenFrom, IsUntaken, AreBrought, IsReady, IsUnready, IsFilled, IsFilledOn, IsFilledAll};
 ghost use Rattle.jl_host.specs.Renewing.{AreAllCarried, HasStopped};
@@ -12,7 +13,7 @@ use crate::told::{DONE, MALFORMED, MEMORY, Told, tell, tell_released, unasked};
 use jl_core::{Core, Entry, Journal, share_log};
 use jl_relink::World;
 use jl_renewal::CarryFault;
-use jl_types::Refusal;
+use jl_types::{Limits, Refusal};
 use std::alloc::{AllocError, Global};
 use std::marker::Model;
 use std::mem;
@@ -30,8 +31,8 @@ pub(crate) struct Begun {
     start: Option<Start>,
     /// The fresh core, from then on.
     fresh: Option<Fresh>,
-    /// How many places may be requested there.
-    max_sites: u32,
+    /// Its limits.
+    limits: Limits,
     /// Up to which of the linker's events entries were taken.
     taken: u64,
     /// Those that were taken since the begin, of which the fresh core has the first `carried`.
@@ -50,7 +51,7 @@ impl Drop for Begun {
             claim: _claim,
             start: _start,
             fresh: _fresh,
-            max_sites: _max_sites,
+            limits: _limits,
             taken: _taken,
             waiting: _waiting,
             carried: _carried,
@@ -64,6 +65,7 @@ impl Model for Begun {
     ghost use Rattle.std.specs.Prelude.{◌≤◌, drop, length};
     ghost use Rattle.std.specs.Coded.{codes};
     ghost use Rattle.jl_types.specs.ForProofs.TargetCode.{target_code};
+    ghost use Rattle.jl_types.specs.Events.Limits.{AreAllowed};
     ghost use Rattle.jl_host.specs.Renewing.{Renewing};
 
     ghost Value = { Renewing };
@@ -73,25 +75,25 @@ impl Model for Begun {
     ghost view = { λ b. record {
       start = b.start;
       fresh = b.fresh;
-      max_sites = b.max_sites;
+      limits = b.limits;
       taken = b.taken;
       waiting = drop b.carried b.waiting.items;
       defined = b.defined;
     } };
 
-    ghost invariant = { λ b. (1 ≤ b.max_sites) × (b.carried ≤ length b.waiting.items) };
+    ghost invariant = { λ b. AreAllowed b.limits × (b.carried ≤ length b.waiting.items) };
 }
 
 impl Begun {
-    /// A renewal that begins, where so many places may be requested in the fresh core. Want of memory is an error.
+    /// A renewal that begins, of which the fresh core is to have these limits. Want of memory is an error.
     pub(crate) fn new(
         alloc: Global,
         claim: Arc<Claim>,
         start: Start,
-        max_sites: u32,
+        limits: Limits,
     ) -> Result<Begun, AllocError>
-        requires { 1 ≤ max_sites }
-        ensures { IfOk result (λ begun. begun ≡ renewing.begun_from start max_sites) }
+        requires { AreAllowed limits }
+        ensures { IfOk result (λ begun. begun ≡ renewing.begun_from start limits) }
     {
         let defined = World::new(alloc)?;
         let taken = start.serial();
@@ -99,7 +101,7 @@ impl Begun {
             claim: Some(claim),
             start: Some(start),
             fresh: None,
-            max_sites,
+            limits,
             taken,
             waiting: Vec::new(alloc),
             carried: 0,
@@ -187,7 +189,7 @@ impl Begun {
         let Some(start) = &self.start else {
             return Ok(());
         };
-        let fresh = start.fresh(alloc, self.max_sites)?;
+        let fresh = start.fresh(alloc, self.limits)?;
         self.fresh = Some(fresh);
         self.start = None;
         Ok(())

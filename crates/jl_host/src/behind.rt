@@ -1,6 +1,6 @@
 //! Links in shared pages, brought up to date where events have touched them.
 
-ghost use Rattle.std.specs.Prelude.{◌≡◌, ◌<◌, ◌==◌, nat_lt, ℕ, true, length, replicate, slice_set, None, IfOk, OnOk, OnErr};
+ghost use Rattle.std.specs.Prelude.{◌≡◌, ◌<◌, ◌^◌, ◌==◌, nat_lt, ℕ, true, length, replicate, slice_set, None, IfOk, OnOk, OnErr};
 ghost use Rattle.std.specs.List.{list_any};
 ghost use Rattle.jl_types.specs.Events.History.{installed};
 ghost use Rattle.jl_core.specs.State.{events};
@@ -23,7 +23,8 @@ pub(crate) type Links = Slots<KeptSlot>;
 
 /// No links, with a place for each of so many sites. Want of memory is an error.
 pub(crate) fn no_links(alloc: Global, max_sites: u32) -> Result<Arc<Links>, AllocError>
-    ensures { IfOk result (λ links. links.value ≡ replicate (room_for max_sites) None) }
+    ensures few { max_sites < 2 ^ 32 }
+    ensures blank { IfOk result (λ links. links.value ≡ replicate (room_for max_sites) None) }
 {
     let pages = (max_sites as usize + (PAGE - 1)) / PAGE;
     Ok(Arc::new(alloc, Slots::filled(alloc, KeptSlot::nothing(), pages)?)?)
@@ -66,10 +67,10 @@ fn slot_now(core: &Core, site: SiteNo) -> Result<KeptSlot, AllocError>
 ///
 /// Want of memory. What was right is right.
 fn write_site(links: &mut Arc<Links>, core: &Core, site: SiteNo) -> Result<(), AllocError>
-    requires { length links.old.value ≡ room_for core.now.max_sites }
-    ensures all { length links.new.value ≡ room_for core.now.max_sites }
+    requires { length links.old.value ≡ room_for core.now.limits.sites }
+    ensures all { length links.new.value ≡ room_for core.now.limits.sites }
     ensures kept { (s : ℕ) → IsNow core.now links.old.value s → IsNow core.now links.new.value s }
-    ensures written { OnOk result (site < room_for core.now.max_sites → IsNow core.now links.new.value site) }
+    ensures written { OnOk result (site < room_for core.now.limits.sites → IsNow core.now links.new.value site) }
 {
     let place = site.number() as usize;
     if !is_within(links, place) {
@@ -85,10 +86,10 @@ fn write_site(links: &mut Arc<Links>, core: &Core, site: SiteNo) -> Result<(), A
 ///
 /// Want of memory. What was right is right.
 fn write_sites(links: &mut Arc<Links>, core: &Core, sites: &[SiteNo]) -> Result<(), AllocError>
-    requires { length links.old.value ≡ room_for core.now.max_sites }
-    ensures all { length links.new.value ≡ room_for core.now.max_sites }
+    requires { length links.old.value ≡ room_for core.now.limits.sites }
+    ensures all { length links.new.value ≡ room_for core.now.limits.sites }
     ensures kept { (s : ℕ) → IsNow core.now links.old.value s → IsNow core.now links.new.value s }
-    ensures written { OnOk result ((s : ℕ) → s < room_for core.now.max_sites → has s sites.now ≡ true → IsNow core.now links.new.value s) }
+    ensures written { OnOk result ((s : ℕ) → s < room_for core.now.limits.sites → has s sites.now ≡ true → IsNow core.now links.new.value s) }
 {
     for site in sites {
         write_site(links, core, *site)?;
@@ -106,10 +107,10 @@ fn write_rows<T: Drop>(
     core: &Core,
     rows: &[(SiteNo, T)],
 ) -> Result<(), AllocError>
-    requires { length links.old.value ≡ room_for core.now.max_sites }
-    ensures all { length links.new.value ≡ room_for core.now.max_sites }
+    requires { length links.old.value ≡ room_for core.now.limits.sites }
+    ensures all { length links.new.value ≡ room_for core.now.limits.sites }
     ensures kept { (s : ℕ) → IsNow core.now links.old.value s → IsNow core.now links.new.value s }
-    ensures written { OnOk result ((s : ℕ) → s < room_for core.now.max_sites → list_any (λ row. row.0 == s) rows.now ≡ true
+    ensures written { OnOk result ((s : ℕ) → s < room_for core.now.limits.sites → list_any (λ row. row.0 == s) rows.now ≡ true
         → IsNow core.now links.new.value s) }
 {
     for row in rows {
@@ -124,10 +125,10 @@ fn write_rows<T: Drop>(
 ///
 /// Want of memory. What was right is right.
 fn write_installed(links: &mut Arc<Links>, core: &Core, event: &Accepted) -> Result<(), AllocError>
-    requires { length links.old.value ≡ room_for core.now.max_sites }
-    ensures all { length links.new.value ≡ room_for core.now.max_sites }
+    requires { length links.old.value ≡ room_for core.now.limits.sites }
+    ensures all { length links.new.value ≡ room_for core.now.limits.sites }
     ensures kept { (s : ℕ) → IsNow core.now links.old.value s → IsNow core.now links.new.value s }
-    ensures written { OnOk result ((s : ℕ) → s < room_for core.now.max_sites → installs_at s event.now ≡ true → IsNow core.now links.new.value s) }
+    ensures written { OnOk result ((s : ℕ) → s < room_for core.now.limits.sites → installs_at s event.now ≡ true → IsNow core.now links.new.value s) }
 {
     match event {
         Accepted::Install(rows) => write_rows(links, core, rows.as_slice()),
@@ -141,10 +142,10 @@ fn write_installed(links: &mut Arc<Links>, core: &Core, event: &Accepted) -> Res
 ///
 /// Want of memory. What was right is right.
 fn write_entries(links: &mut Arc<Links>, core: &Core, entries: &[Entry]) -> Result<(), AllocError>
-    requires { length links.old.value ≡ room_for core.now.max_sites }
-    ensures all { length links.new.value ≡ room_for core.now.max_sites }
+    requires { length links.old.value ≡ room_for core.now.limits.sites }
+    ensures all { length links.new.value ≡ room_for core.now.limits.sites }
     ensures kept { (s : ℕ) → IsNow core.now links.old.value s → IsNow core.now links.new.value s }
-    ensures written { OnOk result ((s : ℕ) → s < room_for core.now.max_sites → list_any (touched_by s) entries.now ≡ true → IsNow core.now links.new.value s) }
+    ensures written { OnOk result ((s : ℕ) → s < room_for core.now.limits.sites → list_any (touched_by s) entries.now ≡ true → IsNow core.now links.new.value s) }
 {
     for entry in entries {
         write_sites(links, core, entry.reply().dropped.as_slice())?;
@@ -155,11 +156,11 @@ fn write_entries(links: &mut Arc<Links>, core: &Core, entries: &[Entry]) -> Resu
 
 /// All links as they are now, in pages of their own. No page is made where no site has a link. Want of memory is an error.
 fn all_links(alloc: Global, core: &Core) -> Result<Arc<Links>, AllocError>
-    ensures all { IfOk result (λ links. length links.value ≡ room_for core.now.max_sites) }
-    ensures now { IfOk result (λ links. (s : ℕ) → s < room_for core.now.max_sites → IsNow core.now links.value s) }
+    ensures all { IfOk result (λ links. length links.value ≡ room_for core.now.limits.sites) }
+    ensures now { IfOk result (λ links. (s : ℕ) → s < room_for core.now.limits.sites → IsNow core.now links.value s) }
 {
     let rows = core.list_links(alloc)?;
-    let mut links = no_links(alloc, core.max_sites())?;
+    let mut links = no_links(alloc, core.limits().sites)?;
     write_rows(&mut links, core, rows.as_slice())?;
     Ok(links)
 }
@@ -179,7 +180,7 @@ pub(crate) fn catch_up(
     requires { IsBehind links.old.value reached core.now }
     ensures still { IsBehind links.new.value reached core.now }
     ensures done { IfOk result (λ n. n ≡ length core.now.log) }
-    ensures now { OnOk result ((s : ℕ) → s < room_for core.now.max_sites → IsNow core.now links.new.value s) }
+    ensures now { OnOk result ((s : ℕ) → s < room_for core.now.limits.sites → IsNow core.now links.new.value s) }
 {
     let log = core.log();
     let count = log.len();

@@ -2,6 +2,7 @@
 
 ghost use Rattle.std.specs.Prelude.{◌≡◌, ◌≤◌, ◌++◌, drop, length, option_to_list, option_copied, IfOk, IfErr, OnOk, OnErr};
 ghost use Rattle.jl_types.specs.declared.refusal.Refusal.TheVariants.{Memory};
+ghost use Rattle.jl_types.specs.Events.Limits.{AreAllowed};
 ghost use Rattle.jl_core.specs.State.{world_of};
 ghost use Rattle.jl_renewal.specs.declared.entries.CarryFault.TheVariants.{Refused};
 ghost use Rattle.jl_renewal.specs.Renewal.{fresh_rows};
@@ -16,7 +17,7 @@ use jl_core::{Accepted, Core, Entry, Journal};
 use jl_names::Seq;
 use jl_relink::{Snapshot, World};
 use jl_renewal::{CarryFault, Released, Renumbering, carry, fresh_links, install_all, try_refill};
-use jl_types::{Event, Link, Part, Refusal, SiteNo, Target};
+use jl_types::{Event, Limits, Link, Part, Refusal, SiteNo, Target};
 use std::alloc::{AllocError, Global};
 use std::marker::Model;
 use std::sync::Arc;
@@ -83,24 +84,24 @@ impl Start {
         self.seen.serial()
     }
 
-    /// A fresh core that has what stays, where so many places may be requested.
+    /// A fresh core with these limits that has what stays.
     ///
     /// # Errors
     ///
-    /// `SitesFull` where more sites stay than may be requested there; want of memory; the refusal of an event, where the log is another one
-    /// than that of what there was.
-    pub(crate) fn fresh(&self, alloc: Global, max_sites: u32) -> Result<Fresh, Refusal>
-        requires { 1 ≤ max_sites }
-        ensures made { IfOk result (IsMade self.now max_sites) }
-        ensures refused { IfErr result (IsUnmade self.now max_sites) }
+    /// `SitesFull` where more sites stay than may be requested there, and so for each kind; want of memory; the refusal of an event, where
+    /// the log is another one than that of what there was.
+    pub(crate) fn fresh(&self, alloc: Global, limits: Limits) -> Result<Fresh, Refusal>
+        requires { AreAllowed limits }
+        ensures made { IfOk result (IsMade self.now limits) }
+        ensures refused { IfErr result (IsUnmade self.now limits) }
     {
-        let mut core = Core::new(alloc, max_sites)?;
+        let mut core = Core::with_limits(alloc, limits)?;
         let old = self.seen.world();
-        let numbers = try_refill(alloc, &mut core, old, &self.past, &self.released, max_sites)?;
+        let numbers = try_refill(alloc, &mut core, old, &self.past, &self.released, limits)?;
         let linked = listed(alloc, &self.links, self.sites)?;
         let rows = fresh_links(alloc, core.world(), linked.as_slice(), &numbers)?;
         install_all(alloc, &mut core, rows.as_slice())?;
-        let links = no_links(alloc, max_sites)?;
+        let links = no_links(alloc, limits.sites)?;
         Ok(Fresh {
             core,
             numbers,

@@ -3,6 +3,7 @@
 ghost use Rattle.std.specs.Prelude.{◌≡◌, ◌≤◌, ◌<◌, ◌^◌, ◌⊎◌, ℕ, true, length, List, Option, Some, Ok, Err};
 ghost use Rattle.jl_types.specs.declared.answer.Missing.{Missing};
 ghost use Rattle.jl_types.specs.declared.answer.Unlinked.TheVariants.{NotReady};
+ghost use Rattle.jl_types.specs.declared.limits.Limits.{Limits};
 ghost use Rattle.jl_types.specs.declared.link.Link.{Link};
 ghost use Rattle.jl_types.specs.Events.Verdict.{Accepts};
 ghost use Rattle.jl_types.specs.Events.Event.{Event};
@@ -50,11 +51,11 @@ pub fn targets_are_read_from_parts()
 /// are given, each of them is its site's link from scratch then. After accepted events of files that were read, as those of each core are,
 /// each link from scratch runs methods that a class file may have (JVMS SE 17 §4.1).
 pub fn given_links_are_from_scratch()
-    ensures declarable { (max_sites : ℕ) (h : List Event) → AreAccepted max_sites h → (s : ℕ) (link : Link) → scratch (world_after h) s ≡ Ok link
+    ensures declarable { (limits : Limits) (h : List Event) → AreAccepted limits h → (s : ℕ) (link : Link) → scratch (world_after h) s ≡ Ok link
         → runs_declarable link ≡ true }
     ensures prepared { (seen : Snapshot) (old : Opened) (sites : List ℕ) (before links : List LinkShown) (told : Told) (view : Option Snapshot)
         → IsViewPrepare sites (Some seen) before done links told view → seen.world ≡ world_of old.session.core
-        → AreAccepted old.session.core.max_sites (events old.session.core)
+        → AreAccepted old.session.core.limits (events old.session.core)
         → (present after : LinkShown) (status : ℕ) (said : Told) (new : Option Opened)
         → IsInstallLinks (given sites links) (Some old) present status said after new → (status ≡ done) ⊎ (status ≡ memory) }
     ensures installed { (rows : List LinkRow) (old : Opened) (present after : LinkShown) (told : Told) (new : Option Opened)
@@ -73,11 +74,11 @@ pub fn awaited_classes_are_named()
 /// that were written, and has its links. So by [`linking_commutes_beside`](jl_renewal::linking_commutes_beside) links from scratch and calls are
 /// the same there.
 ///
-/// As many places may be requested in the fresh linker as in the old one, so a fill is never refused for want of them: what it answers is want
-/// of memory, or that the next event is one of a call site and names what was released.
+/// The fresh linker may have as many of each kind as the old one, so a fill is never refused for want of room: what it answers is want of
+/// memory, or that the next event is one of a call site and names what was released.
 pub fn renewals_in_steps_stay_beside()
     ensures begun { (opened : Opened) (released : Released) (max_sites : ℕ) (renewing : Renewing)
-        → AreAccepted opened.session.core.max_sites (events opened.session.core) → opened.session.core.max_sites ≤ max_sites
+        → AreAccepted opened.session.core.limits (events opened.session.core) → opened.session.core.limits.sites ≤ max_sites
         → HasBegun opened released max_sites renewing → IsUnderWay opened.session.core released opened.session.core renewing }
     ensures later { (begun core after : State) (released : Released) (renewing : Renewing) (e : Event) (reply : Reply)
         → IsUnderWay begun released core renewing → IsAccepted core after e reply → has_read_file e ≡ true

@@ -25,6 +25,7 @@ mod awaited;
 mod begun;
 mod behind;
 mod fresh;
+mod limits;
 mod linker;
 mod opened;
 mod renew;

@@ -6,7 +6,7 @@ ghost use Rattle.jl_types.specs.Events.History.{installed};
 ghost use Rattle.jl_core.specs.State.{events, world_of};
 ghost use Rattle.jl_host.specs.Showing.{recv_of};
 ghost use Rattle.jl_host.specs.Seats.{seen_of};
-ghost use Rattle.jl_host.specs.Linkers.{IsOpen, IsNewLoader, IsDefine, IsDefineUpTo, IsDelegate, IsRequest, IsNewCallSite, IsSetTarget, IsNewSwitch, IsInvalidate};
+ghost use Rattle.jl_host.specs.Linkers.{IsOpen, IsOpenWith, limits_of, IsNewLoader, IsDefine, IsDefineUpTo, IsDelegate, IsRequest, IsNewCallSite, IsSetTarget, IsNewSwitch, IsInvalidate};
 ghost use Rattle.jl_host.specs.Linkers.{IsBind, IsRetire, IsInstall, IsDropped, IsTake, IsCall, IsLinkOf, IsAnswer, kind_of, IfOpen, IsAsked};
 ghost use Rattle.jl_session.specs.Sessions.{snapshot_of};
 ghost use Rattle.jl_host.specs.Targets.{IsNewCallSiteOf, IsSetTargetOf};
@@ -23,6 +23,7 @@ use crate::asked::{
 };
 use crate::begun::Begun;
 use crate::invocations::Invocation;
+use crate::limits::{MOST, limits_asked, may_be_asked, wide};
 use crate::opened::Opened;
 use crate::reading::{LinkRow, rows_of};
 use crate::renew::{Counts, write_numbers};
@@ -36,12 +37,11 @@ use jl_classfile::NEWEST_OF_17;
 use jl_names::{Name, Seq};
 use jl_relink::Snapshot;
 use jl_session::read_target;
-use jl_types::{Answer, CallSiteId, CallSiteKind, ClassId, Event, Link, LoaderId, Place, SiteNo};
+use jl_types::{
+    Answer, CallSiteId, CallSiteKind, ClassId, Event, Limits, Link, LoaderId, Place, SiteNo,
+};
 use std::alloc::{AllocError, Global};
 use std::marker::Model;
-
-/// The most places that may be requested.
-pub(crate) const MOST_SITES: u32 = 1 << 20;
 
 /// A linker that is open, or isn't. A clause sees what stands behind it.
 pub struct Linker {
@@ -76,18 +76,53 @@ impl Linker {
         Linker { opened: None }
     }
 
-    /// Opens it, without classes; so many places may be requested, 1 to 1,048,576. The status tells whether it was open already, no such
-    /// number may be, or memory lacks.
+    /// Opens it, without classes; so many places may be requested, 1 to 1,048,576, and there may be 1,048,576 loaders, classes, call sites
+    /// and switch points. The status tells whether it was open already, no such number may be, or memory lacks.
     pub fn open(&mut self, alloc: Global, max_sites: u32) -> u32
         ensures { IsOpen max_sites self.old result self.new }
     {
         if self.opened.is_some() {
             return OPEN_ALREADY;
         }
-        if max_sites == 0 || max_sites > MOST_SITES {
+        if max_sites == 0 || max_sites > MOST {
             return MALFORMED;
         }
-        match Opened::new(alloc, max_sites) {
+        match Opened::new(alloc, wide(max_sites)) {
+            Ok(opened) => {
+                self.opened = Some(opened);
+                DONE
+            }
+            Err(_) => MEMORY,
+        }
+    }
+
+    /// Opens it, without classes; of each kind so many numbers are ever given: 1 to 1,048,576 sites, and at most 1,048,576 of each other
+    /// kind, which 0 stands for. The status tells whether it was open already, there may not be so many, or memory lacks.
+    pub fn open_with(
+        &mut self,
+        alloc: Global,
+        sites: u32,
+        loaders: u32,
+        classes: u32,
+        call_sites: u32,
+        switches: u32,
+    ) -> u32
+        ensures { IsOpenWith (limits_of sites loaders classes call_sites switches) self.old result self.new }
+    {
+        if self.is_open() {
+            return OPEN_ALREADY;
+        }
+        let asked = Limits {
+            sites,
+            loaders,
+            classes,
+            call_sites,
+            switches,
+        };
+        if !may_be_asked(&asked) {
+            return MALFORMED;
+        }
+        match Opened::new(alloc, limits_asked(&asked)) {
             Ok(opened) => {
                 self.opened = Some(opened);
                 DONE
@@ -507,9 +542,9 @@ impl Linker {
     }
 
     /// Opens the other linker over a fresh core that has what stays of this one's, but for the call sites and switch points that are
-    /// released; so many places may be requested there, 1 to 1,048,576. Of each loader, class, site, call site and switch point the new
-    /// number is written, or `GONE`, to the front of its array. The status tells whether one of the two isn't as it has to be, no such
-    /// number may be, an array is too short, more sites stay, or memory lacks.
+    /// released; so many places may be requested there, 1 to 1,048,576, and its other limits are this one's. Of each loader, class, site,
+    /// call site and switch point the new number is written, or `GONE`, to the front of its array. The status tells whether one of the two
+    /// isn't as it has to be, no such number may be, an array is too short, more sites stay, or memory lacks.
     pub fn renew(
         &mut self,
         alloc: Global,
@@ -533,7 +568,7 @@ impl Linker {
         if fresh.opened.is_some() {
             return OPEN_ALREADY;
         }
-        if max_sites == 0 || max_sites > MOST_SITES {
+        if max_sites == 0 || max_sites > MOST {
             return MALFORMED;
         }
         let counts = opened.counts();

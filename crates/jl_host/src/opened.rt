@@ -4,19 +4,21 @@ ghost use Rattle.std.specs.Prelude.{◌≡◌, ◌≤◌, ◌⊎◌, option_copi
 ghost use Rattle.jl_types.specs.Linkage.Calls.{dispatch};
 ghost use Rattle.jl_types.specs.Events.History.{installed};
 ghost use Rattle.jl_core.specs.State.{State, events, world_of};
-ghost use Rattle.jl_renewal.specs.Renewal.{IsRenewal, IsRefusedRenewal};
+ghost use Rattle.jl_types.specs.Events.Limits.{AreAllowed};
+ghost use Rattle.jl_renewal.specs.Renewal.{IsRenewal};
 ghost use Rattle.jl_host.specs.Numbers.{memory};
 ghost use Rattle.jl_host.specs.Linkers.{opened_over, newly_opened, IsAsked, IsAskedIf, IsUnasked, call_site_of, IsDefinedUpTo, IsInstalled, IsAnswered};
 ghost use Rattle.jl_host.specs.Linkers.{last_dropped};
 ghost use Rattle.jl_host.specs.Seats.{seen_of};
 ghost use Rattle.jl_host.specs.Views.{IsGiven, present_of};
-ghost use Rattle.jl_host.specs.Renewals.{counts_of, released_of};
+ghost use Rattle.jl_host.specs.Renewals.{counts_of, limits_for, released_of, IsShort};
 ghost use Rattle.jl_host.specs.Renewing.{HasBegun};
 ghost use Rattle.jl_host.specs.ForProofs.Behind.{IsBehind};
 
 use crate::begun::{Begun, Claim};
 use crate::behind::{Links, catch_up, no_links};
 use crate::fresh::Start;
+use crate::limits::limits_for;
 use crate::renew::{Counts, released_of};
 use crate::seat_view::SeatView;
 use crate::shown::{LinkShown, link_shown};
@@ -27,9 +29,11 @@ use jl_classfile::read_class_up_to;
 use jl_core::Core;
 use jl_json::is_method_descriptor;
 use jl_names::{Name, Seq};
-use jl_renewal::{Renumbering, renew};
+use jl_renewal::{Released, Renumbering, only_sites_can_be_short, renew};
 use jl_session::Session;
-use jl_types::{Answer, CallSiteKind, Event, Link, LoaderId, Recv, Refusal, Reply, SiteNo, Target};
+use jl_types::{
+    Answer, CallSiteKind, Event, Limits, Link, LoaderId, Recv, Refusal, Reply, SiteNo, Target,
+};
 use std::alloc::{AllocError, Global};
 use std::marker::Model;
 use std::sync::Arc;
@@ -82,17 +86,17 @@ impl Model for Opened {
 }
 
 impl Opened {
-    /// One without classes. Want of memory is an error.
-    pub(crate) fn new(alloc: Global, max_sites: u32) -> Result<Opened, AllocError>
-        requires { 1 ≤ max_sites }
-        ensures { IfOk result (λ opened. opened ≡ newly_opened max_sites) }
+    /// One without classes, which may have so many of each kind. Want of memory is an error.
+    pub(crate) fn new(alloc: Global, limits: Limits) -> Result<Opened, AllocError>
+        requires { AreAllowed limits }
+        ensures { IfOk result (λ opened. opened ≡ newly_opened limits) }
     {
-        Opened::of(alloc, Core::new(alloc, max_sites)?, max_sites)
+        Opened::of(alloc, Core::with_limits(alloc, limits)?, limits.sites)
     }
 
     /// One over this core, where so many places may be requested: seats take all its links. Want of memory is an error.
     fn of(alloc: Global, core: Core, max_sites: u32) -> Result<Opened, AllocError>
-        requires { core.max_sites ≡ max_sites }
+        requires { core.limits.sites ≡ max_sites }
         ensures { IfOk result (λ opened. opened ≡ opened_over core) }
     {
         let links = no_links(alloc, max_sites)?;
@@ -141,7 +145,8 @@ impl Opened {
         let seen = self.core().snapshot(alloc)?;
         let past = self.core().log().copy(alloc)?;
         let start = Start::new(seen, past, self.counts().sites, links, released);
-        Begun::new(alloc, claim, start, max_sites)
+        let limits = limits_for(self.core(), max_sites);
+        Begun::new(alloc, claim, start, limits)
     }
 
     /// One over a fresh core that has what stays of this one's, where so many places may be requested, and the numbers of what stays.
@@ -158,11 +163,12 @@ impl Opened {
     ) -> Result<(Opened, Renumbering), Refusal>
         requires { 1 ≤ max_sites }
         ensures renewal { IfOk result (λ made. (core : State) × (made.0 ≡ opened_over core)
-            × IsRenewal self.now.session.core (released_of call_sites.now switches.now) max_sites (core, made.1)) }
-        ensures refused { IfErr result (IsRefusedRenewal (world_of self.now.session.core) max_sites) }
+            × IsRenewal self.now.session.core (released_of call_sites.now switches.now) (limits_for self.now.session.core max_sites)
+            (core, made.1)) }
+        ensures refused { IfErr result (IsShort max_sites self.now.session.core) }
     {
         let released = released_of(alloc, call_sites, switches)?;
-        let (mut core, numbers) = renew(alloc, self.core(), &released, max_sites)?;
+        let (mut core, numbers) = renewed_core(alloc, self.core(), &released, max_sites)?;
         core.forget();
         Ok((Opened::of(alloc, core, max_sites)?, numbers))
     }
@@ -393,4 +399,26 @@ fn show_present(outcome: &Result<Reply, Refusal>, present: &mut LinkShown)
     if let Err(Refusal::Stale { present: link, .. }) = outcome {
         *present = link_shown(Some(*link));
     }
+}
+
+/// A fresh core that has what stays of this one, with its limits but for so many sites, and the numbers of what stays.
+///
+/// # Errors
+///
+/// `SitesFull` where more sites stay; want of memory.
+fn renewed_core(
+    alloc: Global,
+    core: &Core,
+    released: &Released,
+    max_sites: u32,
+) -> Result<(Core, Renumbering), Refusal>
+    requires { 1 ≤ max_sites }
+    ensures renewal { IfOk result (IsRenewal core.now released.now (limits_for core.now max_sites)) }
+    ensures refused { IfErr result (IsShort max_sites core.now) }
+{
+    let limits = limits_for(core, max_sites);
+    // What the core has is within its limits, so of what stays only the sites can be too many.
+    only_sites_can_be_short();
+    let _accepted = core.log();
+    renew(alloc, core, released, limits)
 }

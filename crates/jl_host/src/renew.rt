@@ -41,7 +41,7 @@ impl Counts {
 
     /// How many the core has, in which so few places may be requested.
     pub(crate) fn of(core: &Core) -> Counts
-        requires { core.now.max_sites < 2 ^ 32 }
+        requires { core.now.limits.sites < 2 ^ 32 }
         ensures { result ≡ counts_of (world_of core.now) }
     {
         let world = core.world();

@@ -6,7 +6,8 @@ ghost use Rattle.jl_host.specs.Renewing.{IsBegin, IsTake, IsFill, IsFinish, IsHa
 
 use crate::begun::Begun;
 use crate::fresh::Fresh;
-use crate::linker::{Linker, MOST_SITES};
+use crate::limits::MOST;
+use crate::linker::Linker;
 use crate::renew::{have_places, write_numbers};
 use crate::told::{CLOSED, DONE, MALFORMED, MEMORY, OPEN_ALREADY, TOO_SHORT, Told, unasked};
 use jl_core::Core;
@@ -55,9 +56,9 @@ impl Renewal {
     }
 
     /// Begins a renewal of the linker as it is now, of which the call sites and switch points that are released go unless they are still
-    /// needed; so many places may be requested in the fresh linker, 1 to 1,048,576. What there is is shared and not copied. The linker
-    /// forgets no event until the renewal has ended. The status tells whether the linker isn't open, the renewal has begun already, no such
-    /// number may be, or memory lacks.
+    /// needed; so many places may be requested in the fresh linker, 1 to 1,048,576, and its other limits are the linker's. What there is is
+    /// shared and not copied. The linker forgets no event until the renewal has ended. The status tells whether the linker isn't open, the
+    /// renewal has begun already, no such number may be, or memory lacks.
     pub fn begin(
         &mut self,
         alloc: Global,
@@ -74,7 +75,7 @@ impl Renewal {
         if self.begun.is_some() {
             return OPEN_ALREADY;
         }
-        if max_sites == 0 || max_sites > MOST_SITES {
+        if max_sites == 0 || max_sites > MOST {
             return MALFORMED;
         }
         match from.begun(alloc, released_call_sites, released_switches, max_sites) {

@@ -6,7 +6,7 @@
 
 ghost use Rattle.std.specs.Prelude.{◌≡◌, List, Option, None};
 ghost use types.Logic.{sem};
-ghost use Rattle.jl_host.specs.Linkers.{Opened, IsOpen, IsNewLoader, IsDefine, IsDefineUpTo, IsDelegate, IsRequest, IsNewCallSite, IsSetTarget, IsNewSwitch};
+ghost use Rattle.jl_host.specs.Linkers.{Opened, IsOpen, IsOpenWith, limits_of, IsNewLoader, IsDefine, IsDefineUpTo, IsDelegate, IsRequest, IsNewCallSite, IsSetTarget, IsNewSwitch};
 ghost use Rattle.jl_host.specs.Linkers.{IsInvalidate, IsBind, IsRetire, IsInstall, IsDropped, IsCall, IsLinkOf, IsAnswer, IsTake};
 ghost use Rattle.jl_host.specs.Seats.{SeatView, IsRefresh, IsSeatCall};
 ghost use Rattle.jl_host.specs.Memos.{IsMemoOpen, IsMemoAsk, IsMemoCall, IsSeatCallWith};
@@ -33,9 +33,9 @@ use std::alloc::Global;
 /// Which header the library is of: LINKD_VERSION there.
 #[unsafe(no_mangle)]
 pub extern "C" fn linkd_version() -> u32
-    ensures { result ≡ 5 }
+    ensures { result ≡ 6 }
 {
-    5
+    6
 }
 
 /// The bytes of a linker.
@@ -81,6 +81,24 @@ pub unsafe extern "C" fn linkd_open(alloc: Global, at: *mut Linkd, max_sites: u3
     ensures* { sem 𝓛 (linker_left at (λ new. IsOpen max_sites old result new)) }
 {
     (*(at as *mut Linker)).open(alloc, max_sites)
+}
+
+/// Opens the linker, without classes; of each kind so many numbers are ever given.
+#[unsafe(no_mangle)]
+pub unsafe extern "C" fn linkd_open_with(
+    alloc: Global,
+    at: *mut Linkd,
+    sites: u32,
+    loaders: u32,
+    classes: u32,
+    call_sites: u32,
+    switches: u32,
+) -> u32
+    ghost old: { Option Opened }
+    requires* { sem 𝓛 (linker_at at old) }
+    ensures* { sem 𝓛 (linker_left at (λ new. IsOpenWith (limits_of sites loaders classes call_sites switches) old result new)) }
+{
+    (*(at as *mut Linker)).open_with(alloc, sites, loaders, classes, call_sites, switches)
 }
 
 /// One loader more.

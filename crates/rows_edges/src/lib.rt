@@ -18,6 +18,8 @@ mod forgetting;
 #[cfg(test)]
 mod hosts;
 #[cfg(test)]
+mod limits;
+#[cfg(test)]
 mod nests;
 #[cfg(test)]
 mod refusals;

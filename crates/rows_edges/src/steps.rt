@@ -16,8 +16,12 @@ pub type Numbers = [u32; MOST];
 /// A call on a linker, a seat, a memo or a view.
 pub enum Step {
     Open(u32),
+    /// Opens it with limits: of sites, loaders, classes, call sites and switch points.
+    OpenWith([u32; 5]),
     Close,
     NewLoader,
+    /// So many loaders.
+    NewLoaders(u32),
     Define(u32, &'static [u8]),
     /// The same of class files up to this major version.
     DefineUpTo(u32, u16, &'static [u8]),
@@ -427,6 +431,18 @@ fn invalidated(alloc: Global, linker: &mut Linker, times: u32, switches: &[u32])
     done
 }
 
+/// How many of so many new loaders are made.
+fn loaders_made(alloc: Global, linker: &mut Linker, times: u32) -> u32 {
+    let mut told = untold();
+    let mut made: u32 = 0;
+    for _ in 0..times {
+        if linker.new_loader(alloc, &mut told) == 0 {
+            made = made.saturating_add(1);
+        }
+    }
+    made
+}
+
 /// What an event comes to.
 fn event_numbers(alloc: Global, linker: &mut Linker, step: &Step) -> Numbers {
     let mut told = untold();
@@ -591,6 +607,18 @@ pub fn answer(
 ) -> Numbers {
     match step {
         Step::Open(max_sites) => numbers(&[linker.open(alloc, *max_sites)]),
+        Step::OpenWith([sites, loaders, classes, call_sites, switches]) => {
+            let status = linker.open_with(
+                alloc,
+                *sites,
+                *loaders,
+                *classes,
+                *call_sites,
+                *switches,
+            );
+            numbers(&[status])
+        }
+        Step::NewLoaders(times) => numbers(&[loaders_made(alloc, linker, *times)]),
         Step::Close => {
             linker.close();
             numbers(&[])

@@ -2,7 +2,7 @@ package linkd;
 
 /** What the numbers of a linker have in common. */
 final class Ids {
-    /** How many sites there are at most. There are fewer classes, call sites and switch points. */
+    /** How many there are at most of each kind. */
     static final int MOST = 1_048_576;
 
     private Ids() {

@@ -13,6 +13,7 @@ import java.util.Collection;
 import java.util.List;
 import java.util.Optional;
 import java.util.function.Function;
+import java.util.function.ToIntFunction;
 
 /**
  * Which method does this JVM call run, now? A linker of include/linkd.h.
@@ -47,15 +48,26 @@ public final class Linker implements AutoCloseable {
     }
 
     /**
-     * A linker without classes, in which at most so many sites may be requested.
+     * A linker without classes, in which at most so many sites may be requested. There may be 1,048,576 loaders, classes, call sites and
+     * switch points.
      *
      * @param maxSites 1 to 1,048,576, or else this is {@link Refusal.Plain#MALFORMED}
      */
     public static Linker open(int maxSites) {
+        return opened(at -> Native.open(at, maxSites));
+    }
+
+    /** A linker without classes, which gives at most so many numbers of each kind. {@link Refusal.Plain#MALFORMED} where it can't. */
+    public static Linker open(Limits limits) {
+        return opened(at -> Native.openWith(at, limits.sites(), limits.loaders(), limits.classes(), limits.callSites(), limits.points()));
+    }
+
+    /** One that the call opens. */
+    private static Linker opened(ToIntFunction<MemorySegment> open) {
         Library.open(); // throws by name where the library isn't there
         Linker linker = new Linker(Arena.ofAuto());
         try {
-            Numbers.done(Native.open(linker.at, maxSites));
+            Numbers.done(open.applyAsInt(linker.at));
             return linker;
         } catch (RefusedException refused) {
             linker.close();

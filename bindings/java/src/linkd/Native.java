@@ -60,6 +60,7 @@ final class Native {
     private static final MethodHandle RENEWAL_BLANK = handle("linkd_renewal_blank", FunctionDescriptor.ofVoid(ADDRESS));
     private static final MethodHandle RENEWAL_LEAVE = handle("linkd_renewal_leave", FunctionDescriptor.ofVoid(ADDRESS));
     private static final MethodHandle OPEN = status("linkd_open", JAVA_INT);
+    private static final MethodHandle OPEN_WITH = status("linkd_open_with", JAVA_INT, JAVA_INT, JAVA_INT, JAVA_INT, JAVA_INT);
     private static final MethodHandle NEW_LOADER = status("linkd_new_loader", ADDRESS);
     private static final MethodHandle DEFINE = status("linkd_define", JAVA_INT, ADDRESS, JAVA_LONG, ADDRESS);
     private static final MethodHandle DEFINE_UP_TO = status("linkd_define_up_to", JAVA_INT, JAVA_CHAR, ADDRESS, JAVA_LONG, ADDRESS);
@@ -200,6 +201,14 @@ final class Native {
     static int open(MemorySegment at, int maxSites) {
         try {
             return (int) OPEN.invokeExact(at, maxSites);
+        } catch (Throwable fault) {
+            throw failed(fault);
+        }
+    }
+
+    static int openWith(MemorySegment at, int sites, int loaders, int classes, int callSites, int switches) {
+        try {
+            return (int) OPEN_WITH.invokeExact(at, sites, loaders, classes, callSites, switches);
         } catch (Throwable fault) {
             throw failed(fault);
         }

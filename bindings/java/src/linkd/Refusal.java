@@ -98,7 +98,7 @@ public sealed interface Refusal {
         BATCH_SIZE,
         /** Want of memory. */
         MEMORY,
-        /** There are 1,024 loaders. */
+        /** There are as many loaders as the linker may have. */
         LOADERS_FULL,
         /** A type, a target or a link that is none, or a number that is too large. */
         MALFORMED,

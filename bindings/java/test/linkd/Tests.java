@@ -228,6 +228,40 @@ final class Tests {
         }
     }
 
+    private static void aLinkerHasLimitsOfItsOwn() throws Exception {
+        try (Linker linker = Linker.open(new Limits(1, 2, 3, 1, 1))) {
+            linker.define(Written.file(OBJECT, null));
+            ClassId a = linker.define(withF("A", OBJECT));
+            ClassId m = linker.define(caller());
+            refused(new Refusal.Define(Refusal.DefineFault.CLASSES_FULL), () -> linker.define(withF("B", OBJECT)));
+            same(new LoaderId(1), linker.newLoader());
+            refused(Refusal.Plain.LOADERS_FULL, linker::newLoader);
+            linker.request(m, 0, 0);
+            refused(Refusal.Plain.SITES_FULL, () -> linker.request(m, 0, 3));
+            linker.newSwitch();
+            refused(new Refusal.CallSite(Refusal.CallSiteFault.CALL_SITES_FULL, 0), linker::newSwitch);
+            Target target = new Target.Method(m, 1);
+            linker.newCallSite(CallSiteKind.MUTABLE, "()V", target);
+            refused(new Refusal.CallSite(Refusal.CallSiteFault.CALL_SITES_FULL, 0),
+                    () -> linker.newCallSite(CallSiteKind.MUTABLE, "()V", target));
+
+            Renewal renewal = linker.renew(2, Released.NOTHING);
+            try (Linker fresh = renewal.linker()) {
+                refused(Refusal.Plain.LOADERS_FULL, fresh::newLoader);
+                same(new SiteId(1), fresh.request(m, 0, 3));
+                same(Optional.of(a), renewal.type(a));
+            }
+        }
+        refused(Refusal.Plain.MALFORMED, () -> Linker.open(Limits.ofSites(0)));
+        refused(Refusal.Plain.MALFORMED, () -> Linker.open(new Limits(1, Limits.MOST + 1, 0, 0, 0)));
+        refused(Refusal.Plain.MALFORMED, () -> Linker.open(new Limits(1, 0, 0, 0, -1)));
+        try (Linker linker = Linker.open(new Limits(1, 0, 0, 0, 0))) {
+            for (int number = 1; number <= 2_000; number++) {
+                same(new LoaderId(number), linker.newLoader());
+            }
+        }
+    }
+
     private static void aCallSiteHasTargets() throws Exception {
         try (World world = World.open()) {
             Linker linker = world.linker;
@@ -773,6 +807,7 @@ final class Tests {
                 & passes("later files are defined up to a version", Tests::laterFilesAreDefinedUpToAVersion)
                 & passes("definitions are refused by name", Tests::definitionsAreRefusedByName)
                 & passes("sites are refused by name", Tests::sitesAreRefusedByName)
+                & passes("a linker has limits of its own", Tests::aLinkerHasLimitsOfItsOwn)
                 & passes("a call site has targets", Tests::aCallSiteHasTargets)
                 & passes("a fresh linker has what stays", Tests::aFreshLinkerHasWhatStays)
                 & passes("a renewing goes on beside its linker", Tests::aRenewingGoesOnBesideItsLinker)

@@ -33,7 +33,7 @@ IsNow core links s = slot links s ≡ installed (events core) s
 
 -- the links are those of the core, but for the sites that its events from the n-th on touched; all its sites have numbers of 32 bits
 pub record IsBehind (links : List (Option Link)) (n : ℕ) (core : State) : Type 0 where
-  pub few : core.max_sites < 2 ^ 32
-  pub all : length links ≡ room_for core.max_sites
+  pub few : core.limits.sites < 2 ^ 32
+  pub all : length links ≡ room_for core.limits.sites
   pub reached : n ≤ length core.log
-  pub same : (s : ℕ) → s < room_for core.max_sites → list_any (touches s) (drop n core.log) ≡ false → IsNow core links s
+  pub same : (s : ℕ) → s < room_for core.limits.sites → list_any (touches s) (drop n core.log) ≡ false → IsNow core links s

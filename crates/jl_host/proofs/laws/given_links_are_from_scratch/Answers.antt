@@ -13,7 +13,7 @@ returns-clause-declarable c = declarable_from_scratch
 pub returns-clause-prepared : goal.returns-clause-prepared
 returns-clause-prepared c seen old sites before links told view is now accepted =
     prepared_installed seen old sites before links told view is now
-    (λ s link at. declarable_from_scratch old.session.core.max_sites (events old.session.core) accepted s link
+    (λ s link at. declarable_from_scratch old.session.core.limits (events old.session.core) accepted s link
     (subst (λ (w : World). scratch w s ≡ Ok link) now at))
 
 pub returns-clause-installed : goal.returns-clause-installed

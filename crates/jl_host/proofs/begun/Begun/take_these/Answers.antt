@@ -17,7 +17,7 @@ returns-clause-taken c =
     record {
       start = ap (λ (r : Renewing). r.start) c.self.view_is;
       fresh = ap (λ (r : Renewing). r.fresh) c.self.view_is;
-      max_sites = ap (λ (r : Renewing). r.max_sites) c.self.view_is;
+      limits = ap (λ (r : Renewing). r.limits) c.self.view_is;
       taken = sum ∙ ap (λ (r : Renewing). r.taken + length entries) c.self.view_is;
       waiting =
           ap (drop old.carried) added

@@ -14,7 +14,7 @@ returns-in_err-apply-clause-refused c =
     let p = err_from_is_err_and c.from_residual-in_err-apply.result c.from_residual-in_err-apply.ensures.1 in
     rw (p.1, p.2)
     (subst (λ (m : Fresh). AreUnlinked (fresh_rows (world_of m.core) m.numbers c.args.rows.now) m.core c.in_err-apply.field-0.0) c.self.view_is
-    (inr (subst (λ rows. IsRefused (verdict core.max_sites (world_of core) (event.Install rows)) c.in_err-apply.field-0.0)
+    (inr (subst (λ rows. IsRefused (verdict core.limits (world_of core) (event.Install rows)) c.in_err-apply.field-0.0)
     (c.of.ensures ∙ c.in_ok-rows.ensures
     ∙ (λ i. fresh_rows (c.world.ensures.world i) c.self.inside.numbers ((c.as_slice.ensures.value ∙ c.in_ok-linked.ensures) i)))
     c.in_err-apply.ensures.refused)))

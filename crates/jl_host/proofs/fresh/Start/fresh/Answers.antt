@@ -1,5 +1,6 @@
 use Rattle.std.proofs.Common.{◌∙◌, ap, subst, inl, inr}
 use Rattle.std.proofs.lemmas.Result.{err_from_is_err_and}
+use Rattle.jl_types.specs.declared.limits.Limits.{Limits}
 use Rattle.jl_types.specs.Values.World.{World}
 use Rattle.jl_core.specs.State.{State, empty_core, world_of}
 use Rattle.jl_renewal.specs.Renewal.{fresh_rows}
@@ -11,7 +12,7 @@ use Rattle.jl_host.proofs.fresh.Start.fresh.Goals as goal
 
 pub returns-in_err-numbers-clause-refused : goal.returns-in_err-numbers-clause-refused
 returns-in_err-numbers-clause-refused c =
-    let most = c.args.max_sites in
+    let most = c.args.limits in
     let after = c.try_refill.new.fresh in
     let r = c.in_err-numbers.field-0.0 in
     let p = err_from_is_err_and c.from_residual-in_err-numbers.result c.from_residual-in_err-numbers.ensures.1 in
@@ -26,7 +27,7 @@ returns-in_err-numbers-clause-refused c =
 
 pub returns-in_err-install_all-clause-refused : goal.returns-in_err-install_all-clause-refused
 returns-in_err-install_all-clause-refused c =
-    let most = c.args.max_sites in
+    let most = c.args.limits in
     let n = c.in_ok-numbers.numbers in
     let between = c.try_refill.new.fresh in
     let after = c.install_all.new.fresh in
@@ -51,6 +52,7 @@ returns-in_err-install_all-clause-refused c =
 
 pub invariant_of-result : goal.invariant_of-result
 invariant_of-result c =
-    nothing_behind c.install_all.new.fresh c.args.max_sites c.in_ok-links.links.value
-    (c.in_ok-install_all.ensures.installs.adds.limit ∙ c.in_ok-numbers.ensures.added.adds.limit ∙ ap (λ (s : State). s.max_sites) c.in_ok-core.ensures)
-    c.ranges.max_sites.fits c.in_ok-links.ensures
+    nothing_behind c.install_all.new.fresh c.args.limits.sites c.in_ok-links.links.value
+    (ap (λ (l : Limits). l.sites)
+    (c.in_ok-install_all.ensures.installs.adds.limit ∙ c.in_ok-numbers.ensures.added.adds.limit ∙ ap (λ (s : State). s.limits) c.in_ok-core.ensures))
+    c.no_links.ensures.few c.in_ok-links.ensures.blank

@@ -1,16 +1,17 @@
 use Rattle.std.specs.Prelude.{◌≡◌, length}
 use Rattle.std.proofs.Common.{◌∙◌, sym, ap, subst}
 use Rattle.std.proofs.lemmas.Result.{IfOk-weaker}
+use Rattle.jl_types.specs.Events.Limits.{AreAllowed}
 use Rattle.jl_core.specs.State.{State, world_of}
 use Rattle.jl_host.specs.Linkers.{Opened}
 use Rattle.jl_host.specs.Seats.{seen_of}
-use Rattle.jl_host.specs.Renewals.{released_of, counts_of}
+use Rattle.jl_host.specs.Renewals.{limits_for, released_of, counts_of}
 use Rattle.jl_host.specs.Renewing.{Start, Renewing, AreEntries, HasBegun, begun_from}
 use Rattle.jl_host.proofs.opened.Opened.begun.Goals as goal
 
 pub returns-clause-begun : goal.returns-clause-begun
 returns-clause-begun c =
-    let most = c.args.max_sites in
+    let limits = limits_for c.args.self.now.session.core c.args.max_sites in
     let released = released_of c.args.call_sites.now c.args.switches.now in
     let core : State = c.args.self.now.session.core in
     let past = c.in_ok-past.past in
@@ -26,5 +27,8 @@ returns-clause-begun c =
     let started : c.new-start.result ≡ record { seen = _; past = past; sites = _; links = _; released = released } =
     c.new-start.ensures
     ∙ (λ i. record { seen = seen i; past = past; sites = sites i; links = links i; released = c.in_ok-released.ensures i }) in
-    IfOk-weaker c.new.result (λ begun. begun ≡ begun_from c.new-start.result most) (HasBegun c.args.self.now released most)
-    (λ (begun : Renewing) is. (past, entries, is ∙ ap (λ (s : Start). begun_from s most) started)) c.new.ensures
+    let at : ◌≡◌ {A = State} c.core-3.result.now core = c.core-3.ensures ∙ here in
+    let allowed = subst (λ (s : State). AreAllowed s.limits) at c.limits_for-limits.ensures.before in
+    let same : c.limits_for-limits.result ≡ limits = c.limits_for-limits.ensures.limits ∙ ap (λ (s : State). limits_for s c.args.max_sites) at in
+    IfOk-weaker c.new.result (λ begun. begun ≡ begun_from c.new-start.result c.limits_for-limits.result) (HasBegun c.args.self.now released c.args.max_sites)
+    (λ (begun : Renewing) is. (past, entries, allowed, is ∙ (λ i. begun_from (started i) (same i)))) c.new.ensures

@@ -11,5 +11,5 @@ pub returns-clause-links : goal.returns-clause-links
 returns-clause-links c =
     c.in_ok-links.ensures
     ∙ all_links c.core.result.now c.catch_up.new.links.value c.in_ok-reached.ensures.still.all c.in_ok-reached.ensures.now
-    ∙ ap (λ core. map (installed (events core)) (range_with_len 0 (room_for core.max_sites)))
+    ∙ ap (λ core. map (installed (events core)) (range_with_len 0 (room_for core.limits.sites)))
     (c.core.ensures ∙ ap (λ (o : Opened). o.session.core) c.self.view_is)
