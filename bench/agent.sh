@@ -163,12 +163,12 @@ look_at tomcat 100000
 look_at_retired tomcat 18 90 200
 look_at_call tomcat 'jakarta/servlet/Servlet\.service\([^"]*' 'pending|direct|interface_table'
 
-# Numbers of loaders aren't given again: behind 1,024 the machine runs on, and what it loads then is left out.
+# More loaders than 1,024 that come and go: none is left out.
 "$home/bin/java" -Xshare:off -agentpath:"$agent=json,report=$reports/many.json" -cp "$work/classes" Dropping 800
-if [ "$(number_of many retired_loaders)" -lt 1000 ] || [ "$(number_of many LINKD_LOADERS_FULL)" -lt 40 ] ||
-    [ "$(number_of many classes_without_loader)" -lt 100 ] || [ "$(number_of many held_loaders)" != 0 ]; then
+if [ "$(number_of many retired_loaders)" -lt 1000 ] || grep -q LINKD_LOADERS_FULL "$reports/many.json" ||
+    [ "$(number_of many classes_without_loader)" != 0 ] || [ "$(number_of many held_loaders)" != 0 ]; then
     cat "$reports/many.json" >&2
-    echo "many: of 1,066 loaders the linker takes as many as make 1,024, and retires them" >&2
+    echo "many: the linker takes all 1,066 loaders, and retires them" >&2
     status=1
 fi
 
