@@ -14,6 +14,7 @@ use Rattle.jl_types.specs.Values.World.{Class, Classes, World, nothing_yet}
 use Rattle.jl_types.specs.Values.Members.{recorded, lookup}
 use Rattle.jl_types.specs.Values.Ancestry.{parents, AreOrdered}
 use Rattle.jl_types.specs.Events.Definitions.{class_made, with_record, defined, delegated}
+use Rattle.jl_types.specs.Events.Retirement.{emptied, retired}
 use Rattle.jl_types.specs.Events.Verdict.{step}
 use Rattle.jl_types.specs.Events.History.{world_after}
 use Rattle.jl_types.proofs.Lists.{before_end, at_end, all_at, all_set}
@@ -134,6 +135,14 @@ pub with_loader : (n : ℕ) (loaders : List (List (List ℕ × ℕ))) → AllByR
 with_loader n [] h = (tt, tt)
 with_loader n (records ∷ loaders) h = (h.0, with_loader n loaders h.1)
 
+pub retired_good : (cs : Classes) (loaders : List ℕ) → IsGood cs → IsGood (retired cs loaders)
+retired_good cs loaders good = record { there = emptied_below loaders cs.loaders good.there; ordered = good.ordered }
+  where
+    emptied_below : (ls : List ℕ) (found : List (List (List ℕ × ℕ))) → AllByRecursion (AreBelow (length cs.rows)) found
+        → AllByRecursion (AreBelow (length cs.rows)) (emptied found ls)
+    emptied_below [] found h = h
+    emptied_below (l ∷ ls) found h = emptied_below ls (slice_set found l []) (all_set (AreBelow (length cs.rows)) found l [] tt h)
+
 step_good : (w : World) (e : Event) → IsGood w.classes → IsGood ((step w e).classes)
 step_good w event.NewLoader good = record { there = with_loader (length w.classes.rows) w.classes.loaders good.there; ordered = good.ordered }
 step_good w (event.Define loader file) good = defined_good w.classes good loader file
@@ -145,10 +154,8 @@ step_good w event.NewSwitch good = good
 step_good w (event.Invalidate points) good = good
 step_good w (event.Bind s c) good = good
 step_good w (event.Install rows) good = good
-step_good w (event.Retire loader) good = record {
-  there = all_set (AreBelow (length w.classes.rows)) w.classes.loaders loader [] tt good.there;
-  ordered = good.ordered;
-}
+step_good w (event.Retire loader) good = retired_good w.classes (loader ∷ []) good
+step_good w (event.RetireAll loaders) good = retired_good w.classes loaders good
 
 fold_good : (h : List Event) (w : World) → IsGood w.classes → IsGood ((fold step w h).classes)
 fold_good [] w good = good

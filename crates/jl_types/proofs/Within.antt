@@ -24,7 +24,8 @@ use Rattle.jl_types.specs.Linkage.Targets.{target_fault}
 use Rattle.jl_types.specs.Events.Event.{Event}
 use Rattle.jl_types.specs.Events.Limits.{IsWithin}
 use Rattle.jl_types.specs.Events.Definitions.{is_unknown, parent_names, named_test, is_final, is_open_parent, define_fault, with_record, class_made}
-use Rattle.jl_types.specs.Events.Verdict.{verdict, step, unless, new_call_site_fault, retargeted, invalidated}
+use Rattle.jl_types.specs.Events.Retirement.{emptied, retired}
+use Rattle.jl_types.specs.Events.Verdict.{verdict, step, unless, new_call_site_fault, retargeted, invalidated, with_classes}
 use Rattle.jl_types.specs.Events.History.{world_after, dropped}
 use Rattle.jl_types.specs.Events.Entries.{Entry, IsEntry, IsLegal, events_of}
 use Rattle.jl_types.proofs.Firsts.{first_none, test_none}
@@ -89,6 +90,21 @@ call_site_has_room most w ty t e =
     room_below most (length w.sites.call_sites) fault.Full full.0
 
 -- ---- an event, and a legal list
+
+pub length_emptied : (loaders : List ℕ) (found : List (List (List ℕ × ℕ))) → length (emptied found loaders) ≡ length found
+length_emptied [] found = refl
+length_emptied (l ∷ loaders) found = length_emptied loaders (slice_set found l []) ∙ length-set found l []
+
+within_retired : (limits : Limits) (w : World) (loaders : List ℕ) → IsWithin limits w → IsWithin limits (with_classes w (retired w.classes loaders))
+within_retired limits w loaders within =
+    let few = within.loaders in
+    record {
+      sites = within.sites;
+      loaders = omega (arith, few, length_emptied loaders w.classes.loaders);
+      classes = within.classes;
+      call_sites = within.call_sites;
+      switches = within.switches;
+    }
 
 pub within_step : (limits : Limits) (w : World) (e : Event) (given : Made) → verdict limits w e ≡ Ok given → IsWithin limits w → IsWithin limits (step w e)
 within_step limits w event.NewLoader given accepted within =
@@ -176,15 +192,8 @@ within_step limits w (event.Bind s c) given accepted within =
       switches = within.switches;
     }
 within_step limits w (event.Install rows) given accepted within = within
-within_step limits w (event.Retire loader) given accepted within =
-    let few = within.loaders in
-    record {
-      sites = within.sites;
-      loaders = omega (arith, few, length-set w.classes.loaders loader []);
-      classes = within.classes;
-      call_sites = within.call_sites;
-      switches = within.switches;
-    }
+within_step limits w (event.Retire loader) given accepted within = within_retired limits w (loader ∷ []) within
+within_step limits w (event.RetireAll loaders) given accepted within = within_retired limits w loaders within
 
 pub within_at_first : (limits : Limits) → 1 ≤ limits.loaders → IsWithin limits nothing_yet
 within_at_first limits some = record {

@@ -36,6 +36,9 @@ pub enum EventOf<D, I> {
     Install(I),
     /// The loader goes, with the classes that it has defined and the sites in them (JLS SE 17 §12.7).
     Retire(LoaderId),
+    /// The loaders go at once, with the classes that they have defined and the sites in them. What only one of them needs of
+    /// another holds none back. One that comes twice goes once; where there are none, nothing changes.
+    RetireAll(Seq<LoaderId>),
 }
 
 /// What changes the classes, sites and links: a definition carries the file of the class, an install the sites with their

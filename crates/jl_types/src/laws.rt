@@ -26,7 +26,7 @@ ghost use Rattle.jl_types.specs.Values.World.{Class, Classes, World};
 ghost use Rattle.jl_types.specs.Values.Members.{is_concrete, is_package_private, is_present, lookup};
 ghost use Rattle.jl_class.specs.Class.{ClassFile};
 ghost use Rattle.jl_types.specs.Events.Definitions.{defined};
-ghost use Rattle.jl_types.specs.Events.Retirement.{is_of, retired, retires_site};
+ghost use Rattle.jl_types.specs.Events.Retirement.{is_listed, is_of_any, retired, retires_site};
 ghost use Rattle.jl_types.specs.Values.Ancestry.{AreOrdered, IsAncestor, is_ancestor, ancestors, receivers, superclasses};
 ghost use Rattle.jl_types.specs.Linkage.Overriding.{CanOverride, are_alike, can_override, is_visible, IsBridged};
 ghost use Rattle.jl_types.specs.Linkage.Stages.{ResolvedCall, Selects, stage};
@@ -166,17 +166,20 @@ pub fn dropped_are_the_empty_slots()
         → entry.reply.dropped ≡ emptied entry.slots }
 {}
 
-/// A retirement takes the loader's classes out of all lists of receivers, and leaves the sites in them without a link for good. No
-/// other loader finds less than before.
-pub fn a_loader_less()
-    ensures receivers { (cs : Classes) (loader c : ℕ)
-        → receivers (retired cs loader) c ≡ filter (λ x. not (is_of cs loader x)) (receivers cs c) }
-    ensures present { (cs : Classes) (loader c : ℕ)
-        → is_present (retired cs loader) c ≡ (is_present cs c && not (is_of cs loader c)) }
-    ensures lookups { (cs : Classes) (loader k : ℕ) (name : List ℕ) → (loader == k) ≡ false
-        → lookup (retired cs loader) k name ≡ lookup cs k name }
-    ensures gone { (w : World) (loader s : ℕ) → retires_site w loader s ≡ true
-        → scratch (step w (event.Retire loader)) s ≡ Err Gone }
+/// A retirement takes the loaders' classes out of all lists of receivers, and leaves the sites in them without a link for good. No
+/// other loader finds less than before. To retire a list of one loader is to retire that loader.
+pub fn fewer_loaders()
+    ensures receivers { (cs : Classes) (loaders : List ℕ) (c : ℕ)
+        → receivers (retired cs loaders) c ≡ filter (λ x. not (is_of_any cs loaders x)) (receivers cs c) }
+    ensures present { (cs : Classes) (loaders : List ℕ) (c : ℕ)
+        → is_present (retired cs loaders) c ≡ (is_present cs c && not (is_of_any cs loaders c)) }
+    ensures lookups { (cs : Classes) (loaders : List ℕ) (k : ℕ) (name : List ℕ) → is_listed loaders k ≡ false
+        → lookup (retired cs loaders) k name ≡ lookup cs k name }
+    ensures gone { (w : World) (loaders : List ℕ) (s : ℕ) → retires_site w loaders s ≡ true
+        → scratch (step w (event.RetireAll loaders)) s ≡ Err Gone }
+    ensures one { (w : World) (loader : ℕ) → step w (event.RetireAll (loader ∷ [])) ≡ step w (event.Retire loader) }
+    ensures one_may { (limits : Limits) (w : World) (loader : ℕ) → (verdict limits w (event.RetireAll (loader ∷ [])) ≡ Ok made.Nothing)
+        ↔ (verdict limits w (event.Retire loader) ≡ Ok made.Nothing) }
 {}
 
 /// There are as many classes after a list as events of it define one.

@@ -44,13 +44,13 @@ pub use event::{Event, EventOf, Made, Reply};
 pub use ids::{MethodId, Place};
 pub use key::Key;
 pub use laws::{
-    a_loader_less, accepted_installs, ancestors_are_listed, ancestors_of_ancestors,
-    beginnings_are_legal, definitions_are_the_classes, dropped_are_the_empty_slots, each_site_once,
+    accepted_installs, ancestors_are_listed, ancestors_of_ancestors, beginnings_are_legal,
+    definitions_are_the_classes, dropped_are_the_empty_slots, each_site_once, fewer_loaders,
     links_give_the_answers, one_class_more, one_event_more, overriding_in_one_walk,
     overriding_is_decided, parents_come_first, settled_links, slots_are_the_links,
     superclasses_upward, unlinked_calls,
 };
-pub use limits::Limits;
+pub use limits::{Limits, MOST_OF_A_KIND};
 pub use link::{Link, TableKind, same_link};
 pub use loader_id::LoaderId;
 pub use never_linked::{is_polymorphic, names_array};

@@ -5,7 +5,7 @@ ghost use Rattle.jl_types.specs.Events.Limits as limits;
 ghost use Rattle.jl_types.specs.Events.Limits.{AreAllowed};
 
 /// The greatest limit that a linker may have of loaders, of classes, of call sites and of switch points: 2^20.
-const MOST_OF_A_KIND: u32 = 1 << 20;
+pub const MOST_OF_A_KIND: u32 = 1 << 20;
 
 /// How many of each kind a linker ever gives numbers to. A number is never given again, so what is retired counts.
 #[derive(Clone, Copy, Debug, PartialEq, Eq)]

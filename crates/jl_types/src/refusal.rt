@@ -44,7 +44,7 @@ pub enum DefineFault {
     /// java/lang/Object, in a loader other than 0.
     #[error("Define.SecondObject")]
     SecondObject,
-    /// There are 65,536 classes.
+    /// There are as many classes as there may be.
     #[error("Define.Full")]
     Full,
 }
@@ -72,10 +72,10 @@ pub enum RetireFault {
     /// Loader 0 stays.
     #[error("Retire.FirstLoader")]
     FirstLoader,
-    /// This class of another loader has an ancestor in it.
+    /// This class of a loader that stays has an ancestor in it.
     #[error("Retire.Inherited")]
     Inherited(ClassId),
-    /// This other loader records a class of it.
+    /// This loader, which stays, records a class of it.
     #[error("Retire.Recorded")]
     Recorded(LoaderId),
     /// The target of this call site names a method of one of its classes.
@@ -107,7 +107,7 @@ pub enum CallSiteFault {
     /// The target is deeper than 64, or has more than 255 parts.
     #[error("CallSite.TooDeep")]
     TooDeep,
-    /// There are 65,536 of them.
+    /// There are as many of them as there may be.
     #[error("CallSite.Full")]
     Full,
     /// The target invokes this call site, which doesn't come before the one that gets the target.
@@ -170,16 +170,25 @@ pub enum Refusal {
     TypeMismatch,
     /// The link isn't the one that the site has from scratch now, which is this.
     #[error("Stale")]
-    Stale { site: SiteNo, present: Link },
+    Stale {
+        site: SiteNo,
+        present: Link,
+    },
     /// The site has no link from scratch now.
     #[error("NotReady")]
-    NotReady { site: SiteNo },
+    NotReady {
+        site: SiteNo,
+    },
     /// No place was requested under this number; or, where the site is to be bound, its class is retired.
     #[error("UnknownSite")]
-    UnknownSite { site: SiteNo },
+    UnknownSite {
+        site: SiteNo,
+    },
     /// The site comes twice.
     #[error("Repeated")]
-    Repeated { site: SiteNo },
+    Repeated {
+        site: SiteNo,
+    },
     /// No rows, or more than 256.
     #[error("BatchSize")]
     BatchSize,
@@ -189,12 +198,20 @@ pub enum Refusal {
     /// A loader doesn't record a class of another one.
     #[error("{0}")]
     Delegate(DelegateFault),
-    /// There are 1,024 loaders.
+    /// There are as many loaders as there may be.
     #[error("LoadersFull")]
     LoadersFull,
     /// A loader isn't retired.
     #[error("{0}")]
     Retire(RetireFault),
+    /// Of several loaders none is retired, since this one can't be.
+    #[error("{fault}")]
+    RetireAll {
+        /// The first one that can't.
+        loader: LoaderId,
+        /// Why it can't.
+        fault: RetireFault,
+    },
 }
 
 /// Why the sites of a batch aren't taken, be they prepared or installed.

@@ -1,7 +1,8 @@
 -- What there is room for, and places that are never linked.
-use Rattle.std.specs.Prelude.{◌≡◌, ℕ, List, [], ◌∷◌, ◌++◌, Some, None, Ok, Err, length, replicate, codes, refl}
+use Rattle.std.specs.Prelude.{◌≡◌, ℕ, ◌+◌, ◌≤◌, List, [], ◌∷◌, ◌++◌, Some, None, Ok, Err, length, replicate, codes, refl}
+use Rattle.std.proofs.Common.{arith}
 use Rattle.jl_types.specs.declared.limits.Limits.{Limits}
-use Rattle.jl_types.specs.Events.Limits.{fixed}
+use Rattle.jl_types.specs.Events.Limits.{fixed, AreAllowed, IsWithin, AreNoFewer}
 use Rattle.jl_class.specs.declared.site.Kind.TheVariants.{Virtual, Static}
 use Rattle.jl_types.specs.declared.ids.Place.{Place}
 use Rattle.jl_types.specs.declared.event.EventOf.TheVariants.{NewLoader, NewSwitch, NewCallSite, Request}
@@ -149,3 +150,80 @@ ready = refl
 
 faulty_is_ready : prepare_fault (called 33 1 Static class_ref) (0 ∷ []) ≡ None
 faulty_is_ready = refl
+
+-- ---- which limits there may be
+
+least_are_allowed : AreAllowed (record { sites = 1; loaders = 1; classes = 0; call_sites = 0; switches = 0 })
+least_are_allowed = record {
+  some_sites = omega arith;
+  some_loaders = omega arith;
+  few_loaders = omega arith;
+  few_classes = omega arith;
+  few_call_sites = omega arith;
+  few_switches = omega arith;
+}
+
+no_sites_are_not_allowed : (limits : Limits) → limits.sites ≡ 0 → AreAllowed limits → ⊥
+no_sites_are_not_allowed limits none allowed = let some = allowed.some_sites in omega (arith, none, some)
+
+no_loaders_are_not_allowed : (limits : Limits) → limits.loaders ≡ 0 → AreAllowed limits → ⊥
+no_loaders_are_not_allowed limits none allowed = let some = allowed.some_loaders in omega (arith, none, some)
+
+-- a world has as many as it has, and not one less
+abbrev exactly : World → Limits
+exactly w = record {
+  sites = length w.places;
+  loaders = length w.classes.loaders;
+  classes = length w.classes.rows;
+  call_sites = length w.sites.call_sites;
+  switches = length w.sites.switches;
+}
+
+is_within_exactly : (w : World) → IsWithin (exactly w) w
+is_within_exactly w = record {
+  sites = omega arith;
+  loaders = omega arith;
+  classes = omega arith;
+  call_sites = omega arith;
+  switches = omega arith;
+}
+
+one_site_more : (limits : Limits) (w : World) → length w.places ≡ limits.sites + 1 → IsWithin limits w → ⊥
+one_site_more limits w more within = let few = within.sites in omega (arith, more, few)
+
+one_loader_more : (limits : Limits) (w : World) → length w.classes.loaders ≡ limits.loaders + 1 → IsWithin limits w → ⊥
+one_loader_more limits w more within = let few = within.loaders in omega (arith, more, few)
+
+one_class_more : (limits : Limits) (w : World) → length w.classes.rows ≡ limits.classes + 1 → IsWithin limits w → ⊥
+one_class_more limits w more within = let few = within.classes in omega (arith, more, few)
+
+one_call_site_more : (limits : Limits) (w : World) → length w.sites.call_sites ≡ limits.call_sites + 1 → IsWithin limits w → ⊥
+one_call_site_more limits w more within = let few = within.call_sites in omega (arith, more, few)
+
+one_switch_more : (limits : Limits) (w : World) → length w.sites.switches ≡ limits.switches + 1 → IsWithin limits w → ⊥
+one_switch_more limits w more within = let few = within.switches in omega (arith, more, few)
+
+-- limits are no fewer than themselves, and one less of a kind is fewer
+no_fewer_than_themselves : (limits : Limits) → AreNoFewer limits limits
+no_fewer_than_themselves limits = record {
+  sites = omega arith;
+  loaders = omega arith;
+  classes = omega arith;
+  call_sites = omega arith;
+  switches = omega arith;
+}
+
+a_site_fewer : (old new : Limits) → old.sites ≡ new.sites + 1 → AreNoFewer old new → ⊥
+a_site_fewer old new less no_fewer = let no_less = no_fewer.sites in omega (arith, less, no_less)
+
+a_loader_fewer : (old new : Limits) → old.loaders ≡ new.loaders + 1 → AreNoFewer old new → ⊥
+a_loader_fewer old new less no_fewer = let no_less = no_fewer.loaders in omega (arith, less, no_less)
+
+a_class_fewer : (old new : Limits) → old.classes ≡ new.classes + 1 → AreNoFewer old new → ⊥
+a_class_fewer old new less no_fewer = let no_less = no_fewer.classes in omega (arith, less, no_less)
+
+a_call_site_fewer : (old new : Limits) → old.call_sites ≡ new.call_sites + 1 → AreNoFewer old new → ⊥
+a_call_site_fewer old new less no_fewer = let no_less = no_fewer.call_sites in omega (arith, less, no_less)
+
+a_switch_fewer : (old new : Limits) → old.switches ≡ new.switches + 1 → AreNoFewer old new → ⊥
+a_switch_fewer old new less no_fewer = let no_less = no_fewer.switches in omega (arith, less, no_less)

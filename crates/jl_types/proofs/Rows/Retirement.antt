@@ -13,7 +13,7 @@ use Rattle.jl_types.specs.declared.link.TableKind.TheVariants as kind
 use Rattle.jl_types.specs.declared.target.CallSiteKind.TheVariants.{Mutable}
 use Rattle.jl_types.specs.Values.Target as target
 use Rattle.jl_types.specs.Events.Event.{Event}
-use Rattle.jl_types.specs.declared.event.EventOf.TheVariants.{NewLoader, Define, Delegate, Request, NewCallSite, NewSwitch, Bind, Install, Retire}
+use Rattle.jl_types.specs.declared.event.EventOf.TheVariants.{NewLoader, Define, Delegate, Request, NewCallSite, NewSwitch, Bind, Install, Retire, RetireAll}
 use Rattle.jl_types.specs.declared.event.Made.TheVariants as made
 use Rattle.jl_types.specs.declared.refusal.Refusal.TheVariants as refusal
 use Rattle.jl_types.specs.declared.refusal.CallSiteFault.TheVariants as call_site
@@ -287,3 +287,110 @@ is_targeted = refl
 -- a class that inherits comes before the loader that records, and that before the target
 recorded_before_targeted : verdict (fixed 65536) (world_after (targeting ++ NewLoader ∷ Delegate 2 (codes "C") 1 ∷ [])) (Retire 1) ≡ Err (refusal.Retire (Recorded 2))
 recorded_before_targeted = refl
+
+-- ---- several at once
+
+may_go_alone : verdict (fixed 65536) (world_after again) (RetireAll (1 ∷ [])) ≡ Ok made.Nothing
+may_go_alone = refl
+
+none_may_go : verdict (fixed 65536) (world_after again) (RetireAll []) ≡ Ok made.Nothing
+none_may_go = refl
+
+none_goes : world_after (again ++ RetireAll [] ∷ []) ≡ world_after again
+none_goes = refl
+
+-- one that comes twice goes once
+twice_may_go : verdict (fixed 65536) (world_after again) (RetireAll (1 ∷ 1 ∷ [])) ≡ Ok made.Nothing
+twice_may_go = refl
+
+goes_once_of_twice : world_after (again ++ RetireAll (1 ∷ 1 ∷ []) ∷ []) ≡ world_after after
+goes_once_of_twice = refl
+
+-- loader 1 is recorded by loader 2, and inherited from by E of loader 2: both go together, in any order, and neither alone
+both_may_go : verdict (fixed 65536) (world_after inheriting) (RetireAll (1 ∷ 2 ∷ [])) ≡ Ok made.Nothing
+both_may_go = refl
+
+both_may_go_turned : verdict (fixed 65536) (world_after inheriting) (RetireAll (2 ∷ 1 ∷ [])) ≡ Ok made.Nothing
+both_may_go_turned = refl
+
+-- loader 1 records E of loader 2, too: neither goes by itself
+abbrev of_each_other : List Event
+of_each_other = inheriting ++ Delegate 1 (codes "E") 2 ∷ []
+
+first_is_held : verdict (fixed 65536) (world_after of_each_other) (Retire 1) ≡ Err (refusal.Retire (Inherited 5))
+first_is_held = refl
+
+second_is_held : verdict (fixed 65536) (world_after of_each_other) (Retire 2) ≡ Err (refusal.Retire (Recorded 1))
+second_is_held = refl
+
+pair_may_go : verdict (fixed 65536) (world_after of_each_other) (RetireAll (1 ∷ 2 ∷ [])) ≡ Ok made.Nothing
+pair_may_go = refl
+
+abbrev without_pair : List Event
+without_pair = of_each_other ++ RetireAll (2 ∷ 1 ∷ []) ∷ []
+
+pair_is_gone : map (is_present (world_after without_pair).classes) (0 ∷ 1 ∷ 2 ∷ 3 ∷ 4 ∷ 5 ∷ []) ≡ true ∷ true ∷ true ∷ true ∷ false ∷ false ∷ []
+pair_is_gone = refl
+
+pair_finds_nothing : map (λ l. lookup (world_after without_pair).classes l object) (0 ∷ 1 ∷ 2 ∷ []) ≡ Some 0 ∷ None ∷ None ∷ []
+pair_finds_nothing = refl
+
+-- both classes below A go with it, and the link of site 0 as with one of them
+pair_keys : keys (world_after of_each_other) (RetireAll (1 ∷ 2 ∷ [])) ≡ Receivers 0 ∷ Receivers 1 ∷ Receivers 4 ∷ Receivers 5 ∷ []
+pair_keys = refl
+
+pair_receivers : receivers (world_after without_pair).classes 1 ≡ 1 ∷ 2 ∷ []
+pair_receivers = refl
+
+pair_link : scratch (world_after without_pair) 0 ≡ Ok (Direct (Run (first 1)))
+pair_link = refl
+
+-- a loader outside the list holds as before
+held_by_another : verdict (fixed 65536) (world_after inheriting_twice) (RetireAll (1 ∷ 3 ∷ [])) ≡ Err (refusal.RetireAll 1 (Inherited 6))
+held_by_another = refl
+
+recorded_by_another : verdict (fixed 65536) (world_after recording_twice) (RetireAll (1 ∷ 2 ∷ [])) ≡ Err (refusal.RetireAll 1 (Recorded 3))
+recorded_by_another = refl
+
+-- the first loader of the list that can't go is told, with its first fault
+first_in_the_list : verdict (fixed 65536) (world_after recording) (RetireAll (0 ∷ 1 ∷ [])) ≡ Err (refusal.RetireAll 0 FirstLoader)
+first_in_the_list = refl
+
+first_in_the_turned_list : verdict (fixed 65536) (world_after recording) (RetireAll (1 ∷ 0 ∷ [])) ≡ Err (refusal.RetireAll 1 (Recorded 2))
+first_in_the_turned_list = refl
+
+later_in_the_list : verdict (fixed 65536) (world_after recording) (RetireAll (2 ∷ 9 ∷ [])) ≡ Err (refusal.RetireAll 9 UnknownLoader)
+later_in_the_list = refl
+
+gone_in_the_list : verdict (fixed 65536) (world_after after) (RetireAll (1 ∷ [])) ≡ Err (refusal.RetireAll 1 UnknownLoader)
+gone_in_the_list = refl
+
+-- a call site holds a loader of the list as it holds one alone
+targeted_in_the_list : verdict (fixed 65536) (world_after (targeting ++ NewLoader ∷ [])) (RetireAll (2 ∷ 1 ∷ [])) ≡ Err (refusal.RetireAll 1 (Targeted 1))
+targeted_in_the_list = refl
+
+-- ---- sites in the classes that go
+
+-- site 1 is C's, of loader 1; E 5 of loader 2 calls A.f at site 2, and both are linked
+abbrev inside_both : List Event
+inside_both = inside
+    ++ NewLoader
+    ∷ Delegate 2 object 0
+    ∷ Delegate 2 (codes "A") 0
+    ∷ defines 2 (codes "A") (codes "E") (calling 9 (codes "run") Virtual (class_ref (codes "A") (codes "f")) ∷ [])
+    ∷ Request (record { class = 5; method = 0; pc = 0 })
+    ∷ Install ((2, Direct (Run (first 1))) ∷ [])
+    ∷ []
+
+both_go_with_their_classes : dropped inside_both (RetireAll (1 ∷ 2 ∷ [])) ≡ 1 ∷ 2 ∷ []
+both_go_with_their_classes = refl
+
+one_left_of_both : left_touched inside_both (RetireAll (1 ∷ 2 ∷ [])) ≡ 0 ∷ []
+one_left_of_both = refl
+
+-- A and B are left to look at, however many go
+one_look_for_both : bound inside_both (RetireAll (1 ∷ 2 ∷ [])) ≡ 2
+one_look_for_both = refl
+
+both_are_gone : map (scratch (world_after (inside_both ++ RetireAll (1 ∷ 2 ∷ []) ∷ []))) (1 ∷ 2 ∷ []) ≡ Err Gone ∷ Err Gone ∷ []
+both_are_gone = refl

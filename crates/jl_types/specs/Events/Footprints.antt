@@ -132,7 +132,8 @@ abbrev pub keys : World → Event → List Key
 keys w (event.Define loader file) = of_class (defined w.classes loader file) (length w.classes.rows)
 keys w (event.SetTarget c t) = key.Target c ∷ []
 keys w (event.Invalidate points) = map key.Valid (still_valid w.sites points)
-keys w (event.Retire loader) = map key.Receivers (losing_receivers w.classes loader)
+keys w (event.Retire loader) = map key.Receivers (losing_receivers w.classes (loader ∷ []))
+keys w (event.RetireAll loaders) = map key.Receivers (losing_receivers w.classes loaders)
 keys w _ = []
 
 -- the event changes something of what the link of site s rests on
@@ -157,18 +158,24 @@ touched h e = filter (λ s. is_some (installed h s) && touches (world_after h) e
 
 -- the event retires the site
 abbrev pub retires : World → Event → ℕ → Bool
-retires w (event.Retire loader) s = retires_site w loader s
+retires w (event.Retire loader) s = retires_site w (loader ∷ []) s
+retires w (event.RetireAll loaders) s = retires_site w loaders s
 retires w _ s = false
 
 -- the touched sites that the event doesn't retire
 abbrev pub left_touched : List Event → Event → List ℕ
 left_touched h e = filter (λ s. not (retires (world_after h) e s)) (touched h e)
 
+-- by the receivers that the event leaves
+abbrev pub most_left : List Event → Event → ℕ
+most_left h e = sum_by (most_for (step (world_after h) e)) (left_touched h e)
+
 -- An install looks up the link of each row, and a retirement those of the touched sites that are left, by the receivers that are
 -- left. Any other event compares those of the touched sites, with one evaluation each.
 abbrev pub bound : List Event → Event → ℕ
 bound h (event.Install rows) = sum_by (λ row. most_for (world_after h) row.0) rows
-bound h (event.Retire loader) = sum_by (most_for (step (world_after h) (event.Retire loader))) (left_touched h (event.Retire loader))
+bound h (event.Retire loader) = most_left h (event.Retire loader)
+bound h (event.RetireAll loaders) = most_left h (event.RetireAll loaders)
 bound h e = length (touched h e)
 
 -- ---- one receiver more

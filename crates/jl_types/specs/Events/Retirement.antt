@@ -1,6 +1,7 @@
--- The retirement of a loader with all that it has defined (JLS 12.7, JVMS 5.3): a class goes only with its defining loader.
-use Rattle.std.specs.Prelude.{ℕ, Bool, false, not, ◌&&◌, ◌||◌, ◌==◌, List, [], ◌∷◌, ◌++◌, find, filter, position, length, slice_get, slice_set}
-use Rattle.std.specs.Prelude.{Option, option_map}
+-- The retirement of loaders with all that they have defined (JLS 12.7, JVMS 5.3): a class goes only with its defining loader. Loaders
+-- that go at once may need each other.
+use Rattle.std.specs.Prelude.{◌≡◌, ℕ, Bool, true, false, not, ◌&&◌, ◌||◌, ◌==◌, List, [], ◌∷◌, ◌++◌, find, filter, fold, position, length}
+use Rattle.std.specs.Prelude.{slice_get, slice_set, Option, None, option_map, if◌then◌else◌}
 use Rattle.std.specs.Option.{option_map_or}
 use Rattle.std.specs.List.{list_any, range_with_len}
 use Rattle.std.specs.Bool.{then_some}
@@ -13,19 +14,29 @@ use Rattle.jl_types.specs.Values.Ancestry.{ancestors, receivers}
 use Rattle.jl_types.specs.Linkage.Resolution.{first_of}
 use Rattle.jl_types.specs.Events.Definitions.{is_unknown}
 
+-- the loader is one of these
+abbrev pub is_listed : List ℕ → ℕ → Bool
+is_listed loaders loader = list_any (λ l. l == loader) loaders
+
 -- the loader has defined the class
 abbrev pub is_of : Classes → ℕ → ℕ → Bool
 is_of cs loader c = class_test (λ row. row.loader == loader) cs c
 
--- ---- why a loader isn't retired
+-- one of the loaders has defined the class
+abbrev pub is_of_any : Classes → List ℕ → ℕ → Bool
+is_of_any cs loaders c = class_test (λ row. is_listed loaders row.loader) cs c
 
--- x is a present class of another loader, and has an ancestor of this one
-abbrev pub inherits_from : Classes → ℕ → ℕ → Bool
-inherits_from cs loader x = is_present cs x && (not (is_of cs loader x) && list_any (is_of cs loader) (ancestors cs.rows x))
+-- ---- why a loader isn't retired, where all of these go at once
 
--- k is another loader, and records a class of this one; a retired one records none
-abbrev pub records_from : Classes → ℕ → ℕ → Bool
-records_from cs loader k = not (k == loader) && option_map_or (list_any (λ r. is_of cs loader r.1)) (slice_get cs.loaders k) false
+-- x is a present class of a loader that stays, and has an ancestor of this one
+abbrev pub inherits_from : Classes → List ℕ → ℕ → ℕ → Bool
+inherits_from cs loaders loader x =
+    is_present cs x && (not (is_of_any cs loaders x) && list_any (is_of cs loader) (ancestors cs.rows x))
+
+-- k is a loader that stays, and records a class of this one; a retired one records none
+abbrev pub records_from : Classes → List ℕ → ℕ → ℕ → Bool
+records_from cs loaders loader k =
+    not (is_listed loaders k) && option_map_or (list_any (λ r. is_of cs loader r.1)) (slice_get cs.loaders k) false
 
 -- the target names a method of a class of the loader, be it on a side that isn't taken
 abbrev pub names_from : Classes → ℕ → Target → Bool
@@ -34,12 +45,12 @@ names_from cs loader (Guard p first fallback) = names_from cs loader first || na
 names_from cs loader (Invoker c) = false
 
 -- the first fault of the classes alone; of one kind, that of the least class or loader
-abbrev pub classes_fault : Classes → ℕ → Option RetireFault
-classes_fault cs loader = first_of (
+abbrev pub classes_fault : Classes → List ℕ → ℕ → Option RetireFault
+classes_fault cs loaders loader = first_of (
     then_some (is_unknown cs loader) UnknownLoader
     ∷ then_some (loader == 0) FirstLoader
-    ∷ option_map Inherited (find (inherits_from cs loader) (numbers cs))
-    ∷ option_map Recorded (find (records_from cs loader) (range_with_len 0 (length cs.loaders)))
+    ∷ option_map Inherited (find (inherits_from cs loaders loader) (numbers cs))
+    ∷ option_map Recorded (find (records_from cs loaders loader) (range_with_len 0 (length cs.loaders)))
     ∷ [])
 
 -- the least call site with such a target
@@ -47,22 +58,34 @@ abbrev pub targeted : Classes → List CallSite → ℕ → Option ℕ
 targeted cs call_sites loader = position (λ site. names_from cs loader site.target) call_sites
 
 -- the first fault
-abbrev pub retire_fault : World → ℕ → Option RetireFault
-retire_fault w loader = first_of (
-    classes_fault w.classes loader
+abbrev pub retire_fault : World → List ℕ → ℕ → Option RetireFault
+retire_fault w loaders loader = first_of (
+    classes_fault w.classes loaders loader
     ∷ option_map Targeted (targeted w.classes w.sites.call_sites loader)
     ∷ [])
 
+-- by the classes alone, nothing speaks against a retirement of all of these at once
+abbrev pub MayRetire : Classes → List ℕ → Type 0
+MayRetire cs loaders = (l : ℕ) → is_listed loaders l ≡ true → classes_fault cs loaders l ≡ None
+
 -- ---- what is left
 
--- the loader finds nothing any more, and is gone with its classes
-abbrev pub retired : Classes → ℕ → Classes
-retired cs loader = record cs { loaders = slice_set cs.loaders loader []; retired = cs.retired ++ loader ∷ [] }
+-- these loaders find nothing any more
+abbrev pub emptied : List (List (List ℕ × ℕ)) → List ℕ → List (List (List ℕ × ℕ))
+emptied found loaders = fold (λ left l. slice_set left l []) found loaders
 
--- the classes that lose a receiver, by rising number: the ancestors of the loader's classes that objects may be of
-abbrev pub losing_receivers : Classes → ℕ → List ℕ
-losing_receivers cs loader = filter (λ c. list_any (is_of cs loader) (receivers cs c)) (numbers cs)
+-- each of the loaders is among the retired ones, once
+abbrev pub gone_with : List ℕ → List ℕ → List ℕ
+gone_with gone loaders = fold (λ gone l. if is_listed gone l then gone else gone ++ l ∷ []) gone loaders
 
--- the class of site s is one of the loader's
-abbrev pub retires_site : World → ℕ → ℕ → Bool
-retires_site w loader s = option_map_or (λ place. is_of w.classes loader place.class) (slice_get w.places s) false
+-- the loaders find nothing any more, and are gone with their classes
+abbrev pub retired : Classes → List ℕ → Classes
+retired cs loaders = record cs { loaders = emptied cs.loaders loaders; retired = gone_with cs.retired loaders }
+
+-- the classes that lose a receiver, by rising number: the ancestors of the loaders' classes that objects may be of
+abbrev pub losing_receivers : Classes → List ℕ → List ℕ
+losing_receivers cs loaders = filter (λ c. list_any (is_of_any cs loaders) (receivers cs c)) (numbers cs)
+
+-- the class of site s is one of the loaders'
+abbrev pub retires_site : World → List ℕ → ℕ → Bool
+retires_site w loaders s = option_map_or (λ place. is_of_any w.classes loaders place.class) (slice_get w.places s) false

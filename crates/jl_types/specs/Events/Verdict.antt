@@ -26,7 +26,7 @@ use Rattle.jl_types.specs.declared.refusal.SitesFault.TheVariants as sites
 use Rattle.jl_types.specs.declared.refusal.Refusal.{Refusal}
 use Rattle.jl_types.specs.declared.refusal.Refusal.TheVariants.{Define, UnknownClass, NoSuchPlace, NotLinkable, SitesFull, CallSite, NotDynamic}
 use Rattle.jl_types.specs.declared.refusal.Refusal.TheVariants.{AlreadyBound, TypeMismatch, Stale, NotReady, UnknownSite, Repeated, BatchSize}
-use Rattle.jl_types.specs.declared.refusal.Refusal.TheVariants.{Delegate, LoadersFull, Retire}
+use Rattle.jl_types.specs.declared.refusal.Refusal.TheVariants.{Delegate, LoadersFull, Retire, RetireAll}
 use Rattle.jl_types.specs.Linkage.Links.{same_link}
 use Rattle.jl_types.specs.Values.World.{World, Classes, CallSite as CallSiteRow}
 use Rattle.jl_types.specs.Values.Target.{Target}
@@ -160,6 +160,12 @@ pub record Accepts (w : World) (rows : List (ℕ × Link)) : Type 0 where
   pub once : AllPairs (λ a b. a.0 ≢ b.0) rows
   pub present : All (λ row. scratch w row.0 ≡ Ok row.1) rows
 
+-- ---- a retirement of several loaders at once
+
+-- the fault of the first loader that may not go with the others
+abbrev pub retire_all_fault : World → List ℕ → Option Refusal
+retire_all_fault w loaders = first_of (map (λ l. option_map (RetireAll l) (retire_fault w loaders l)) loaders)
+
 -- ---- the verdict on an event, where a linker has these limits: the first refusal, else what it makes
 
 abbrev pub verdict : Limits → World → Event → Result Made Refusal
@@ -180,7 +186,8 @@ verdict limits w event.NewSwitch =
 verdict limits w (event.Invalidate points) = unless (option_map CallSite (invalidate_fault w points)) made.Nothing
 verdict limits w (event.Bind s c) = unless (bind_fault w s c (slice_get w.places s)) made.Nothing
 verdict limits w (event.Install rows) = unless (install_fault w rows) made.Nothing
-verdict limits w (event.Retire loader) = unless (option_map Retire (retire_fault w loader)) made.Nothing
+verdict limits w (event.Retire loader) = unless (option_map Retire (retire_fault w (loader ∷ []) loader)) made.Nothing
+verdict limits w (event.RetireAll loaders) = unless (retire_all_fault w loaders) made.Nothing
 
 -- ---- the world after an event
 
@@ -205,4 +212,5 @@ step w event.NewSwitch = with_switches w (w.sites.switches ++ true ∷ [])
 step w (event.Invalidate points) = with_switches w (invalidated w.sites.switches points)
 step w (event.Bind s c) = record w { bindings = w.bindings ++ (s, c) ∷ [] }
 step w (event.Install rows) = w
-step w (event.Retire loader) = with_classes w (retired w.classes loader)
+step w (event.Retire loader) = with_classes w (retired w.classes (loader ∷ []))
+step w (event.RetireAll loaders) = with_classes w (retired w.classes loaders)
