@@ -107,7 +107,7 @@ module _ (w : World) (ks : List Key) (told : Accepted) (loaders : List ℕ) (is 
         few_in_sum (most_for w) (λ s. few_by w.classes few (footprint w s)) (touched_by near ks) in
         let fewer : length (touched_by near ks) ≤ length (touched_by index ks) =
         subst (λ (ts : List ℕ). length ts ≤ length (touched_by index ks)) (sym touched_are)
-            (no_more (λ s. not (retires_site w loaders s)) (touched_by index ks))
+        (no_more (λ s. not (retires_site w loaders s)) (touched_by index ks))
         in
         let some = few_touched led.before links index led.sound led.event in
         let same : length (touched_by index ks) ≡ length (touched_by index (keys led.before led.event)) =
