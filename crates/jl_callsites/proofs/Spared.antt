@@ -1,8 +1,10 @@
 -- What no target names holds no loader.
-use Rattle.std.specs.Prelude.{◌≡◌, ℕ, suc, Bool, true, false, cond, ◌||◌, List, [], ◌∷◌, Some, None, option_map}
+use Rattle.std.specs.Prelude.{◌≡◌, ℕ, true, false, List, [], ◌∷◌, get_or, Option, Some, None}
 use Rattle.std.specs.List.{list_any}
-use Rattle.std.proofs.Common.{refl, ap}
+use Rattle.std.proofs.Common.{refl, inl, inr}
 use Rattle.std.proofs.lemmas.Bool.{both_ways, or_cases, or_left, or_right}
+use Rattle.std.proofs.lemmas.List.Folds.{list_any_at}
+use Rattle.std.proofs.lemmas.List.Quantifiers.{position-Some}
 use Rattle.jl_types.specs.Values.Target.{Target, Method, Guard, Invoker}
 use Rattle.jl_types.specs.Values.World.{Classes, CallSite}
 use Rattle.jl_types.specs.Events.Retirement.{is_listed, names_from, targeted}
@@ -21,21 +23,11 @@ module _ (cs : Classes) (loaders : List ℕ) (l : ℕ) (there : is_listed loader
   -- where no target names a class of one of the loaders, none holds this one
   pub spared : (sites : List CallSite) → list_any (λ site. names_any cs loaders site.target) sites ≡ false → targeted cs sites l ≡ None
   spared [] none = refl
-  spared (site ∷ sites) none = by_test (names_from cs l site.target) refl none (spared sites)
+  spared (first ∷ sites) none = by_place (targeted cs (first ∷ sites) l) refl
     where
-      second : (a b : Bool) → (a || b) ≡ false → b ≡ false
-      second true b e = cc
-      second false b e = e
-
-      by_test : (b : Bool) → names_from cs l site.target ≡ b
-          → (names_any cs loaders site.target || list_any (λ site. names_any cs loaders site.target) sites) ≡ false
-          → (list_any (λ site. names_any cs loaders site.target) sites ≡ false → targeted cs sites l ≡ None)
-          → targeted cs (site ∷ sites) l ≡ None
-      by_test true is none rest =
-          absurd (both_ways (names_any cs loaders site.target || list_any (λ site. names_any cs loaders site.target) sites) none
-          (or_left (names_any cs loaders site.target) (list_any (λ site. names_any cs loaders site.target) sites) (any_named site.target is)))
-      by_test false is none rest = not_here (names_from cs l site.target) is (rest (second (names_any cs loaders site.target) _ none))
-        where
-          not_here : (b : Bool) → b ≡ false → targeted cs sites l ≡ None → cond b (Some 0) (option_map suc (targeted cs sites l)) ≡ None
-          not_here true e h = cc
-          not_here false e h = ap (option_map suc) h
+      by_place : (o : Option ℕ) → targeted cs (first ∷ sites) l ≡ o → o ≡ None
+      by_place None at = refl
+      by_place (Some i) at =
+          let one = position-Some (λ (site : CallSite). names_from cs l site.target) (first ∷ sites) i first at in
+          absurd (both_ways (list_any (λ site. names_any cs loaders site.target) (first ∷ sites)) none
+          (list_any_at (λ (site : CallSite). names_any cs loaders site.target) (first ∷ sites) i first one.0 (any_named (get_or (first ∷ sites) i first).target one.1)))

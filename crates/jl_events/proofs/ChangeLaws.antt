@@ -1,5 +1,5 @@
 -- What an accepted event finds there.
-use Rattle.std.specs.Prelude.{◌≡◌, ℕ, ◌<◌, ◌^◌, true, false, nat_le, List, length, slice_get, Option, None, option_map, Ok, IsOk}
+use Rattle.std.specs.Prelude.{◌≡◌, ℕ, ◌<◌, ◌^◌, true, false, nat_le, List, [], ◌∷◌, length, slice_get, Option, None, option_map, Ok, IsOk}
 use Rattle.std.specs.Bool.{then_some}
 use Rattle.std.specs.List.{list_any}
 use Rattle.std.proofs.Common.{refl, ap, sym, ◌∙◌, arith}

@@ -171,12 +171,13 @@ fn retirement_refusal(alloc: Global, world: &World, loaders: &[LoaderId]) -> Opt
 fn may_all_go(alloc: Global, world: &World, loaders: &[LoaderId]) -> bool
     ensures { result ≡ true → retire_all_fault world.now loaders.now ≡ None }
 {
-    match Leaving::new(alloc, loaders) {
-        Ok(leaving) => {
-            world.classes.spares(&leaving) && world.sites.spares(&world.classes, &leaving)
-        }
-        Err(_) => false,
+    let Ok(leaving) = Leaving::new(alloc, loaders) else {
+        return false;
+    };
+    if world.classes.spares(&leaving) {
+        return world.sites.spares(&world.classes, &leaving);
     }
+    false
 }
 
 /// The refusal of the first of the loaders that can't go with the others.

@@ -11,11 +11,11 @@ use Rattle.jl_events.proofs.changes.retire_loader.Goals as goal
 
 pub retire-requires : goal.retire-requires
 retire-requires c =
-    subst (MayRetire c.world.inside.classes) (sym c.from_ref.ensures)
+    subst (MayRetire c.world.inside.classes) (sym c.from_ref.ensures.value)
     (subst (λ (w : World). MayRetire w.classes (c.args.loader ∷ [])) (sym c.world.view_is) (retirement_free c.args.world.now c.args.loader c.requires))
 
-is_retired : (c : goal.After-in_ok-retire) → c.retire.new.self ≡ retired c.world.inside.classes (c.args.loader ∷ [])
-is_retired c = c.in_ok-retire.ensures.ok ∙ ap (retired c.world.inside.classes) c.from_ref.ensures
+is_retired : (c : goal.In_ok-retire) → c.retire.new.self ≡ retired c.world.inside.classes (c.args.loader ∷ [])
+is_retired c = c.in_ok-retire.ensures.ok ∙ ap (retired c.world.inside.classes) c.from_ref.ensures.value
 
 pub returns : goal.returns
 returns c = record {
