@@ -178,7 +178,8 @@ module _ (k : Flags) (w : World) (rests : Rests k w) where
     few_switches = rests.few_switches;
     first = rests.first;
     gone = λ l none. retired_after w.classes loaders l ∙ or_left (is_retired w.classes l) _ (rests.gone l none);
-    present = λ c is. rests.present c (first_test (is_present w.classes c) (not (is_of_any w.classes loaders c)) (sym (present_after w.classes loaders c) ∙ is));
+    present = λ c is. rests.present c
+        (first_test (is_present w.classes c) (not (is_of_any w.classes loaders c)) (sym (present_after w.classes loaders c) ∙ is));
     owned = rests.owned;
     recorded = λ l m records e at. elim (emptied_at w.classes.loaders loaders l records at) [
       | inl before ↦ rests.recorded l m records e before

@@ -255,7 +255,8 @@ module _ (k : Flags) (w : World) (rests : Rests k w) (fit : IsFit w) (closed : I
               (any-range-from (λ b. b == a.0) 0 (x.0 + 1) a.0 (omega arith) (omega (arith, le)) (nat_eq_equiv.refl a.0)) is theirs in
               let within = passes_within (λ row. not (is_retired cs row.loader)) cs.rows x.0 present in
               absurd (both_ways (inherits_from cs loaders l x.0)
-              (none_in_range (inherits_from cs loaders l) (length cs.rows) x.0 (none_mapped Inherited (find (inherits_from cs loaders l) (numbers cs)) inherited.0) within)
+              (none_in_range (inherits_from cs loaders l) (length cs.rows) x.0
+              (none_mapped Inherited (find (inherits_from cs loaders l) (numbers cs)) inherited.0) within)
               (and_from (is_present cs x.0) _ present (and_from (not (is_of_any cs loaders x.0)) _ other listed)))
 
       -- ---- no loader that stays records a class of this one
@@ -301,7 +302,8 @@ module _ (k : Flags) (w : World) (rests : Rests k w) (fit : IsFit w) (closed : I
           by_records i e (Some records) is =
               same_tests i e records is
               ∙ none_in_range (records_from cs loaders l) (length cs.loaders) i
-              (none_mapped Recorded (find (records_from cs loaders l) (range_with_len 0 (length cs.loaders))) recorded) (slice_get_within cs.loaders i records is)
+              (none_mapped Recorded (find (records_from cs loaders l) (range_with_len 0 (length cs.loaders))) recorded)
+              (slice_get_within cs.loaders i records is)
 
       -- ---- the classes have no fault
 
@@ -354,7 +356,9 @@ module _ (k : Flags) (w : World) (rests : Rests k w) (fit : IsFit w) (closed : I
           names_same i site.ty site.target part.0 ∙ unnamed i site is
 
       still_untargeted : targeted ds v.sites.call_sites m ≡ None
-      still_untargeted = position_none (λ site. names_from ds m site.target) v.sites.call_sites none_like (none_named k.call_sites w.sites.call_sites target_names)
+      still_untargeted =
+          position_none (λ site. names_from ds m site.target) v.sites.call_sites none_like
+          (none_named k.call_sites w.sites.call_sites target_names)
         where
           none_like : CallSite
           none_like = record { kind = Constant; ty = []; target = Invoker 0 }
