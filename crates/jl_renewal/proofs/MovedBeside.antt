@@ -27,6 +27,7 @@ use Rattle.jl_types.specs.Values.Members.{lookup, is_present, is_retired}
 use Rattle.jl_types.specs.Linkage.Stages.{invocation_at}
 use Rattle.jl_types.specs.Events.Event.{Event}
 use Rattle.jl_types.specs.Events.Definitions.{with_record, class_made}
+use Rattle.jl_types.specs.Events.Retirement.{emptied}
 use Rattle.jl_types.specs.Events.Limits.{AreNoFewer}
 use Rattle.jl_types.specs.Events.Verdict.{verdict, step, unless, same_place, request_place, if_invoked, new_place_fault}
 use Rattle.jl_types.specs.Events.History.{world_after, dropped}

@@ -82,9 +82,6 @@ front_some [] ys r is = cc
 front_some (None ∷ xs) ys r is = front_some xs ys r is
 front_some (Some x ∷ xs) ys r is = is
 
-pub none_refused : (a b : Option Refusal) → a ≡ None → b ≡ None → first_of (a ∷ b ∷ []) ≡ None
-none_refused a b first second = λ i. first_of (first i ∷ second i ∷ [])
-
 -- ---- all of them
 
 module _ (limits : Limits) (w : World) (released : Released) where
