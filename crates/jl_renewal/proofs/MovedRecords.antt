@@ -238,11 +238,11 @@ known_step limits w event.NewSwitch all accepted l is = all l is
 known_step limits w (event.Invalidate points) all accepted l is = all l is
 known_step limits w (event.Bind s c) all accepted l is = all l is
 known_step limits w (event.Install rows) all accepted l is = all l is
-known_step limits w (event.Retire loader) all accepted =
+known_step limits w (event.Retire loader) all accepted l is =
     known_retired w (loader ∷ []) all
-    (may_retire w (loader ∷ []) (one_free w loader (no_fault refusal.Retire (retire_fault w (loader ∷ []) loader) _ accepted)))
-known_step limits w (event.RetireAll loaders) all accepted =
-    known_retired w loaders all (may_retire w loaders (all_free w loaders (no_refusal (retire_all_fault w loaders) made.Nothing accepted)))
+    (may_retire w (loader ∷ []) (one_free w loader (no_fault refusal.Retire (retire_fault w (loader ∷ []) loader) _ accepted))) l is
+known_step limits w (event.RetireAll loaders) all accepted l is =
+    known_retired w loaders all (may_retire w loaders (all_free w loaders (no_refusal (retire_all_fault w loaders) made.Nothing accepted))) l is
 
 pub known_after : (limits : Limits) (h : List Event) → AllAccepted limits h → AreKnown (world_after h).classes
 known_after limits h all =

@@ -45,12 +45,12 @@ record_length loaders l name c = by_loader (slice_get loaders l)
 
 -- a loader finds what it found, or nothing
 emptied_at : (found : List Records) (loaders : List ℕ) (k : ℕ) (records : Records) → slice_get (emptied found loaders) k ≡ Some records
-    → (slice_get found k ≡ Some records) ⊎ ([] ≡ records)
+    → (slice_get found k ≡ Some records) ⊎ (records ≡ [])
 emptied_at found [] k records at = inl at
 emptied_at found (l ∷ loaders) k records at = by_rest (emptied_at (slice_set found l []) loaders k records at)
   where
-    by_rest : (slice_get (slice_set found l []) k ≡ Some records) ⊎ ([] ≡ records) → (slice_get found k ≡ Some records) ⊎ ([] ≡ records)
-    by_rest (inl before) = elim (set_at found l [] k records before) [ inl first ↦ inl first | inr new ↦ inr new.1 ]
+    by_rest : (slice_get (slice_set found l []) k ≡ Some records) ⊎ (records ≡ []) → (slice_get found k ≡ Some records) ⊎ (records ≡ [])
+    by_rest (inl before) = elim (set_at found l [] k records before) [ inl first ↦ inl first | inr new ↦ inr (sym new.1) ]
     by_rest (inr new) = inr new
 
 none_is : (o : Option ℕ) → is_some o ≡ true → is_none o ≡ false
@@ -183,7 +183,7 @@ module _ (k : Flags) (w : World) (rests : Rests k w) where
     owned = rests.owned;
     recorded = λ l m records e at. elim (emptied_at w.classes.loaders loaders l records at) [
       | inl before ↦ rests.recorded l m records e before
-      | inr new ↦ subst (λ (rs : Records). list_any (λ r. is_none (moved k.classes r.1)) rs ≡ false) new refl
+      | inr new ↦ subst (λ (rs : Records). list_any (λ r. is_none (moved k.classes r.1)) rs ≡ false) (sym new) refl
     ];
     sites = rests.sites;
   }
