@@ -15,7 +15,6 @@ use Rattle.jl_types.specs.declared.limits.Limits.{Limits}
 use Rattle.jl_class.specs.Class.{ClassFile}
 use Rattle.jl_types.specs.declared.event.EventOf.TheVariants as event
 use Rattle.jl_types.specs.declared.event.Made.{Made}
-use Rattle.jl_types.specs.declared.event.Made.TheVariants as made
 use Rattle.jl_types.specs.declared.refusal.Refusal.{Refusal}
 use Rattle.jl_types.specs.declared.refusal.Refusal.TheVariants as refusal
 use Rattle.jl_types.specs.declared.refusal.DelegateFault.TheVariants as delegate
@@ -23,18 +22,17 @@ use Rattle.jl_types.specs.Values.World.{World, Class, Classes, nothing_yet}
 use Rattle.jl_types.specs.Values.Members.{lookup, recorded, is_present, is_retired}
 use Rattle.jl_types.specs.Linkage.Resolution.{first_of}
 use Rattle.jl_types.specs.Events.Event.{Event}
-use Rattle.jl_types.specs.Events.Verdict.{verdict, retire_all_fault, step, unless, with_classes}
+use Rattle.jl_types.specs.Events.Verdict.{verdict, step, unless, with_classes}
 use Rattle.jl_types.specs.Events.History.{world_after}
 use Rattle.jl_types.specs.Events.Definitions.{define_fault, class_made, delegate_fault, delegated, is_unknown, with_record}
-use Rattle.jl_types.specs.Events.Retirement.{is_listed, retire_fault, retired, MayRetire}
+use Rattle.jl_types.specs.Events.Retirement.{is_listed, retired, MayRetire}
 use Rattle.jl_types.proofs.Firsts.{first_none, test_none}
 use Rattle.jl_types.proofs.Lists.{at_end, element_at}
 use Rattle.jl_types.proofs.Orders.{world_good, looked_up}
 use Rattle.jl_types.proofs.Places.{world_more}
-use Rattle.jl_types.proofs.Retiring.{retired_after, one_free, all_free, may_retire, is_free as free_to_retire}
+use Rattle.jl_types.proofs.Retiring.{retired_after, may_retire, is_free as free_to_retire}
 use Rattle.jl_hierarchy.specs.Constancy.{IsClosed}
-use Rattle.jl_events.proofs.CallSiteLaws.{no_fault as no_refusal}
-use Rattle.jl_relink.proofs.Closing.{no_fault}
+use Rattle.jl_relink.proofs.Closing.{no_fault, free_loader, free_loaders}
 use Rattle.jl_memo.proofs.Staying.{StaysOn, all_events}
 use Rattle.jl_renewal.specs.declared.released.Released.{Released}
 use Rattle.jl_renewal.specs.Numbers.{Numbers, new_number, renumbered, how_many}
@@ -441,17 +439,17 @@ module _ (old_limits : Limits) (h : List Event) (released : Released) (closed : 
   retire_step : (front : List Event) (l : ℕ) (rest : List Event) → h ≡ front ++ event.Retire l ∷ rest
       → OneStep limits (G front) None (G (front ++ event.Retire l ∷ []))
   retire_step front l rest split =
-      let none = no_fault refusal.Retire (retire_fault (world_after front) (l ∷ []) l) _ (accepted front (event.Retire l) rest split) in
+      let free = free_loader old_limits (world_after front) l (accepted front (event.Retire l) rest split) in
       leaves front (event.Retire l) rest split
-      (retired_leaves front (l ∷ []) (may_retire (world_after front) (l ∷ []) (one_free (world_after front) l none))
+      (retired_leaves front (l ∷ []) (may_retire (world_after front) (l ∷ []) free)
       (on_next front (event.Retire l) rest split) (fewer front (event.Retire l) rest split))
 
   retire_all_step : (front : List Event) (loaders : List ℕ) (rest : List Event) → h ≡ front ++ event.RetireAll loaders ∷ rest
       → OneStep limits (G front) None (G (front ++ event.RetireAll loaders ∷ []))
   retire_all_step front loaders rest split =
-      let none = no_refusal (retire_all_fault (world_after front) loaders) made.Nothing (accepted front (event.RetireAll loaders) rest split) in
+      let free = free_loaders old_limits (world_after front) loaders (accepted front (event.RetireAll loaders) rest split) in
       leaves front (event.RetireAll loaders) rest split
-      (retired_leaves front loaders (may_retire (world_after front) loaders (all_free (world_after front) loaders none))
+      (retired_leaves front loaders (may_retire (world_after front) loaders free)
       (on_next front (event.RetireAll loaders) rest split) (fewer front (event.RetireAll loaders) rest split))
 
   loader_step : (front rest : List Event) → h ≡ front ++ event.NewLoader ∷ rest → OneStep limits (G front) None (G (front ++ event.NewLoader ∷ []))

@@ -8,22 +8,22 @@ use Rattle.std.proofs.lemmas.Option.{slice_get_within, get_or_from_slice_get}
 use Rattle.jl_types.specs.declared.limits.Limits.{Limits}
 use Rattle.jl_types.specs.declared.event.EventOf.TheVariants as event
 use Rattle.jl_types.specs.declared.event.Made.TheVariants as made
-use Rattle.jl_types.specs.declared.refusal.Refusal.TheVariants.{Define, CallSite, Retire}
+use Rattle.jl_types.specs.declared.refusal.Refusal.TheVariants.{Define, CallSite}
 use Rattle.jl_types.specs.Values.Target.{Target, Method, Guard, Invoker}
 use Rattle.jl_types.specs.Values.World.{World, CallSite as CallSiteRow, nothing_yet}
 use Rattle.jl_types.specs.Events.Definitions.{define_fault}
-use Rattle.jl_types.specs.Events.Retirement.{is_listed, is_of, is_of_any, names_from, retire_fault, retired}
+use Rattle.jl_types.specs.Events.Retirement.{is_listed, is_of, is_of_any, names_from, retired}
 use Rattle.jl_types.specs.Events.Event.{Event}
-use Rattle.jl_types.specs.Events.Verdict.{new_call_site_fault, set_target_fault, invalidated, bind_fault, retire_all_fault, verdict, step, with_classes}
+use Rattle.jl_types.specs.Events.Verdict.{new_call_site_fault, set_target_fault, invalidated, bind_fault, verdict, step, with_classes}
 use Rattle.jl_types.specs.Events.History.{world_after}
 use Rattle.jl_types.proofs.Lists.{element_at}
 use Rattle.jl_types.proofs.Orders.{IsGood, world_good}
 use Rattle.jl_types.proofs.Places.{world_more}
-use Rattle.jl_types.proofs.Retiring.{present_after, one_of_any, AreFree, one_free, all_free, untargeted}
+use Rattle.jl_types.proofs.Retiring.{present_after, one_of_any, AreFree, untargeted}
 use Rattle.jl_hierarchy.proofs.Closed.{present_still}
 use Rattle.jl_events.proofs.AcceptedLaws.{rows_stay}
 use Rattle.jl_events.proofs.CallSiteLaws.{no_fault as no_refusal}
-use Rattle.jl_relink.proofs.Closing.{no_fault}
+use Rattle.jl_relink.proofs.Closing.{no_fault, free_loader, free_loaders}
 use Rattle.jl_relink.proofs.Paths.{invalidated_length}
 use Rattle.jl_renewal.proofs.Fit.{AllAccepted, IsFit}
 use Rattle.jl_renewal.proofs.FitParts.{OfClasses, StaysPresent, of_all, none_placed}
@@ -101,9 +101,9 @@ fit_step limits w (event.Bind s c) good fit accepted =
     bind_fit w fit s c (no_refusal (bind_fault w s c (slice_get w.places s)) made.Nothing accepted)
 fit_step limits w (event.Install rows) good fit accepted = fit
 fit_step limits w (event.Retire loader) good fit accepted =
-    retired_fit w (loader ∷ []) good fit (one_free w loader (no_fault Retire (retire_fault w (loader ∷ []) loader) _ accepted))
+    retired_fit w (loader ∷ []) good fit (free_loader limits w loader accepted)
 fit_step limits w (event.RetireAll loaders) good fit accepted =
-    retired_fit w loaders good fit (all_free w loaders (no_refusal (retire_all_fault w loaders) made.Nothing accepted))
+    retired_fit w loaders good fit (free_loaders limits w loaders accepted)
 
 -- ---- all events
 

@@ -8,7 +8,6 @@ use Rattle.std.proofs.lemmas.Cmp.{nat_eq_equiv}
 use Rattle.std.proofs.lemmas.Option.{slice_get_within}
 use Rattle.jl_types.specs.declared.limits.Limits.{Limits}
 use Rattle.jl_types.specs.declared.event.EventOf.TheVariants as event
-use Rattle.jl_types.specs.declared.event.Made.TheVariants as made
 use Rattle.jl_types.specs.declared.refusal.CallSiteFault.TheVariants as fault
 use Rattle.jl_types.specs.declared.refusal.Refusal.TheVariants.{CallSite}
 use Rattle.jl_types.specs.Values.Target.{Target, Method, Guard, Invoker}
@@ -17,11 +16,10 @@ use Rattle.jl_types.specs.Values.Members.{is_retired}
 use Rattle.jl_types.specs.Events.Event.{Event}
 use Rattle.jl_types.specs.Events.Definitions.{is_unknown}
 use Rattle.jl_types.specs.Events.Retirement.{is_listed}
-use Rattle.jl_types.specs.Events.Verdict.{verdict, invalidate_fault, retire_all_fault}
+use Rattle.jl_types.specs.Events.Verdict.{verdict, invalidate_fault}
 use Rattle.jl_types.proofs.Firsts.{test_none}
-use Rattle.jl_types.proofs.Retiring.{all_free, may_retire, is_free as free_to_retire}
-use Rattle.jl_events.proofs.CallSiteLaws.{no_fault as no_refusal}
-use Rattle.jl_relink.proofs.Closing.{no_fault}
+use Rattle.jl_types.proofs.Retiring.{may_retire, is_free as free_to_retire}
+use Rattle.jl_relink.proofs.Closing.{no_fault, free_loaders}
 use Rattle.jl_renewal.specs.Numbers.{Numbers, new_number}
 use Rattle.jl_renewal.specs.Carries.{carried, carried_target, guarded}
 use Rattle.jl_renewal.specs.Moved.{Flags, moved, target_there, event_there, numbers_there, all_numbers}
@@ -128,6 +126,6 @@ module _ (k : Flags) (w : World) where
       let l = inv_map event.Retire (new_number n.loaders loader) f e in
       ap (option_map event.Retire) (loader_there loader l.0 l.1) ∙ ap Some l.2
   event_is_there limits (event.RetireAll loaders) f ok e =
-      let free = all_free w loaders (no_refusal (retire_all_fault w loaders) made.Nothing ok) in
-      let there = known_there loaders (free_to_retire w.classes loaders (may_retire w loaders free)).known in
+      let free = free_to_retire w.classes loaders (may_retire w loaders (free_loaders limits w loaders ok)) in
+      let there = known_there loaders free.known in
       ap (λ (ls : List ℕ). Some (event.RetireAll ls)) (sym (all_there k.loaders (length w.classes.loaders) loaders there)) ∙ e

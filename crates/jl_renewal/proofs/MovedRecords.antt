@@ -13,24 +13,22 @@ use Rattle.std.proofs.lemmas.Option.{same_Some, slice_get_within, get_or_from_sl
 use Rattle.jl_types.specs.declared.limits.Limits.{Limits}
 use Rattle.jl_class.specs.Class.{ClassFile}
 use Rattle.jl_types.specs.declared.event.EventOf.TheVariants as event
-use Rattle.jl_types.specs.declared.event.Made.TheVariants as made
 use Rattle.jl_types.specs.declared.refusal.Refusal.TheVariants as refusal
 use Rattle.jl_types.specs.declared.refusal.DelegateFault.TheVariants as delegate
 use Rattle.jl_types.specs.Values.World.{World, Class, Classes, nothing_yet}
 use Rattle.jl_types.specs.Values.Members.{lookup, recorded, is_present, is_retired}
 use Rattle.jl_types.specs.Events.Event.{Event}
-use Rattle.jl_types.specs.Events.Verdict.{retire_all_fault, verdict, step}
+use Rattle.jl_types.specs.Events.Verdict.{verdict, step}
 use Rattle.jl_types.specs.Events.History.{world_after}
 use Rattle.jl_types.specs.Events.Definitions.{define_fault, class_made, defined, delegate_fault, is_unknown, with_record}
-use Rattle.jl_types.specs.Events.Retirement.{is_listed, is_of_any, retire_fault, retired, MayRetire}
+use Rattle.jl_types.specs.Events.Retirement.{is_listed, is_of_any, retired, MayRetire}
 use Rattle.jl_types.proofs.Firsts.{first_none, test_none}
 use Rattle.jl_types.proofs.Lists.{at_end, element_at}
 use Rattle.jl_types.proofs.Orders.{IsGood, world_good}
 use Rattle.jl_types.proofs.Places.{world_more}
-use Rattle.jl_types.proofs.Retiring.{retired_after, present_after, kept_apart, one_free, all_free, may_retire, is_free as free_to_retire}
+use Rattle.jl_types.proofs.Retiring.{retired_after, present_after, kept_apart, may_retire, is_free as free_to_retire}
 use Rattle.jl_hierarchy.proofs.Closed.{present_still}
-use Rattle.jl_events.proofs.CallSiteLaws.{no_fault as no_refusal}
-use Rattle.jl_relink.proofs.Closing.{no_fault}
+use Rattle.jl_relink.proofs.Closing.{no_fault, free_loader, free_loaders}
 use Rattle.jl_renewal.proofs.ClassPhase.{loaders_after}
 use Rattle.jl_renewal.proofs.ClassSteps.{is_free}
 use Rattle.jl_renewal.proofs.Fit.{AllAccepted}
@@ -177,10 +175,9 @@ all_step limits w (event.Invalidate points) good all accepted = all
 all_step limits w (event.Bind s c) good all accepted = all
 all_step limits w (event.Install rows) good all accepted = all
 all_step limits w (event.Retire loader) good all accepted =
-    all_retired w.classes all (loader ∷ [])
-    (may_retire w (loader ∷ []) (one_free w loader (no_fault refusal.Retire (retire_fault w (loader ∷ []) loader) _ accepted)))
+    all_retired w.classes all (loader ∷ []) (may_retire w (loader ∷ []) (free_loader limits w loader accepted))
 all_step limits w (event.RetireAll loaders) good all accepted =
-    all_retired w.classes all loaders (may_retire w loaders (all_free w loaders (no_refusal (retire_all_fault w loaders) made.Nothing accepted)))
+    all_retired w.classes all loaders (may_retire w loaders (free_loaders limits w loaders accepted))
 
 -- ---- all events
 
@@ -239,10 +236,9 @@ known_step limits w (event.Invalidate points) all accepted l is = all l is
 known_step limits w (event.Bind s c) all accepted l is = all l is
 known_step limits w (event.Install rows) all accepted l is = all l is
 known_step limits w (event.Retire loader) all accepted l is =
-    known_retired w (loader ∷ []) all
-    (may_retire w (loader ∷ []) (one_free w loader (no_fault refusal.Retire (retire_fault w (loader ∷ []) loader) _ accepted))) l is
+    known_retired w (loader ∷ []) all (may_retire w (loader ∷ []) (free_loader limits w loader accepted)) l is
 known_step limits w (event.RetireAll loaders) all accepted l is =
-    known_retired w loaders all (may_retire w loaders (all_free w loaders (no_refusal (retire_all_fault w loaders) made.Nothing accepted))) l is
+    known_retired w loaders all (may_retire w loaders (free_loaders limits w loaders accepted)) l is
 
 pub known_after : (limits : Limits) (h : List Event) → AllAccepted limits h → AreKnown (world_after h).classes
 known_after limits h all =

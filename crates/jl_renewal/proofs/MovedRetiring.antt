@@ -29,16 +29,15 @@ use Rattle.jl_types.specs.Linkage.Targets.{parts, part_fault, may_be_named}
 use Rattle.jl_types.specs.Events.Definitions.{is_unknown}
 use Rattle.jl_types.specs.Events.Retirement.{is_listed, is_of, is_of_any, inherits_from, records_from, names_from, classes_fault, targeted}
 use Rattle.jl_types.specs.Events.Retirement.{retire_fault, emptied, gone_with, retired}
-use Rattle.jl_types.specs.Events.Verdict.{retire_all_fault, unless, verdict, with_classes}
+use Rattle.jl_types.specs.Events.Verdict.{unless, verdict, with_classes}
 use Rattle.jl_types.proofs.Ancestors.{ancestor_decides}
 use Rattle.jl_types.proofs.Bools.{any-filter, any-filter-at, any-map, any-range-from, first_test, second_test}
 use Rattle.jl_types.proofs.Firsts.{first_none, test_none}
 use Rattle.jl_types.proofs.Grown.{above}
 use Rattle.jl_types.proofs.Lists.{element_at, passes_within}
-use Rattle.jl_types.proofs.Retiring.{AreFree, one_free, all_free, free_one, free_all, may_retire, untargeted}
+use Rattle.jl_types.proofs.Retiring.{AreFree, free_one, free_all, may_retire, untargeted}
 use Rattle.jl_hierarchy.specs.Constancy.{IsClosed}
-use Rattle.jl_events.proofs.CallSiteLaws.{no_fault as no_refusal}
-use Rattle.jl_relink.proofs.Closing.{no_fault}
+use Rattle.jl_relink.proofs.Closing.{free_loader, free_loaders}
 use Rattle.jl_renewal.specs.Moved.{Flags, Rests, moved, shifted, kept, moved_record, moved_class, moved_classes, moved_call_site}
 use Rattle.jl_renewal.specs.Moved.{moved_target, moved_world}
 use Rattle.jl_renewal.proofs.MovedFollows.{Follows}
@@ -388,7 +387,7 @@ module _ (k : Flags) (w : World) (rests : Rests k w) (fit : IsFit w) (closed : I
       → Follows more k w (event.Retire l) (event.Retire m)
   retirement_follows l m at limits more accepted =
       let one : there (l ∷ []) ≡ m ∷ [] = ap (λ (o : Option ℕ). cons_option o []) at in
-      let free = free_there (l ∷ []) (one_free w l (no_fault refusal.Retire (retire_fault w (l ∷ []) l) _ accepted)) in
+      let free = free_there (l ∷ []) (free_loader limits w l accepted) in
       record {
         accepted = allowed refusal.Retire (retire_fault v (m ∷ []) m) _ (free_one v m (subst (AreFree v) one free));
         after = ap (λ (ls : List ℕ). with_classes v (retired ds ls)) (sym one) ∙ left_there (l ∷ []);
@@ -397,8 +396,8 @@ module _ (k : Flags) (w : World) (rests : Rests k w) (fit : IsFit w) (closed : I
   pub retirements_follow : (loaders : List ℕ) (limits more : Limits) → IsOk (verdict limits w (event.RetireAll loaders))
       → Follows more k w (event.RetireAll loaders) (event.RetireAll (there loaders))
   retirements_follow loaders limits more accepted =
-      let free = all_free w loaders (no_refusal (retire_all_fault w loaders) made.Nothing accepted) in
+      let free = free_there loaders (free_loaders limits w loaders accepted) in
       record {
-        accepted = ap (λ (o : Option Refusal). is_ok (unless o made.Nothing)) (free_all v (there loaders) (free_there loaders free));
+        accepted = ap (λ (o : Option Refusal). is_ok (unless o made.Nothing)) (free_all v (there loaders) free);
         after = left_there loaders;
       }
