@@ -26,8 +26,14 @@ impl Sites {
     pub fn spares(&self, classes: &Classes, leaving: &Leaving) -> bool
         ensures { result ≡ not (list_any (λ site. names_any classes.now leaving.now site.target) self.now.call_sites) }
     {
-        !self
-            .call_sites
+        !self.targets_any(classes, leaving)
+    }
+
+    /// Whether some target names one.
+    fn targets_any(&self, classes: &Classes, leaving: &Leaving) -> bool
+        ensures { result ≡ list_any (λ site. names_any classes.now leaving.now site.target) self.now.call_sites }
+    {
+        self.call_sites
             .as_slice()
             .iter()
             .any(|site| names_any(classes, leaving, site.target()))
