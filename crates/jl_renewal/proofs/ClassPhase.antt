@@ -5,9 +5,9 @@ use Rattle.std.specs.Option.{option_map_or}
 use Rattle.std.specs.Bool.{then_some}
 use Rattle.std.specs.Str.{bytes_eq}
 use Rattle.std.proofs.Common.{refl, sym, ap, subst, ◌∙◌, arith, append_assoc, length-append}
-use Rattle.std.proofs.lemmas.Bool.{both_ways}
+use Rattle.std.proofs.lemmas.Bool.{both_ways, or_right}
 use Rattle.std.proofs.lemmas.Slice.Eq.{bytes_eq-Decides}
-use Rattle.std.proofs.lemmas.Bool.Decides.{Decides-eqb, nat_tests}
+use Rattle.std.proofs.lemmas.Bool.Decides.{nat_tests}
 use Rattle.std.proofs.lemmas.List.{append-nil}
 use Rattle.std.proofs.lemmas.List.Sums.{fold-append}
 use Rattle.std.proofs.lemmas.Option.{slice_get_within}
@@ -22,18 +22,17 @@ use Rattle.jl_types.specs.Values.World.{World, Class, Classes, nothing_yet}
 use Rattle.jl_types.specs.Values.Members.{lookup, recorded, is_present, is_retired}
 use Rattle.jl_types.specs.Linkage.Resolution.{first_of}
 use Rattle.jl_types.specs.Events.Event.{Event}
-use Rattle.jl_types.specs.Events.Verdict.{verdict, step, unless}
+use Rattle.jl_types.specs.Events.Verdict.{verdict, step, unless, with_classes}
 use Rattle.jl_types.specs.Events.History.{world_after}
 use Rattle.jl_types.specs.Events.Definitions.{define_fault, class_made, delegate_fault, delegated, is_unknown, with_record}
-use Rattle.jl_types.specs.Events.Retirement.{retire_fault, retired}
+use Rattle.jl_types.specs.Events.Retirement.{is_listed, retired, MayRetire}
 use Rattle.jl_types.proofs.Firsts.{first_none, test_none}
 use Rattle.jl_types.proofs.Lists.{at_end, element_at}
 use Rattle.jl_types.proofs.Orders.{world_good, looked_up}
 use Rattle.jl_types.proofs.Places.{world_more}
-use Rattle.jl_types.proofs.Retiring.{retired_after}
-use Rattle.jl_types.proofs.Retiring as retiring
+use Rattle.jl_types.proofs.Retiring.{retired_after, may_retire, is_free as free_to_retire}
 use Rattle.jl_hierarchy.specs.Constancy.{IsClosed}
-use Rattle.jl_relink.proofs.Closing.{no_fault, free_classes}
+use Rattle.jl_relink.proofs.Closing.{no_fault, free_loader, free_loaders}
 use Rattle.jl_memo.proofs.Staying.{StaysOn, all_events}
 use Rattle.jl_renewal.specs.declared.released.Released.{Released}
 use Rattle.jl_renewal.specs.Numbers.{Numbers, new_number, renumbered, how_many}
@@ -45,13 +44,9 @@ use Rattle.jl_renewal.proofs.Phases.{OneStep, Leads, leads_through}
 use Rattle.jl_renewal.proofs.ClassLaws.{fresh_of, loader_stays, loader_goes, class_stays}
 use Rattle.jl_renewal.proofs.ClassSteps.{IsEarlier, l_stays, finds, known_still, define_accepted, is_free}
 use Rattle.jl_renewal.proofs.DefinedLaws.{defined_same, defined_gone, delegated_same, delegated_gone, retired_gone, loader_more}
+use Rattle.jl_renewal.proofs.MovedLists.{length_set, length_emptied}
 
 -- ---- loaders only get more
-
-length_set : {A : Type 0} (xs : List A) (i : ℕ) (x : A) → length (slice_set xs i x) ≡ length xs
-length_set [] i x = refl
-length_set (y ∷ xs) zero x = refl
-length_set (y ∷ xs) (suc i) x = ap suc (length_set xs i x)
 
 as_many : (loaders : List (List (List ℕ × ℕ))) (l : ℕ) (name : List ℕ) (c : ℕ) → length (with_record loaders l name c) ≡ length loaders
 as_many loaders l name c = by_loader (slice_get loaders l)
@@ -76,7 +71,8 @@ loaders_step w event.NewSwitch = omega arith
 loaders_step w (event.Invalidate points) = omega arith
 loaders_step w (event.Bind s c) = omega arith
 loaders_step w (event.Install rows) = omega arith
-loaders_step w (event.Retire l) = let same = length_set w.classes.loaders l [] in omega (arith, same)
+loaders_step w (event.Retire l) = let same = length_emptied w.classes.loaders (l ∷ []) in omega (arith, same)
+loaders_step w (event.RetireAll loaders) = let same = length_emptied w.classes.loaders loaders in omega (arith, same)
 
 pub loaders_after : (es : List Event) (w : World) → length w.classes.loaders ≤ length (fold step w es).classes.loaders
 loaders_after [] w = omega arith
@@ -412,36 +408,49 @@ module _ (old_limits : Limits) (h : List Event) (released : Released) (closed : 
             (delegated_gone w released sooner l gone (let le = is.loaders in let there = loader_there in omega (arith, le, there)) loader_there name to))
         by_live false live = live_step live
 
-  -- ---- a retirement, and a loader more
+  -- ---- retirements, and a loader more
+
+  module _ (front : List Event) (loaders : List ℕ) (may : MayRetire (world_after front).classes loaders)
+      (on_retired : StaysOn (with_classes (world_after front) (retired (world_after front).classes loaders)) w)
+      (few_then : length (world_after front).classes.loaders ≤ length w.classes.loaders) where
+    abbrev held : Classes
+    held = (world_after front).classes
+
+    each_there : (l : ℕ) → is_listed loaders l ≡ true → l < length held.loaders
+    each_there l listed = known_there held l ((free_to_retire held loaders may).known l listed)
+
+    each_gone : (l : ℕ) → is_listed loaders l ≡ true → is_retired w.classes l ≡ true
+    each_gone l listed = by_live (is_retired w.classes l) refl
+      where
+        now : is_retired (retired held loaders) l ≡ true
+        now = retired_after held loaders l ∙ or_right (is_retired held l) (is_listed loaders l) listed
+
+        by_live : (b : Bool) → is_retired w.classes l ≡ b → b ≡ true
+        by_live true is = refl
+        by_live false is = absurd (both_ways (is_retired (retired held loaders) l) (on_retired.alive l is) now)
+
+    retired_leaves : fresh_of w released (retired held loaders) ≡ fresh_of w released held
+    retired_leaves =
+        retired_gone w released held loaders
+        (λ l listed.
+        let there = each_there l listed in
+        (loader_goes w.classes l (omega (arith, there, few_then)) (each_gone l listed), there))
 
   retire_step : (front : List Event) (l : ℕ) (rest : List Event) → h ≡ front ++ event.Retire l ∷ rest
       → OneStep limits (G front) None (G (front ++ event.Retire l ∷ []))
   retire_step front l rest split =
+      let free = free_loader old_limits (world_after front) l (accepted front (event.Retire l) rest split) in
       leaves front (event.Retire l) rest split
-      (retired_gone w released before l gone (let le = fewer front (event.Retire l) rest split in let there = l_there in omega (arith, le, there)) l_there)
-    where
-      before : Classes
-      before = (world_after front).classes
+      (retired_leaves front (l ∷ []) (may_retire (world_after front) (l ∷ []) free)
+      (on_next front (event.Retire l) rest split) (fewer front (event.Retire l) rest split))
 
-      l_there : l < length before.loaders
-      l_there =
-          known_there before l
-          (retiring.is_free before l (free_classes (world_after front) l
-          (no_fault refusal.Retire (retire_fault (world_after front) l) _ (accepted front (event.Retire l) rest split)))).known
-
-      gone : is_retired w.classes l ≡ true
-      gone = by_live (is_retired w.classes l) refl
-        where
-          or_true : (b : Bool) → (b || true) ≡ true
-          or_true true = refl
-          or_true false = refl
-
-          now : is_retired (retired before l) l ≡ true
-          now = retired_after before l l ∙ ap (λ (b : Bool). is_retired before l || b) ((Decides-eqb l l).1 refl) ∙ or_true (is_retired before l)
-
-          by_live : (b : Bool) → is_retired w.classes l ≡ b → b ≡ true
-          by_live true is = refl
-          by_live false is = absurd (both_ways (is_retired (retired before l) l) ((on_next front (event.Retire l) rest split).alive l is) now)
+  retire_all_step : (front : List Event) (loaders : List ℕ) (rest : List Event) → h ≡ front ++ event.RetireAll loaders ∷ rest
+      → OneStep limits (G front) None (G (front ++ event.RetireAll loaders ∷ []))
+  retire_all_step front loaders rest split =
+      let free = free_loaders old_limits (world_after front) loaders (accepted front (event.RetireAll loaders) rest split) in
+      leaves front (event.RetireAll loaders) rest split
+      (retired_leaves front loaders (may_retire (world_after front) loaders free)
+      (on_next front (event.RetireAll loaders) rest split) (fewer front (event.RetireAll loaders) rest split))
 
   loader_step : (front rest : List Event) → h ≡ front ++ event.NewLoader ∷ rest → OneStep limits (G front) None (G (front ++ event.NewLoader ∷ []))
   loader_step front rest split =
@@ -466,6 +475,7 @@ module _ (old_limits : Limits) (h : List Event) (released : Released) (closed : 
   each front (event.Bind s c) rest split = quiet front (event.Bind s c) rest split refl
   each front (event.Install rows) rest split = quiet front (event.Install rows) rest split refl
   each front (event.Retire l) rest split = retire_step front l rest split
+  each front (event.RetireAll loaders) rest split = retire_all_step front loaders rest split
 
   pub classes_lead : Leads limits (G []) (filter_map (class_event w n) h) (G h)
   classes_lead = leads_through limits (class_event w n) G h each

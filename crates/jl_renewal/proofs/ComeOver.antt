@@ -103,6 +103,7 @@ read_class w n (event.Invalidate points) is = refl
 read_class w n (event.Bind s c) is = refl
 read_class w n (event.Install rows) is = refl
 read_class w n (event.Retire loader) is = refl
+read_class w n (event.RetireAll loaders) is = refl
 
 read_classes : (w : World) (n : Numbers) (es : List Event) → AreRead es → AreRead (filter_map (class_event w n) es)
 read_classes w n [] all = refl

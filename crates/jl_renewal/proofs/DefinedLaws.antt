@@ -1,16 +1,18 @@
 -- What definitions and delegations add to the fresh classes.
-use Rattle.std.specs.Prelude.{◌≡◌, ℕ, zero, suc, ◌-◌, ◌<◌, Bool, true, false, List, [], ◌∷◌, ◌++◌, map, filter_map, length, replicate}
+use Rattle.std.specs.Prelude.{◌≡◌, ℕ, zero, suc, ◌-◌, ◌<◌, ◌==◌, Bool, true, false, List, [], ◌∷◌, ◌++◌, map, filter_map, length, replicate}
 use Rattle.std.specs.Prelude.{not, slice_get, slice_set, Option, Some, None, option_map, option_and_then}
 use Rattle.std.specs.Option.{option_map_or}
 use Rattle.std.specs.List.{cons_option}
 use Rattle.std.proofs.Common.{refl, sym, ap, ◌∙◌, arith, append_assoc, length-append}
+use Rattle.std.proofs.lemmas.Bool.{or_left, or_right}
+use Rattle.std.proofs.lemmas.Cmp.{nat_eq_equiv}
 use Rattle.std.proofs.lemmas.List.{map-append, length-map}
 use Rattle.std.proofs.lemmas.Option.{slice_get-map, slice_get_within}
 use Rattle.jl_class.specs.Class.{ClassFile}
 use Rattle.jl_types.specs.Values.World.{World, Class, Classes}
 use Rattle.jl_types.specs.Values.Members.{lookup, is_retired}
 use Rattle.jl_types.specs.Events.Definitions.{class_made, with_record, defined, delegated}
-use Rattle.jl_types.specs.Events.Retirement.{retired}
+use Rattle.jl_types.specs.Events.Retirement.{is_listed, emptied, retired}
 use Rattle.jl_types.proofs.Lists.{element_at}
 use Rattle.jl_renewal.specs.declared.released.Released.{Released}
 use Rattle.jl_renewal.specs.Numbers.{Numbers, staying, renumbered}
@@ -19,6 +21,7 @@ use Rattle.jl_renewal.specs.Renewed.{renumbered_record, renumbered_class}
 use Rattle.jl_renewal.proofs.NumberLaws.{before, renumbered_is, staying_at, staying_more, staying_less, staying_length}
 use Rattle.jl_renewal.proofs.ClassLaws.{fresh_of, padded, padded_at, loader_stays, loader_goes, class_at}
 use Rattle.jl_renewal.proofs.ClassSteps.{IsEarlier, finds}
+use Rattle.jl_renewal.proofs.MovedLists.{length_set}
 
 abbrev Records : Type 0
 Records = List (List ℕ × ℕ)
@@ -47,11 +50,6 @@ set_going (true ∷ stays) (y ∷ xs) zero x e = cc
 set_going (false ∷ stays) (y ∷ xs) zero x e = refl
 set_going (true ∷ stays) (y ∷ xs) (suc i) x e = ap (λ ys. y ∷ ys) (set_going stays xs i x e)
 set_going (false ∷ stays) (y ∷ xs) (suc i) x e = set_going stays xs i x e
-
-length_set : {A : Type 0} (xs : List A) (i : ℕ) (x : A) → length (slice_set xs i x) ≡ length xs
-length_set [] i x = refl
-length_set (y ∷ xs) zero x = refl
-length_set (y ∷ xs) (suc i) x = ap suc (length_set xs i x)
 
 pub padded_set : (n : ℕ) (loaders : List Records) (l : ℕ) (records : Records) → l < length loaders
     → padded n (slice_set loaders l records) ≡ slice_set (padded n loaders) l records
@@ -231,14 +229,30 @@ module _ (w : World) (released : Released) (mid : Classes) (l : ℕ) (gone : is_
             retired = [];
           })
 
-  pub retired_gone : fresh_of w released (retired mid l) ≡ fresh_of w released mid
-  retired_gone = λ i. record {
-    loaders = ap (map (map (renumbered_record kk)))
-        (ap (staying (staying_loaders w.classes)) (padded_set (length w.classes.loaders) mid.loaders l [] there)
-        ∙ set_going (staying_loaders w.classes) (padded (length w.classes.loaders) mid.loaders) l [] l_goes) i;
-    rows = map (renumbered_class kk) (staying (staying_classes w.classes) mid.rows);
-    retired = [];
-  }
+-- loaders that go may find nothing
+emptied_gone : (stays : List Bool) (n : ℕ) (loaders : List ℕ) (found : List Records)
+    → ((l : ℕ) → is_listed loaders l ≡ true → (slice_get stays l ≡ Some false) × (l < length found))
+    → staying stays (padded n (emptied found loaders)) ≡ staying stays (padded n found)
+emptied_gone stays n [] found goes = refl
+emptied_gone stays n (l ∷ loaders) found goes =
+    let first = goes l (or_left (l == l) (is_listed loaders l) (nat_eq_equiv.refl l)) in
+    emptied_gone stays n loaders (slice_set found l [])
+    (λ k there.
+    let one = goes k (or_right (l == k) (is_listed loaders k) there) in
+    let same = length_set found l [] in
+    let lt = one.1 in
+    (one.0, omega (arith, lt, same)))
+    ∙ (ap (staying stays) (padded_set n found l [] first.1) ∙ set_going stays (padded n found) l [] first.0)
+
+pub retired_gone : (w : World) (released : Released) (mid : Classes) (loaders : List ℕ)
+    → ((l : ℕ) → is_listed loaders l ≡ true → (slice_get (staying_loaders w.classes) l ≡ Some false) × (l < length mid.loaders))
+    → fresh_of w released (retired mid loaders) ≡ fresh_of w released mid
+retired_gone w released mid loaders goes = λ i. record {
+  loaders = ap (map (map (renumbered_record (numbers_of w released))))
+      (emptied_gone (staying_loaders w.classes) (length w.classes.loaders) loaders mid.loaders goes) i;
+  rows = map (renumbered_class (numbers_of w released)) (staying (staying_classes w.classes) mid.rows);
+  retired = [];
+}
 
 -- a new loader has found nothing
 pub loader_more : (w : World) (released : Released) (mid : Classes) → length mid.loaders < length w.classes.loaders

@@ -110,8 +110,8 @@ module _ (cs : Classes) (good : IsGood cs) (fit : AreFit cs) where
       old_so k name c e row at =
           fit.named k name c row e (sym (before_end cs.rows (class_made cs loader file) c (looked_up cs good k name c e)) ∙ at)
 
-  pub fit_retired : (loader : ℕ) → AreFit (retired cs loader)
-  fit_retired loader = record {
-    named = λ k name c row e at. fit.named k name c row (found_before cs loader k name c e) at;
-    found = own_retired cs good fit.found loader;
+  pub fit_retired : (loaders : List ℕ) → AreFit (retired cs loaders)
+  fit_retired loaders = record {
+    named = λ k name c row e at. fit.named k name c row (found_before cs loaders k name c e) at;
+    found = own_retired cs good fit.found loaders;
   }

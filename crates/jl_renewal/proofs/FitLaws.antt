@@ -1,56 +1,71 @@
 -- After accepted events a world is fit for a renewal.
-use Rattle.std.specs.Prelude.{◌≡◌, ◌≤◌, ◌+◌, ◌&&◌, ℕ, zero, suc, true, false, not, List, [], ◌∷◌, ◌++◌, length, take, slice_get, Some, None}
-use Rattle.std.specs.Prelude.{option_map, IsOk}
-use Rattle.std.proofs.Common.{ap, sym, subst, ◌∙◌, arith, length-append}
-use Rattle.std.proofs.lemmas.Bool.{or_parts}
+use Rattle.std.specs.Prelude.{◌≡◌, ◌≤◌, ◌+◌, ◌&&◌, ℕ, zero, suc, Bool, true, false, not, List, [], ◌∷◌, ◌++◌, length, take, slice_get, Some}
+use Rattle.std.specs.Prelude.{IsOk}
+use Rattle.std.proofs.Common.{refl, ap, sym, subst, ◌∙◌, arith, length-append}
+use Rattle.std.proofs.lemmas.Bool.{or_parts, both_ways}
 use Rattle.std.proofs.lemmas.List.{take_more, take_all}
 use Rattle.std.proofs.lemmas.Option.{slice_get_within, get_or_from_slice_get}
 use Rattle.jl_types.specs.declared.limits.Limits.{Limits}
 use Rattle.jl_types.specs.declared.event.EventOf.TheVariants as event
 use Rattle.jl_types.specs.declared.event.Made.TheVariants as made
-use Rattle.jl_types.specs.declared.refusal.Refusal.TheVariants.{Define, CallSite, Retire}
-use Rattle.jl_types.specs.declared.refusal.RetireFault.TheVariants.{Targeted}
+use Rattle.jl_types.specs.declared.refusal.Refusal.TheVariants.{Define, CallSite}
 use Rattle.jl_types.specs.Values.Target.{Target, Method, Guard, Invoker}
 use Rattle.jl_types.specs.Values.World.{World, CallSite as CallSiteRow, nothing_yet}
 use Rattle.jl_types.specs.Events.Definitions.{define_fault}
-use Rattle.jl_types.specs.Events.Retirement.{names_from, classes_fault, targeted, retire_fault}
+use Rattle.jl_types.specs.Events.Retirement.{is_listed, is_of, is_of_any, names_from, retired}
 use Rattle.jl_types.specs.Events.Event.{Event}
-use Rattle.jl_types.specs.Events.Verdict.{new_call_site_fault, set_target_fault, invalidated, bind_fault, verdict, step}
+use Rattle.jl_types.specs.Events.Verdict.{new_call_site_fault, set_target_fault, invalidated, bind_fault, verdict, step, with_classes}
 use Rattle.jl_types.specs.Events.History.{world_after}
-use Rattle.jl_types.proofs.Firsts.{first_none, first_alone}
 use Rattle.jl_types.proofs.Lists.{element_at}
 use Rattle.jl_types.proofs.Orders.{IsGood, world_good}
 use Rattle.jl_types.proofs.Places.{world_more}
-use Rattle.jl_types.proofs.Retiring.{present_after}
+use Rattle.jl_types.proofs.Retiring.{present_after, one_of_any, AreFree, untargeted}
 use Rattle.jl_hierarchy.proofs.Closed.{present_still}
 use Rattle.jl_events.proofs.AcceptedLaws.{rows_stay}
 use Rattle.jl_events.proofs.CallSiteLaws.{no_fault as no_refusal}
-use Rattle.jl_relink.proofs.Closing.{no_fault}
+use Rattle.jl_relink.proofs.Closing.{no_fault, free_loader, free_loaders}
 use Rattle.jl_relink.proofs.Paths.{invalidated_length}
 use Rattle.jl_renewal.proofs.Fit.{AllAccepted, IsFit}
-use Rattle.jl_renewal.proofs.FitParts.{OfClasses, StaysPresent, of_all, none_mapped, none_placed}
+use Rattle.jl_renewal.proofs.FitParts.{OfClasses, StaysPresent, of_all, none_placed}
 use Rattle.jl_renewal.proofs.FitClasses.{fit_with_loader, fit_delegated, fit_defined, fit_retired}
 use Rattle.jl_renewal.proofs.FitSites.{classes_fit, with_classes_fit, new_call_site_fit, set_target_fit, with_switches_fit, request_fit, bind_fit}
 
 -- ---- a retirement
 
-module _ (w : World) (loader : ℕ) where
-  -- what is present stays so where it isn't of the loader
-  left_present : (t : Target) → names_from w.classes loader t ≡ false → OfClasses (StaysPresent w (step w (event.Retire loader))) t
-  left_present (Method m) other = λ is. present_after w.classes loader m.class ∙ (λ i. is i && not (other i))
-  left_present (Guard p first fallback) other =
-      let both = or_parts (names_from w.classes loader first) (names_from w.classes loader fallback) other in
-      (left_present first both.0, left_present fallback both.1)
+module _ (w : World) (loaders : List ℕ) where
+  abbrev left : World
+  left = with_classes w (retired w.classes loaders)
+
+  -- a class that is of none of the loaders
+  of_none : (c : ℕ) → ((l : ℕ) → is_listed loaders l ≡ true → is_of w.classes l c ≡ false) → is_of_any w.classes loaders c ≡ false
+  of_none c other = by_test (is_of_any w.classes loaders c) refl
+    where
+      by_test : (b : Bool) → is_of_any w.classes loaders c ≡ b → b ≡ false
+      by_test true is = let one = one_of_any w.classes loaders c is in absurd (both_ways (is_of w.classes one.0 c) (other one.0 one.1) one.2)
+      by_test false is = refl
+
+  -- what is present stays so where it isn't of the loaders
+  left_present : (t : Target) → ((l : ℕ) → is_listed loaders l ≡ true → names_from w.classes l t ≡ false) → OfClasses (StaysPresent w left) t
+  left_present (Method m) other =
+      let none = of_none m.class other in
+      λ is. present_after w.classes loaders m.class ∙ (λ i. is i && not (none i))
+  left_present (Guard p first fallback) other = (
+    left_present first (λ l there. (or_parts (names_from w.classes l first) (names_from w.classes l fallback) (other l there)).0),
+    left_present fallback (λ l there. (or_parts (names_from w.classes l first) (names_from w.classes l fallback) (other l there)).1),
+  )
   left_present (Invoker c) other = tt
 
-  -- no target names a method of a loader that may be retired
-  unnamed : retire_fault w loader ≡ None → (c : ℕ) (site : CallSiteRow) → slice_get w.sites.call_sites c ≡ Some site
-      → names_from w.classes loader site.target ≡ false
-  unnamed none =
-      let targets = (first_none (classes_fault w.classes loader) (option_map Targeted (targeted w.classes w.sites.call_sites loader) ∷ []) none).1 in
-      none_placed (λ (site : CallSiteRow). names_from w.classes loader site.target) w.sites.call_sites
-      (none_mapped Targeted (targeted w.classes w.sites.call_sites loader)
-      (sym (first_alone (option_map Targeted (targeted w.classes w.sites.call_sites loader))) ∙ targets))
+  -- no target names a method of loaders that may be retired
+  unnamed : AreFree w loaders → (l : ℕ) → is_listed loaders l ≡ true → (c : ℕ) (site : CallSiteRow) → slice_get w.sites.call_sites c ≡ Some site
+      → names_from w.classes l site.target ≡ false
+  unnamed free l there =
+      none_placed (λ (site : CallSiteRow). names_from w.classes l site.target) w.sites.call_sites (untargeted w loaders free l there)
+
+  retired_fit : IsGood w.classes → IsFit w → AreFree w loaders → IsFit left
+  retired_fit good fit free =
+      with_classes_fit w fit left.classes (fit_retired w.classes good (classes_fit w fit) loaders)
+      (rows_stay w (event.RetireAll loaders))
+      (λ c site at. left_present site.target (λ l there. unnamed free l there c site at))
 
 -- ---- each event
 
@@ -86,9 +101,9 @@ fit_step limits w (event.Bind s c) good fit accepted =
     bind_fit w fit s c (no_refusal (bind_fault w s c (slice_get w.places s)) made.Nothing accepted)
 fit_step limits w (event.Install rows) good fit accepted = fit
 fit_step limits w (event.Retire loader) good fit accepted =
-    with_classes_fit w fit (step w (event.Retire loader)).classes (fit_retired w.classes good (classes_fit w fit) loader)
-    (rows_stay w (event.Retire loader))
-    (λ c site at. left_present w loader site.target (unnamed w loader (no_fault Retire (retire_fault w loader) _ accepted) c site at))
+    retired_fit w (loader ∷ []) good fit (free_loader limits w loader accepted)
+fit_step limits w (event.RetireAll loaders) good fit accepted =
+    retired_fit w loaders good fit (free_loaders limits w loaders accepted)
 
 -- ---- all events
 

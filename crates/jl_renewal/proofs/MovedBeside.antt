@@ -27,6 +27,7 @@ use Rattle.jl_types.specs.Values.Members.{lookup, is_present, is_retired}
 use Rattle.jl_types.specs.Linkage.Stages.{invocation_at}
 use Rattle.jl_types.specs.Events.Event.{Event}
 use Rattle.jl_types.specs.Events.Definitions.{with_record, class_made}
+use Rattle.jl_types.specs.Events.Retirement.{emptied}
 use Rattle.jl_types.specs.Events.Limits.{AreNoFewer}
 use Rattle.jl_types.specs.Events.Verdict.{verdict, step, unless, same_place, request_place, if_invoked, new_place_fault}
 use Rattle.jl_types.specs.Events.History.{world_after, dropped}
@@ -51,7 +52,7 @@ use Rattle.jl_renewal.proofs.FitLaws.{fit_after}
 use Rattle.jl_renewal.proofs.MovedScratch.{sites_alike}
 use Rattle.jl_renewal.proofs.FitParts.{at_more}
 use Rattle.jl_renewal.proofs.StayLaws.{call_sites_length, switches_length}
-use Rattle.jl_renewal.proofs.MovedLists.{moved_end, length_set}
+use Rattle.jl_renewal.proofs.MovedLists.{moved_end, length_set, length_emptied}
 use Rattle.jl_renewal.proofs.MovedClasses.{invocation_same}
 use Rattle.jl_renewal.proofs.MovedTargets.{inv_map}
 use Rattle.jl_renewal.proofs.MovedSites.{any_place, none_any}
@@ -210,7 +211,10 @@ module _ (k : Flags) (w : World) (rests : Rests k w) where
     all_noted (event.Install rows) f old new there eo en = cc
     all_noted (event.Retire loader) f old new there eo en =
         none_made _ old new (all_numbers k (step w (event.Retire loader))) eo
-        (with_loaders (length (slice_set w.classes.loaders loader [])) (length_set w.classes.loaders loader []))
+        (with_loaders (length (emptied w.classes.loaders (loader ∷ []))) (length_emptied w.classes.loaders (loader ∷ [])))
+    all_noted (event.RetireAll loaders) f old new there eo en =
+        none_made _ old new (all_numbers k (step w (event.RetireAll loaders))) eo
+        (with_loaders (length (emptied w.classes.loaders loaders)) (length_emptied w.classes.loaders loaders))
 
 -- ---- one event of an old core, and of a fresh one beside it
 

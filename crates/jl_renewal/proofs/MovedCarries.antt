@@ -1,9 +1,10 @@
 -- An event that is carried over by the numbers of what there is, is the one that the flags tell.
-use Rattle.std.specs.Prelude.{◌≡◌, ℕ, ◌+◌, ◌<◌, nat_le, Bool, false, List, [], ◌∷◌, filter_map, length, slice_get}
+use Rattle.std.specs.Prelude.{◌≡◌, ℕ, ◌+◌, ◌<◌, ◌==◌, nat_le, Bool, true, false, List, [], ◌∷◌, filter_map, length, slice_get}
 use Rattle.std.specs.Prelude.{Option, Some, None, option_map, option_and_then, IsOk}
 use Rattle.std.specs.List.{cons_option, list_any}
 use Rattle.std.proofs.Common.{refl, sym, ap, ◌∙◌, arith}
-use Rattle.std.proofs.lemmas.Bool.{or_parts, leb-false}
+use Rattle.std.proofs.lemmas.Bool.{or_parts, or_from, or_left, or_right, leb-false}
+use Rattle.std.proofs.lemmas.Cmp.{nat_eq_equiv}
 use Rattle.std.proofs.lemmas.Option.{slice_get_within}
 use Rattle.jl_types.specs.declared.limits.Limits.{Limits}
 use Rattle.jl_types.specs.declared.event.EventOf.TheVariants as event
@@ -11,10 +12,14 @@ use Rattle.jl_types.specs.declared.refusal.CallSiteFault.TheVariants as fault
 use Rattle.jl_types.specs.declared.refusal.Refusal.TheVariants.{CallSite}
 use Rattle.jl_types.specs.Values.Target.{Target, Method, Guard, Invoker}
 use Rattle.jl_types.specs.Values.World.{World}
+use Rattle.jl_types.specs.Values.Members.{is_retired}
 use Rattle.jl_types.specs.Events.Event.{Event}
+use Rattle.jl_types.specs.Events.Definitions.{is_unknown}
+use Rattle.jl_types.specs.Events.Retirement.{is_listed}
 use Rattle.jl_types.specs.Events.Verdict.{verdict, invalidate_fault}
 use Rattle.jl_types.proofs.Firsts.{test_none}
-use Rattle.jl_relink.proofs.Closing.{no_fault}
+use Rattle.jl_types.proofs.Retiring.{may_retire, is_free as free_to_retire}
+use Rattle.jl_relink.proofs.Closing.{no_fault, free_loaders}
 use Rattle.jl_renewal.specs.Numbers.{Numbers, new_number}
 use Rattle.jl_renewal.specs.Carries.{carried, carried_target, guarded}
 use Rattle.jl_renewal.specs.Moved.{Flags, moved, target_there, event_there, numbers_there, all_numbers}
@@ -38,6 +43,16 @@ there_number stays count j i e = by_number (slice_get (numbers_there stays count
         let within = slice_get_within (numbers_there stays count) j number is in
         let many = many_there stays count in
         sym (number_at stays count j (omega (arith, within, many))) ∙ (ap (option_and_then (λ (number : Option ℕ). number)) is ∙ e)
+
+-- of a list of those that are there
+all_there : (stays : List Bool) (count : ℕ) (ks : List ℕ) → list_any (nat_le count) ks ≡ false
+    → filter_map (new_number (numbers_there stays count)) ks ≡ filter_map (moved stays) ks
+all_there stays count [] e = refl
+all_there stays count (j ∷ ks) e =
+    let parts = or_parts (nat_le count j) (list_any (nat_le count) ks) e in
+    let first = number_at stays count j (leb-false count j parts.0) in
+    let rest = all_there stays count ks parts.1 in
+    λ i. cons_option (first i) (rest i)
 
 module _ (k : Flags) (w : World) where
   abbrev n : Numbers
@@ -66,14 +81,15 @@ module _ (k : Flags) (w : World) where
       let d = inv_map Invoker (new_number n.call_sites c) u e in
       ap (option_map Invoker) (call_site_there c d.0 d.1) ∙ ap Some d.2
 
-  points_there : (points : List ℕ) → list_any (nat_le (length w.sites.switches)) points ≡ false
-      → filter_map (new_number n.switches) points ≡ filter_map (moved k.switches) points
-  points_there [] e = refl
-  points_there (p ∷ points) e =
-      let parts = or_parts (nat_le (length w.sites.switches) p) (list_any (nat_le (length w.sites.switches)) points) e in
-      let first = number_at k.switches (length w.sites.switches) p (leb-false (length w.sites.switches) p parts.0) in
-      let rest = points_there points parts.1 in
-      λ i. cons_option (first i) (rest i)
+  -- loaders that are known are there
+  known_there : (loaders : List ℕ) → ((l : ℕ) → is_listed loaders l ≡ true → is_unknown w.classes l ≡ false)
+      → list_any (nat_le (length w.classes.loaders)) loaders ≡ false
+  known_there [] known = refl
+  known_there (l ∷ loaders) known =
+      or_from (nat_le (length w.classes.loaders) l) (list_any (nat_le (length w.classes.loaders)) loaders)
+      (or_parts (nat_le (length w.classes.loaders) l) (is_retired w.classes l)
+      (known l (or_left (l == l) (is_listed loaders l) (nat_eq_equiv.refl l)))).0
+      (known_there loaders (λ j there. known j (or_right (l == j) (is_listed loaders j) there)))
 
   pub event_is_there : (limits : Limits) (e f : Event) → IsOk (verdict limits w e) → carried n e ≡ Some f → event_there k e ≡ Some f
   event_is_there limits event.NewLoader f ok e = e
@@ -99,7 +115,7 @@ module _ (k : Flags) (w : World) where
   event_is_there limits event.NewSwitch f ok e = e
   event_is_there limits (event.Invalidate points) f ok e =
       let there = test_none (list_any (nat_le (length w.sites.switches)) points) fault.UnknownSwitch (no_fault CallSite (invalidate_fault w points) _ ok) in
-      ap (λ (ps : List ℕ). Some (event.Invalidate ps)) (sym (points_there points there)) ∙ e
+      ap (λ (ps : List ℕ). Some (event.Invalidate ps)) (sym (all_there k.switches (length w.sites.switches) points there)) ∙ e
   event_is_there limits (event.Bind s c) f ok e =
       let t = inv_then (λ (t : ℕ). option_map (event.Bind t) (new_number n.call_sites c)) (new_number n.sites s) f e in
       let d = inv_map (event.Bind t.0) (new_number n.call_sites c) f t.2 in
@@ -109,3 +125,7 @@ module _ (k : Flags) (w : World) where
   event_is_there limits (event.Retire loader) f ok e =
       let l = inv_map event.Retire (new_number n.loaders loader) f e in
       ap (option_map event.Retire) (loader_there loader l.0 l.1) ∙ ap Some l.2
+  event_is_there limits (event.RetireAll loaders) f ok e =
+      let free = free_to_retire w.classes loaders (may_retire w loaders (free_loaders limits w loaders ok)) in
+      let there = known_there loaders free.known in
+      ap (λ (ls : List ℕ). Some (event.RetireAll ls)) (sym (all_there k.loaders (length w.classes.loaders) loaders there)) ∙ e

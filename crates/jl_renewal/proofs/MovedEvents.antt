@@ -20,7 +20,7 @@ use Rattle.jl_renewal.proofs.FitSites.{is_bound}
 use Rattle.jl_renewal.proofs.MovedTargets.{inv_map, inv_then}
 use Rattle.jl_renewal.proofs.MovedSites.{switch_follows, invalidation_follows, call_site_follows, target_follows, request_follows, binding_follows}
 use Rattle.jl_renewal.proofs.MovedSteps.{loader_follows, definition_follows, delegation_follows}
-use Rattle.jl_renewal.proofs.MovedRetiring.{retirement_follows}
+use Rattle.jl_renewal.proofs.MovedRetiring.{retirement_follows, retirements_follow}
 
 module _ (k : Flags) (w : World) (rests : Rests k w) (fit : IsFit w) (closed : IsClosed w.classes) (ordered : AreOrdered w.classes.rows)
     (limits more : Limits) (most : AreNoFewer limits more) where
@@ -59,3 +59,6 @@ module _ (k : Flags) (w : World) (rests : Rests k w) (fit : IsFit w) (closed : I
   each_follows (event.Retire loader) f there accepted =
       let m = inv_map event.Retire (moved k.loaders loader) f there in
       subst (Follows more k w (event.Retire loader)) m.2 (retirement_follows k w rests fit closed ordered loader m.0 m.1 limits more accepted)
+  each_follows (event.RetireAll loaders) f there accepted =
+      subst (Follows more k w (event.RetireAll loaders)) (same_Some (event.RetireAll (filter_map (moved k.loaders) loaders)) f there)
+      (retirements_follow k w rests fit closed ordered loaders limits more accepted)

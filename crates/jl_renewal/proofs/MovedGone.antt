@@ -1,9 +1,10 @@
 -- An accepted event that names no call site names nothing that is gone.
-use Rattle.std.specs.Prelude.{◌≡◌, ℕ, ◌||◌, not, nat_le, Bool, true, false, length, Option, Some, option_map, option_and_then, is_some, IsOk}
+use Rattle.std.specs.Prelude.{◌≡◌, ℕ, ◌||◌, not, nat_le, Bool, true, false, [], ◌∷◌, length, Option, Some, option_map, option_and_then, is_some, IsOk}
 use Rattle.std.specs.Prelude.{Err, if◌then◌else◌}
 use Rattle.std.specs.Bool.{then_some}
 use Rattle.std.proofs.Common.{refl, ap, ◌∙◌}
 use Rattle.std.proofs.lemmas.Bool.{leb-false, or_parts}
+use Rattle.std.proofs.lemmas.Cmp.{nat_eq_equiv}
 use Rattle.jl_types.specs.declared.limits.Limits.{Limits}
 use Rattle.jl_types.specs.declared.ids.Place.{Place}
 use Rattle.jl_types.specs.declared.event.EventOf.TheVariants as event
@@ -14,12 +15,11 @@ use Rattle.jl_types.specs.Values.Members.{is_present, is_retired}
 use Rattle.jl_types.specs.Linkage.Stages.{invocation_at}
 use Rattle.jl_types.specs.Events.Event.{Event}
 use Rattle.jl_types.specs.Events.Definitions.{define_fault, delegate_fault, is_unknown}
-use Rattle.jl_types.specs.Events.Retirement.{retire_fault}
 use Rattle.jl_types.specs.Events.Verdict.{verdict, if_invoked}
 use Rattle.jl_types.proofs.Firsts.{first_none, test_none}
 use Rattle.jl_types.proofs.Lists.{passes_within}
-use Rattle.jl_types.proofs.Retiring as retiring
-use Rattle.jl_relink.proofs.Closing.{no_fault, free_classes}
+use Rattle.jl_types.proofs.Retiring.{listed_alone, may_retire, is_free as free_to_retire}
+use Rattle.jl_relink.proofs.Closing.{no_fault, free_loader}
 use Rattle.jl_renewal.specs.Numbers.{Numbers, new_number}
 use Rattle.jl_renewal.specs.Carries.{carried}
 use Rattle.jl_renewal.specs.Moved.{Flags, Rests, all_numbers, may_be_gone}
@@ -72,5 +72,7 @@ module _ (k : Flags) (w : World) (rests : Rests k w) where
   is_there limits (event.Bind s c) ok e = cc
   is_there limits (event.Install rows) ok e = cc
   is_there limits (event.Retire loader) ok e =
-      let free = retiring.is_free cs loader (free_classes w loader (no_fault refusal.Retire (retire_fault w loader) _ ok)) in
-      ap (λ (o : Option ℕ). is_some {T = Event} (option_map event.Retire o)) (loader_number loader free.known).1
+      let one = free_to_retire cs (loader ∷ []) (may_retire w (loader ∷ []) (free_loader limits w loader ok)) in
+      let known = one.known loader (listed_alone loader loader ∙ nat_eq_equiv.refl loader) in
+      ap (λ (o : Option ℕ). is_some {T = Event} (option_map event.Retire o)) (loader_number loader known).1
+  is_there limits (event.RetireAll loaders) ok e = refl

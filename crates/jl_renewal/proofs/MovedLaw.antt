@@ -94,6 +94,8 @@ module _ (k : Flags) (limits more : Limits) (most : AreNoFewer limits more) (h :
   each_leads (event.Install rows) now there ok =
       subst (λ (es : List Event). Leads more (moved_world k w) es (moved_world k w)) (same_Some [] now there) (leads_nowhere more (moved_world k w))
   each_leads (event.Retire loader) now there ok = one_event (event.Retire loader) now (inv_map (λ f. f ∷ []) (event_there k (event.Retire loader)) now there) ok
+  each_leads (event.RetireAll loaders) now there ok =
+      one_event (event.RetireAll loaders) now (inv_map (λ f. f ∷ []) (event_there k (event.RetireAll loaders)) now there) ok
 
 -- ---- all of them
 

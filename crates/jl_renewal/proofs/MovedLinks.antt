@@ -264,6 +264,7 @@ neither_installs n e f carries s t = subst (λ (o : Option Event). option_map_or
     calm (event.Bind s c) is = refl
     calm (event.Install rows) is = cc
     calm (event.Retire loader) is = refl
+    calm (event.RetireAll loaders) is = refl
 
 -- ---- an install
 

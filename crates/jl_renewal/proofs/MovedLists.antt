@@ -8,6 +8,7 @@ use Rattle.std.proofs.lemmas.Bool.{cases_order}
 use Rattle.std.proofs.lemmas.Bool.Decides.{Decides-eqb}
 use Rattle.std.proofs.lemmas.Cmp.{nat_eq_equiv}
 use Rattle.std.proofs.lemmas.Option.{same_Some, slice_get_within}
+use Rattle.jl_types.specs.Events.Retirement.{emptied}
 use Rattle.jl_types.proofs.Lists.{element_at}
 use Rattle.jl_hierarchy.proofs.Rising.{other_number}
 use Rattle.jl_renewal.specs.Moved.{moved, shifted, kept}
@@ -154,6 +155,11 @@ module _ {A : Type 0} where
   length_set [] i x = refl
   length_set (y ∷ xs) zero x = refl
   length_set (y ∷ xs) (suc i) x = ap suc (length_set xs i x)
+
+-- retired loaders stay in the list, and find nothing
+pub length_emptied : (found : List (List (List ℕ × ℕ))) (loaders : List ℕ) → length (emptied found loaders) ≡ length found
+length_emptied found [] = refl
+length_emptied found (l ∷ loaders) = length_emptied (slice_set found l []) loaders ∙ length_set found l []
 
 pub map_set : {A B : Type 0} (f : A → B) (xs : List A) (i : ℕ) (x : A) → map f (slice_set xs i x) ≡ slice_set (map f xs) i (f x)
 map_set f [] i x = refl

@@ -137,6 +137,7 @@ module _ (k : Flags) (w : World) (names : Names k w) where
       }
   names_after (event.Install rows) f there = names
   names_after (event.Retire loader) f there = as_before (step w (event.Retire loader)) refl refl
+  names_after (event.RetireAll loaders) f there = as_before (step w (event.RetireAll loaders)) refl refl
 
 -- ---- at a renewal
 

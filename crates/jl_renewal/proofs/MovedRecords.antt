@@ -1,5 +1,5 @@
 -- What a loader that isn't retired has recorded is present, each record of it.
-use Rattle.std.specs.Prelude.{◌≡◌, ◌≤◌, ◌<◌, ℕ, zero, suc, ◌+◌, ◌||◌, ◌&&◌, ◌==◌, not, nat_le, Bool, true, false, List, [], ◌∷◌, ◌++◌, length}
+use Rattle.std.specs.Prelude.{◌≡◌, ◌≤◌, ◌<◌, ℕ, zero, suc, ◌+◌, ◌||◌, ◌&&◌, not, nat_le, Bool, true, false, List, [], ◌∷◌, ◌++◌, length}
 use Rattle.std.specs.Prelude.{slice_get, slice_set, find, take, Option, Some, None, option_map, option_and_then, IsOk, if◌then◌else◌}
 use Rattle.std.specs.Bool.{then_some}
 use Rattle.std.specs.List.{list_any}
@@ -7,8 +7,6 @@ use Rattle.std.specs.Option.{option_map_or}
 use Rattle.std.specs.Str.{bytes_eq}
 use Rattle.std.proofs.Common.{refl, sym, ap, subst, ◌∙◌, arith, inl, inr}
 use Rattle.std.proofs.lemmas.Bool.{or_parts, or_from, or_cases, leb-false}
-use Rattle.std.proofs.lemmas.Bool.Decides.{Decides-eqb}
-use Rattle.std.proofs.lemmas.Cmp.{nat_eq_equiv}
 use Rattle.std.proofs.lemmas.List.{take_more, take_all}
 use Rattle.std.proofs.lemmas.List.Folds.{list_any-append}
 use Rattle.std.proofs.lemmas.Option.{same_Some, slice_get_within, get_or_from_slice_get}
@@ -23,19 +21,20 @@ use Rattle.jl_types.specs.Events.Event.{Event}
 use Rattle.jl_types.specs.Events.Verdict.{verdict, step}
 use Rattle.jl_types.specs.Events.History.{world_after}
 use Rattle.jl_types.specs.Events.Definitions.{define_fault, class_made, defined, delegate_fault, is_unknown, with_record}
-use Rattle.jl_types.specs.Events.Retirement.{is_of, classes_fault, retire_fault, retired}
+use Rattle.jl_types.specs.Events.Retirement.{is_listed, is_of_any, retired, MayRetire}
 use Rattle.jl_types.proofs.Firsts.{first_none, test_none}
 use Rattle.jl_types.proofs.Lists.{at_end, element_at}
 use Rattle.jl_types.proofs.Orders.{IsGood, world_good}
 use Rattle.jl_types.proofs.Places.{world_more}
-use Rattle.jl_types.proofs.Retiring.{retired_after, present_after, is_free as free_to_retire}
+use Rattle.jl_types.proofs.Retiring.{retired_after, present_after, kept_apart, may_retire, is_free as free_to_retire}
 use Rattle.jl_hierarchy.proofs.Closed.{present_still}
-use Rattle.jl_relink.proofs.Closing.{no_fault, free_classes}
+use Rattle.jl_relink.proofs.Closing.{no_fault, free_loader, free_loaders}
 use Rattle.jl_renewal.proofs.ClassPhase.{loaders_after}
 use Rattle.jl_renewal.proofs.ClassSteps.{is_free}
 use Rattle.jl_renewal.proofs.Fit.{AllAccepted}
 use Rattle.jl_renewal.proofs.FitParts.{at_more}
 use Rattle.jl_renewal.proofs.FitSites.{set_at}
+use Rattle.jl_renewal.proofs.MovedLists.{length_emptied}
 
 abbrev Records : Type 0
 Records = List (List ℕ × ℕ)
@@ -128,17 +127,14 @@ module _ (cs : Classes) (all : AllPresent cs) where
       by_class None is at = all l records live at
       by_class (Some c) is at = with_one_more cs loader name c (λ d h. h) (found c (slice_get cs.loaders to) refl is) l records live at
 
-  all_retired : (loader : ℕ) → classes_fault cs loader ≡ None → AllPresent (retired cs loader)
-  all_retired loader free l records live at =
-      let parts = or_parts (is_retired cs l) (loader == l) (sym (retired_after cs loader l) ∙ live) in
-      elim (set_at cs.loaders loader [] l records at) [
-        | inl before ↦
-            let none = (free_to_retire cs loader free).records l (slice_get_within cs.loaders l records before) in
-            both_none records (all l records parts.0 before)
-            (second_false (l == loader) (list_any (λ r. is_of cs loader r.1) records) (nat_eq_equiv.symm l loader ∙ parts.1)
-            (sym (ap (λ (o : Option Records). not (l == loader) && option_map_or (list_any (λ r. is_of cs loader r.1)) o false) before) ∙ none))
-        | inr new ↦ subst (λ (rs : Records). list_any (λ r. not (is_present (retired cs loader) r.1)) rs ≡ false) new.1 refl
-      ]
+  all_retired : (loaders : List ℕ) → MayRetire cs loaders → AllPresent (retired cs loaders)
+  all_retired loaders may l records live at =
+      let parts = or_parts (is_retired cs l) (is_listed loaders l) (sym (retired_after cs loaders l) ∙ live) in
+      let before = sym (kept_apart cs.loaders loaders l parts.1) ∙ at in
+      let none = (free_to_retire cs loaders may).records l (slice_get_within cs.loaders l records before) in
+      both_none records (all l records parts.0 before)
+      (second_false (is_listed loaders l) (list_any (λ r. is_of_any cs loaders r.1) records) parts.1
+      (sym (ap (λ (o : Option Records). not (is_listed loaders l) && option_map_or (list_any (λ r. is_of_any cs loaders r.1)) o false) before) ∙ none))
     where
       second_false : (a b : Bool) → a ≡ false → (not a && b) ≡ false → b ≡ false
       second_false true b e none = cc
@@ -149,14 +145,14 @@ module _ (cs : Classes) (all : AllPresent cs) where
       by_tests true false e other = refl
       by_tests false b e other = cc
 
-      both_none : (rs : Records) → list_any (λ r. not (is_present cs r.1)) rs ≡ false → list_any (λ r. is_of cs loader r.1) rs ≡ false
-          → list_any (λ r. not (is_present (retired cs loader) r.1)) rs ≡ false
+      both_none : (rs : Records) → list_any (λ r. not (is_present cs r.1)) rs ≡ false → list_any (λ r. is_of_any cs loaders r.1) rs ≡ false
+          → list_any (λ r. not (is_present (retired cs loaders) r.1)) rs ≡ false
       both_none [] e other = refl
       both_none (r ∷ rs) e other =
           let here = or_parts (not (is_present cs r.1)) (list_any (λ r. not (is_present cs r.1)) rs) e in
-          let there = or_parts (is_of cs loader r.1) (list_any (λ r. is_of cs loader r.1) rs) other in
-          or_from (not (is_present (retired cs loader) r.1)) (list_any (λ r. not (is_present (retired cs loader) r.1)) rs)
-          (ap not (present_after cs loader r.1) ∙ by_tests (is_present cs r.1) (is_of cs loader r.1) here.0 there.0)
+          let there = or_parts (is_of_any cs loaders r.1) (list_any (λ r. is_of_any cs loaders r.1) rs) other in
+          or_from (not (is_present (retired cs loaders) r.1)) (list_any (λ r. not (is_present (retired cs loaders) r.1)) rs)
+          (ap not (present_after cs loaders r.1) ∙ by_tests (is_present cs r.1) (is_of_any cs loaders r.1) here.0 there.0)
           (both_none rs here.1 there.1)
 
 -- ---- each event
@@ -179,7 +175,9 @@ all_step limits w (event.Invalidate points) good all accepted = all
 all_step limits w (event.Bind s c) good all accepted = all
 all_step limits w (event.Install rows) good all accepted = all
 all_step limits w (event.Retire loader) good all accepted =
-    all_retired w.classes all loader (free_classes w loader (no_fault refusal.Retire (retire_fault w loader) _ accepted))
+    all_retired w.classes all (loader ∷ []) (may_retire w (loader ∷ []) (free_loader limits w loader accepted))
+all_step limits w (event.RetireAll loaders) good all accepted =
+    all_retired w.classes all loaders (may_retire w loaders (free_loaders limits w loaders accepted))
 
 -- ---- all events
 
@@ -207,16 +205,22 @@ all_after limits h all =
 
 -- ---- retired loaders were there
 
-length_set : {A : Type 0} (xs : List A) (i : ℕ) (x : A) → length (slice_set xs i x) ≡ length xs
-length_set [] i x = refl
-length_set (y ∷ xs) zero x = refl
-length_set (y ∷ xs) (suc i) x = ap suc (length_set xs i x)
-
 abbrev pub AreKnown : Classes → Type 0
 AreKnown cs = (l : ℕ) → is_retired cs l ≡ true → l < length cs.loaders
 
 loaders_grow : (w : World) (e : Event) → length w.classes.loaders ≤ length (step w e).classes.loaders
 loaders_grow w e = loaders_after (e ∷ []) w
+
+known_retired : (w : World) (loaders : List ℕ) → AreKnown w.classes → MayRetire w.classes loaders → AreKnown (retired w.classes loaders)
+known_retired w loaders all may l is =
+    let same = length_emptied w.classes.loaders loaders in
+    elim (or_cases (is_retired w.classes l) (is_listed loaders l) (sym (retired_after w.classes loaders l) ∙ is)) [
+      | inl before ↦ let lt = all l before in omega (arith, lt, same)
+      | inr now ↦
+          let known = or_parts (nat_le (length w.classes.loaders) l) (is_retired w.classes l) ((free_to_retire w.classes loaders may).known l now) in
+          let lt = leb-false (length w.classes.loaders) l known.0 in
+          omega (arith, lt, same)
+    ]
 
 known_step : (limits : Limits) (w : World) (e : Event) → AreKnown w.classes → IsOk (verdict limits w e) → AreKnown (step w e).classes
 known_step limits w event.NewLoader all accepted l is = let lt = all l is in let le = loaders_grow w event.NewLoader in omega (arith, lt, le)
@@ -232,13 +236,9 @@ known_step limits w (event.Invalidate points) all accepted l is = all l is
 known_step limits w (event.Bind s c) all accepted l is = all l is
 known_step limits w (event.Install rows) all accepted l is = all l is
 known_step limits w (event.Retire loader) all accepted l is =
-    let free = free_to_retire w.classes loader (free_classes w loader (no_fault refusal.Retire (retire_fault w loader) _ accepted)) in
-    let known = leb-false (length w.classes.loaders) loader (or_parts (nat_le (length w.classes.loaders) loader) (is_retired w.classes loader) free.known).0 in
-    let same = length_set w.classes.loaders loader [] in
-    elim (or_cases (is_retired w.classes l) (loader == l) (sym (retired_after w.classes loader l) ∙ is)) [
-      | inl before ↦ let lt = all l before in omega (arith, lt, same)
-      | inr now ↦ let one = (Decides-eqb loader l).0 now in omega (arith, known, one, same)
-    ]
+    known_retired w (loader ∷ []) all (may_retire w (loader ∷ []) (free_loader limits w loader accepted)) l is
+known_step limits w (event.RetireAll loaders) all accepted l is =
+    known_retired w loaders all (may_retire w loaders (free_loaders limits w loaders accepted)) l is
 
 pub known_after : (limits : Limits) (h : List Event) → AllAccepted limits h → AreKnown (world_after h).classes
 known_after limits h all =

@@ -1,5 +1,5 @@
 -- What stays rests on what stays, whatever the old core accepts.
-use Rattle.std.specs.Prelude.{◌≡◌, ℕ, ◌≤◌, ◌||◌, not, nat_le, Bool, true, false, List, [], ◌∷◌, ◌++◌, length, slice_get, slice_set}
+use Rattle.std.specs.Prelude.{◌≡◌, ℕ, ◌≤◌, ◌⊎◌, ◌||◌, not, nat_le, Bool, true, false, List, [], ◌∷◌, ◌++◌, length, slice_get, slice_set}
 use Rattle.std.specs.Prelude.{Option, Some, None, is_some, is_none, Err, IsOk, if◌then◌else◌}
 use Rattle.std.specs.Bool.{then_some}
 use Rattle.std.specs.List.{list_any}
@@ -18,9 +18,9 @@ use Rattle.jl_types.specs.Values.World.{World, Class, CallSite}
 use Rattle.jl_types.specs.Values.Members.{lookup, is_present, is_retired}
 use Rattle.jl_types.specs.Linkage.Stages.{invocation_at}
 use Rattle.jl_types.specs.Events.Event.{Event}
-use Rattle.jl_types.specs.Events.Verdict.{verdict, step, same_place, if_invoked, retargeted}
+use Rattle.jl_types.specs.Events.Verdict.{verdict, step, same_place, if_invoked, retargeted, with_classes}
 use Rattle.jl_types.specs.Events.Definitions.{define_fault, class_made, delegate_fault, is_unknown, with_record}
-use Rattle.jl_types.specs.Events.Retirement.{is_of}
+use Rattle.jl_types.specs.Events.Retirement.{is_of_any, emptied, retired}
 use Rattle.jl_types.proofs.Firsts.{first_none, test_none}
 use Rattle.jl_types.proofs.Retiring.{retired_after, present_after}
 use Rattle.jl_types.proofs.Bools.{first_test}
@@ -30,7 +30,7 @@ use Rattle.jl_renewal.specs.Moved.{Flags, Rests, moved}
 use Rattle.jl_renewal.proofs.ClassSteps.{is_free}
 use Rattle.jl_renewal.proofs.FitParts.{at_more}
 use Rattle.jl_renewal.proofs.FitSites.{set_at}
-use Rattle.jl_renewal.proofs.MovedLists.{later_stays, length_set}
+use Rattle.jl_renewal.proofs.MovedLists.{later_stays, length_set, length_emptied}
 use Rattle.jl_renewal.proofs.MovedClasses.{found_stays, live_stays}
 
 abbrev Records : Type 0
@@ -42,6 +42,16 @@ record_length loaders l name c = by_loader (slice_get loaders l)
     by_loader : (o : Option Records) → length (option_map_or (λ records. slice_set loaders l (records ++ (name, c) ∷ [])) o loaders) ≡ length loaders
     by_loader None = refl
     by_loader (Some records) = length_set loaders l (records ++ (name, c) ∷ [])
+
+-- a loader finds what it found, or nothing
+emptied_at : (found : List Records) (loaders : List ℕ) (k : ℕ) (records : Records) → slice_get (emptied found loaders) k ≡ Some records
+    → (slice_get found k ≡ Some records) ⊎ (records ≡ [])
+emptied_at found [] k records at = inl at
+emptied_at found (l ∷ loaders) k records at = by_rest (emptied_at (slice_set found l []) loaders k records at)
+  where
+    by_rest : (slice_get (slice_set found l []) k ≡ Some records) ⊎ (records ≡ []) → (slice_get found k ≡ Some records) ⊎ (records ≡ [])
+    by_rest (inl before) = elim (set_at found l [] k records before) [ inl first ↦ inl first | inr new ↦ inr (sym new.1) ]
+    by_rest (inr new) = inr new
 
 none_is : (o : Option ℕ) → is_some o ≡ true → is_none o ≡ false
 none_is None e = cc
@@ -159,20 +169,21 @@ module _ (k : Flags) (w : World) (rests : Rests k w) where
             with_loaders (with_record w.classes.loaders loader name c) (record_length w.classes.loaders loader name c)
             (recorded_more loader name c (ap is_some stays.1))
 
-  rests_retired : (loader : ℕ) → Rests k (step w (event.Retire loader))
-  rests_retired loader = record {
-    few_loaders = let long = length_set w.classes.loaders loader [] in let few = rests.few_loaders in omega (arith, long, few);
+  rests_retired : (loaders : List ℕ) → Rests k (with_classes w (retired w.classes loaders))
+  rests_retired loaders = record {
+    few_loaders = let long = length_emptied w.classes.loaders loaders in let few = rests.few_loaders in omega (arith, long, few);
     few_classes = rests.few_classes;
     few_sites = rests.few_sites;
     few_call_sites = rests.few_call_sites;
     few_switches = rests.few_switches;
     first = rests.first;
-    gone = λ l none. retired_after w.classes loader l ∙ or_left (is_retired w.classes l) _ (rests.gone l none);
-    present = λ c is. rests.present c (first_test (is_present w.classes c) (not (is_of w.classes loader c)) (sym (present_after w.classes loader c) ∙ is));
+    gone = λ l none. retired_after w.classes loaders l ∙ or_left (is_retired w.classes l) _ (rests.gone l none);
+    present = λ c is. rests.present c
+        (first_test (is_present w.classes c) (not (is_of_any w.classes loaders c)) (sym (present_after w.classes loaders c) ∙ is));
     owned = rests.owned;
-    recorded = λ l m records e at. elim (set_at w.classes.loaders loader [] l records at) [
+    recorded = λ l m records e at. elim (emptied_at w.classes.loaders loaders l records at) [
       | inl before ↦ rests.recorded l m records e before
-      | inr new ↦ subst (λ (rs : Records). list_any (λ r. is_none (moved k.classes r.1)) rs ≡ false) new.1 refl
+      | inr new ↦ subst (λ (rs : Records). list_any (λ r. is_none (moved k.classes r.1)) rs ≡ false) (sym new) refl
     ];
     sites = rests.sites;
   }
@@ -296,4 +307,5 @@ module _ (k : Flags) (w : World) (rests : Rests k w) where
       with_switches (step w (event.Invalidate points)).sites.switches (omega (arith, long))
   rests_after limits (event.Bind s c) accepted = with_bindings (w.bindings ++ (s, c) ∷ [])
   rests_after limits (event.Install rows) accepted = rests
-  rests_after limits (event.Retire loader) accepted = rests_retired loader
+  rests_after limits (event.Retire loader) accepted = rests_retired (loader ∷ [])
+  rests_after limits (event.RetireAll loaders) accepted = rests_retired loaders

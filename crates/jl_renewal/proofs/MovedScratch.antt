@@ -148,7 +148,7 @@ module _ (k : Flags) (w : World) (rests : Rests k w) (names : Names k w) (fit : 
     uppers = λ j c present up.
         let d = class_of c present in
         let a = moved_onto k.classes j in
-        let above_it = ancestor_was k w rests fit closed good.ordered 0 0 rests.first (renumbered n.classes c + 1) a.0 j c (renumbered n.classes c) a.1
+        let above_it = ancestor_was k w rests fit closed good.ordered (renumbered n.classes c + 1) a.0 j c (renumbered n.classes c) a.1
         (d.1 ∙ ap Some (sym d.2)) present up in
         let there = closed.ancestors a.0 c ((ancestor_decides cs good.ordered a.0 c).1 above_it) present in
         (a.0, there, class_moved a.0 j (present_within a.0 there) a.1);

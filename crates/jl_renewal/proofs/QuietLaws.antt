@@ -69,6 +69,7 @@ module _ (k : ℕ) where
   of_class w n (event.Bind s c) = refl
   of_class w n (event.Install rows) = refl
   of_class w n (event.Retire loader) = refl
+  of_class w n (event.RetireAll loaders) = refl
 
   of_loaders : (numbers : List (Option ℕ)) → IsQuiet (new_loaders numbers)
   of_loaders numbers =
@@ -138,6 +139,7 @@ module _ (k : ℕ) where
       (λ t. calm_map (event.Bind t) (λ d. refl) (new_number n.call_sites c)) (new_number n.sites s)
   of_carried n (event.Install rows) = refl
   of_carried n (event.Retire loader) = calm_map event.Retire (λ l. refl) (new_number n.loaders loader)
+  of_carried n (event.RetireAll loaders) = refl
 
   -- where nothing was installed there is no link
   pub none_there : (h : List Event) → IsQuiet h → installed h k ≡ None

@@ -82,18 +82,6 @@ front_some [] ys r is = cc
 front_some (None ∷ xs) ys r is = front_some xs ys r is
 front_some (Some x ∷ xs) ys r is = is
 
--- the first of two is refused, or the second where the first isn't
-pub first_refused : (a b : Option Refusal) (r : Refusal) → IsFault a r → IsFault (first_of (a ∷ b ∷ [])) r
-first_refused a b r (inl is) = inl (ap (λ (o : Option Refusal). first_of (o ∷ b ∷ [])) is)
-first_refused a b r (inr lacks) = inr lacks
-
-pub second_refused : (a b : Option Refusal) (r : Refusal) → a ≡ None → IsFault b r → IsFault (first_of (a ∷ b ∷ [])) r
-second_refused a b r none (inl is) = inl (λ i. first_of (none i ∷ is i ∷ []))
-second_refused a b r none (inr lacks) = inr lacks
-
-pub none_refused : (a b : Option Refusal) → a ≡ None → b ≡ None → first_of (a ∷ b ∷ []) ≡ None
-none_refused a b first second = λ i. first_of (first i ∷ second i ∷ [])
-
 -- ---- all of them
 
 module _ (limits : Limits) (w : World) (released : Released) where

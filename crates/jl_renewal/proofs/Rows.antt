@@ -21,7 +21,7 @@ use Rattle.jl_types.specs.declared.target.CallSiteKind.TheVariants.{Constant, Mu
 use Rattle.jl_types.specs.Values.Target as target
 use Rattle.jl_types.specs.Events.Event.{Event}
 use Rattle.jl_types.specs.declared.event.EventOf.TheVariants.{NewLoader, Define, Delegate, Request, NewCallSite, SetTarget, NewSwitch, Invalidate}
-use Rattle.jl_types.specs.declared.event.EventOf.TheVariants.{Bind, Install, Retire}
+use Rattle.jl_types.specs.declared.event.EventOf.TheVariants.{Bind, Install, Retire, RetireAll}
 use Rattle.jl_types.specs.declared.event.Made.TheVariants.{Nothing}
 use Rattle.jl_types.specs.declared.event.Made.TheVariants as made
 use Rattle.jl_types.specs.declared.answer.Recv.TheVariants.{Of}
@@ -272,10 +272,12 @@ all_of_them_are_enough = refl
 each_is_carried : filter_map (carried numbers) (
     NewLoader ∷ defines 2 (Some object) (codes "N") [] ∷ Delegate 2 (codes "N") 0 ∷ at_first 4
     ∷ NewCallSite Mutable (codes "()V") (target.Guard 1 (target.Invoker 1) (target.Method (of_class 4 0)))
-    ∷ SetTarget 1 (target.Method (of_class 4 1)) ∷ NewSwitch ∷ Invalidate (0 ∷ 5 ∷ 1 ∷ []) ∷ Bind 1 1 ∷ Retire 2 ∷ [])
+    ∷ SetTarget 1 (target.Method (of_class 4 1)) ∷ NewSwitch ∷ Invalidate (0 ∷ 5 ∷ 1 ∷ []) ∷ Bind 1 1 ∷ Retire 2
+    ∷ RetireAll (2 ∷ 1 ∷ 0 ∷ []) ∷ [])
     ≡ NewLoader ∷ defines 1 (Some object) (codes "N") [] ∷ Delegate 1 (codes "N") 0 ∷ at_first 3
     ∷ NewCallSite Mutable (codes "()V") (target.Guard 1 (target.Invoker 1) (target.Method (of_class 3 0)))
-    ∷ SetTarget 1 (target.Method (of_class 3 1)) ∷ NewSwitch ∷ Invalidate (0 ∷ 1 ∷ []) ∷ Bind 0 1 ∷ Retire 1 ∷ []
+    ∷ SetTarget 1 (target.Method (of_class 3 1)) ∷ NewSwitch ∷ Invalidate (0 ∷ 1 ∷ []) ∷ Bind 0 1 ∷ Retire 1
+    ∷ RetireAll (1 ∷ 0 ∷ []) ∷ []
 each_is_carried = refl
 
 -- what names what is gone, a part of a target among it, and links
@@ -446,3 +448,49 @@ numbers_of_all : all_numbers flags later ≡ record {
   switches = Some 0 ∷ None ∷ Some 1 ∷ [];
 }
 numbers_of_all = refl
+
+-- ---- loaders that need each other, and go at once after a renewal
+
+-- loaders 2 and 3 have defined P 3 and Q 4, and each has found the other's class; site 2 is in P
+abbrev of_each_other : List Event
+of_each_other =
+    NewLoader ∷ NewLoader ∷ Delegate 2 object 0 ∷ Delegate 3 object 0
+    ∷ defines 2 (Some object) (codes "P") (dynamic ∷ []) ∷ defines 3 (Some object) (codes "Q") []
+    ∷ Delegate 2 (codes "Q") 3 ∷ Delegate 3 (codes "P") 2 ∷ at_first 3
+    ∷ []
+
+abbrev both_go : List Event
+both_go = of_each_other ++ RetireAll (3 ∷ 2 ∷ []) ∷ []
+
+both_may_go : are_accepted with_released both_go ≡ true
+both_may_go = refl
+
+neither_may_go_alone : map (λ l. is_ok (verdict (fixed 8) (world_after (with_released ++ of_each_other)) (Retire l))) (2 ∷ 3 ∷ []) ≡ false ∷ false ∷ []
+neither_may_go_alone = refl
+
+abbrev without_both : World
+without_both = world_after (with_released ++ both_go)
+
+-- these events under the new numbers, where loader 1 and class 2 are gone
+each_of_both_is_there : filter_map (event_there flags) both_go
+    ≡ NewLoader ∷ NewLoader ∷ Delegate 1 object 0 ∷ Delegate 2 object 0
+    ∷ defines 1 (Some object) (codes "P") (dynamic ∷ []) ∷ defines 2 (Some object) (codes "Q") []
+    ∷ Delegate 1 (codes "Q") 2 ∷ Delegate 2 (codes "P") 1 ∷ at_first 2 ∷ RetireAll (2 ∷ 1 ∷ [])
+    ∷ []
+each_of_both_is_there = refl
+
+-- a loader that is gone is left out, and one that comes twice stays so
+gone_ones_are_left_out : event_there flags (RetireAll (3 ∷ 1 ∷ 2 ∷ 3 ∷ [])) ≡ Some (RetireAll (2 ∷ 1 ∷ 2 ∷ []))
+gone_ones_are_left_out = refl
+
+both_are_never_gone : may_be_gone (RetireAll (3 ∷ 2 ∷ [])) ≡ false
+both_are_never_gone = refl
+
+same_world_without_both : fold step (renewed (world_of owned) let_go) (filter_map (event_there flags) both_go) ≡ moved_world flags without_both
+same_world_without_both = refl
+
+both_are_retired : (moved_world flags without_both).classes.retired ≡ 2 ∷ 1 ∷ []
+both_are_retired = refl
+
+both_find_nothing : (moved_world flags without_both).classes.loaders ≡ ((object, 0) ∷ (codes "T", 1) ∷ []) ∷ [] ∷ [] ∷ []
+both_find_nothing = refl

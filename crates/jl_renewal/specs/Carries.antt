@@ -30,7 +30,8 @@ carried_target n (Guard p first fallback) =
     option_and_then (λ q. guarded q (carried_target n first) (carried_target n fallback)) (new_number n.switches p)
 carried_target n (Invoker c) = option_map Invoker (new_number n.call_sites c)
 
--- Switch points that are gone stay as they are, and so do links: they come over with the others.
+-- Switch points that are gone stay as they are, and so do links: they come over with the others. Of loaders that are retired at once those
+-- that are gone are left out: they are retired already.
 abbrev pub carried : Numbers → Event → Option Event
 carried n event.NewLoader = Some event.NewLoader
 carried n (event.Define loader file) = option_map (λ l. event.Define l file) (new_number n.loaders loader)
@@ -44,6 +45,7 @@ carried n (event.Invalidate points) = Some (event.Invalidate (filter_map (new_nu
 carried n (event.Bind s c) = binding n (s, c)
 carried n (event.Install rows) = None
 carried n (event.Retire loader) = option_map event.Retire (new_number n.loaders loader)
+carried n (event.RetireAll loaders) = Some (event.RetireAll (filter_map (new_number n.loaders) loaders))
 
 -- ---- the numbers afterwards
 

@@ -107,7 +107,8 @@ moved_world k w = record {
   };
 }
 
--- ---- an event under the new numbers, or none where it names what is gone; switch points that are gone are left out of an invalidation
+-- ---- an event under the new numbers, or none where it names what is gone; switch points that are gone are left out of an invalidation,
+-- and loaders that are gone out of a retirement of several
 
 abbrev pub target_there : Flags → Target → Option Target
 target_there k (Method m) = option_map (λ c. Method (record m { class = c })) (moved k.classes m.class)
@@ -128,6 +129,7 @@ event_there k (event.Invalidate points) = Some (event.Invalidate (filter_map (mo
 event_there k (event.Bind s c) = option_and_then (λ t. option_map (event.Bind t) (moved k.call_sites c)) (moved k.sites s)
 event_there k (event.Install rows) = None
 event_there k (event.Retire loader) = option_map event.Retire (moved k.loaders loader)
+event_there k (event.RetireAll loaders) = Some (event.RetireAll (filter_map (moved k.loaders) loaders))
 
 -- It may name a call site or a switch point that the fresh core doesn't have. An install is no event of the fresh core.
 abbrev pub may_be_gone : Event → Bool

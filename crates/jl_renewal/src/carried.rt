@@ -7,7 +7,6 @@ ghost use Rattle.jl_renewal.specs.Numbers.{new_number};
 ghost use Rattle.jl_renewal.specs.Carries as carries;
 
 use crate::classes::definition;
-use crate::links::push_if_any;
 use crate::numbers::Renumbering;
 use crate::places::{binding, request};
 use crate::targets::renumbered_method;
@@ -59,6 +58,10 @@ pub(crate) fn carried_event(
             Some(loader) => Ok(Some(Event::Retire(loader))),
             None => Ok(None),
         },
+        Accepted::RetireAll(loaders) => {
+            let loaders = carried_loaders(alloc, numbers, loaders.as_slice())?;
+            Ok(Some(Event::RetireAll(Seq::of(loaders))))
+        }
     }
 }
 
@@ -122,9 +125,22 @@ fn carried_points(
 ) -> Result<Vec<SwitchId>, AllocError>
     ensures { IfOk result (λ made. made.items ≡ filter_map (new_number numbers.now.switches) points.now) }
 {
-    let mut made = Vec::with_capacity(alloc, points.len())?;
-    for point in points {
-        push_if_any(&mut made, numbers.switch(*point))?;
-    }
-    Ok(made)
+    points
+        .iter()
+        .filter_map(|point| numbers.switch(*point))
+        .collect(alloc)
+}
+
+/// The loaders that aren't gone. Want of memory is an error.
+fn carried_loaders(
+    alloc: Global,
+    numbers: &Renumbering,
+    loaders: &[LoaderId],
+) -> Result<Vec<LoaderId>, AllocError>
+    ensures { IfOk result (λ made. made.items ≡ filter_map (new_number numbers.now.loaders) loaders.now) }
+{
+    loaders
+        .iter()
+        .filter_map(|loader| numbers.loader(*loader))
+        .collect(alloc)
 }

@@ -111,7 +111,8 @@ fn class_event(
         | Accepted::Invalidate(_)
         | Accepted::Bind(_, _)
         | Accepted::Install(_)
-        | Accepted::Retire(_) => Ok(None),
+        | Accepted::Retire(_)
+        | Accepted::RetireAll(_) => Ok(None),
     }
 }
 
