@@ -38,8 +38,8 @@ use jl_names::{Name, Seq};
 use jl_relink::Snapshot;
 use jl_session::read_target;
 use jl_types::{
-    Answer, CallSiteId, CallSiteKind, ClassId, Event, Limits, Link, LoaderId, MOST_OF_A_KIND, Place,
-    SiteNo,
+    Answer, CallSiteId, CallSiteKind, ClassId, Event, Limits, Link, LoaderId, MOST_OF_A_KIND,
+    Place, SiteNo,
 };
 use std::alloc::{AllocError, Global};
 use std::marker::Model;
