@@ -1,6 +1,6 @@
 //! The calls of `include/linkd.h`, of this version. Nothing compares these declarations with the header but the crate's tests.
 
-pub const VERSION: u32 = 6;
+pub const VERSION: u32 = 7;
 
 /// A linker, a seat, a memo, a view or a renewal, in a block of a size that the library tells.
 #[repr(C)]
