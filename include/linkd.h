@@ -344,8 +344,9 @@ uint32_t linkd_retire(linkd *at, uint32_t loader, linkd_told *told);
 /* The loaders go at once, each as by linkd_retire: all of them or none. Only what stays holds one: loaders that record each other go, and so
  * do a loader and one whose classes extend its own, in whatever order they stand. One that comes twice goes once; where there are none
  * nothing changes. LINKD_RETIRE, of which number is the first loader in the array that can't go, and linkd_retire_fault says why and the place.
- * It takes as long as one look at each class that there ever was, at what the loaders record, and at each link that rests on a class which
- * loses a receiver, however many loaders go. Where it is refused the classes are looked at once for each loader up to the one that is told. */
+ * However many loaders go, it takes one look at each class that there ever was, at what each loader records, at each call site's target, and
+ * at each link that rests on a class which loses a receiver. Where it is refused it looks no link up, but looks at the classes, the records and
+ * the targets once more for each loader up to the one that is told. */
 uint32_t linkd_retire_all(linkd *at, const uint32_t *loaders, size_t count, linkd_told *told);
 /* Links the sites from scratch, 1 to 256 of them, and installs their links: all of them or none. In this order: LINKD_BATCH_SIZE;
  * LINKD_UNKNOWN_SITE or LINKD_REPEATED, whose place is the first site that wasn't requested or comes a second time; LINKD_NOT_READY,
