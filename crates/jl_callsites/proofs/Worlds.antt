@@ -35,7 +35,8 @@ pub target_fault_same : (w : World) (c : ℕ) (ty : List ℕ) (t : Target) → t
 target_fault_same w c ty t = λ i.
     first_of (then_some (nat_lt 64 (depth t) || nat_lt 255 (parts t)) TooDeep ∷ part_fault_same w c ty t i ∷ [])
 
-pub new_site_fault_same : (most_call_sites : ℕ) (w : World) (ty : List ℕ) (t : Target) → new_site_fault most_call_sites w.classes w.sites ty t ≡ new_call_site_fault most_call_sites w ty t
+pub new_site_fault_same : (most_call_sites : ℕ) (w : World) (ty : List ℕ) (t : Target)
+    → new_site_fault most_call_sites w.classes w.sites ty t ≡ new_call_site_fault most_call_sites w ty t
 new_site_fault_same most_call_sites w ty t = λ i.
     first_of (
     then_some (nat_le most_call_sites (length w.sites.call_sites)) Full

@@ -95,7 +95,8 @@ behind_inside {inner} {core} {inner_ahead} {ahead} same same_ahead behind =
 pub not_behind : (core ahead : State) → IsBehind core ahead → length ahead.log ≤ length core.log → core ≡ ahead
 not_behind core ahead behind le = behind.0 ∙ ap (λ (log : List (Event × Reply)). record ahead { log = log }) (take_whole ahead.log (length core.log) le)
 
-pub none_behind : (m k : Limits) (old ahead : World) (log entries : List Entry) → are_told old.classes.rows log ≡ true → are_told ahead.classes.rows entries ≡ true
+pub none_behind : (m k : Limits) (old ahead : World) (log entries : List Entry) → are_told old.classes.rows log ≡ true
+    → are_told ahead.classes.rows entries ≡ true
     → IsBehind (core_of m old log) (core_of k ahead entries) → slice_get entries (length log) ≡ None → core_of m old log ≡ core_of k ahead entries
 none_behind m k old ahead log entries told_old told_ahead behind none =
     let le = no_more entries (length log) none in

@@ -56,7 +56,8 @@ told_of_left : (told : Accepted) (loaders : List ℕ) → IsRetirement told load
 told_of_left told loaders (one loader) w index ks = refl
 told_of_left told loaders (all ls) w index ks = refl
 
-module _ (w : World) (ks : List Key) (told : Accepted) (loaders : List ℕ) (is : IsRetirement told loaders) (links : List (ℕ × Link)) (index : List (ℕ × List Key))
+module _ (w : World) (ks : List Key) (told : Accepted) (loaders : List ℕ) (is : IsRetirement told loaders) (links : List (ℕ × Link))
+    (index : List (ℕ × List Key))
     (led : HasStepped w ks told links index) where
   same_site : (s : ℕ) → retires_site w loaders s ≡ retires_at led.before told s
   same_site s =
@@ -105,7 +106,8 @@ module _ (w : World) (ks : List Key) (told : Accepted) (loaders : List ℕ) (is 
         let sum : sum_by (most_asked w None) (touched_by near ks) ≤ length (touched_by near ks) * 1048576 =
         few_in_sum (most_for w) (λ s. few_by w.classes few (footprint w s)) (touched_by near ks) in
         let fewer : length (touched_by near ks) ≤ length (touched_by index ks) =
-        subst (λ (ts : List ℕ). length ts ≤ length (touched_by index ks)) (sym touched_are) (no_more (λ s. not (retires_site w loaders s)) (touched_by index ks))
+        subst (λ (ts : List ℕ). length ts ≤ length (touched_by index ks)) (sym touched_are)
+            (no_more (λ s. not (retires_site w loaders s)) (touched_by index ks))
         in
         let some = few_touched led.before links index led.sound led.event in
         let same : length (touched_by index ks) ≡ length (touched_by index (keys led.before led.event)) =

@@ -1,11 +1,11 @@
 -- What the walks over classes and call sites say of a retirement of several loaders.
-use Rattle.std.specs.Prelude.{◌≡◌, ℕ, Bool, true, false, not, ◌&&◌, List, [], ◌∷◌, ◌++◌, map, take, Option, Some, None, option_map}
+use Rattle.std.specs.Prelude.{◌≡◌, ℕ, Bool, true, false, not, List, [], ◌∷◌, None, option_map}
 use Rattle.std.specs.List.{list_any}
-use Rattle.std.proofs.Common.{refl, ap, sym, ◌∙◌}
+use Rattle.std.proofs.Common.{refl}
 use Rattle.jl_types.specs.declared.refusal.RetireFault.TheVariants.{Targeted}
 use Rattle.jl_types.specs.Values.World.{World}
 use Rattle.jl_types.specs.Linkage.Resolution.{first_of}
-use Rattle.jl_types.specs.Events.Retirement.{MayRetire, classes_fault, targeted}
+use Rattle.jl_types.specs.Events.Retirement.{MayRetire}
 use Rattle.jl_types.specs.Events.Verdict.{retire_all_fault}
 use Rattle.jl_types.proofs.Retiring.{free_all}
 use Rattle.jl_callsites.specs.Targeted.{names_any}

@@ -9,7 +9,6 @@ use Rattle.std.specs.Str.{bytes_eq}
 use Rattle.std.proofs.Common.{refl, ap, sym, subst, ◌∙◌, arith, inl, inr, ◌⊎◌, length-append}
 use Rattle.std.proofs.lemmas.Bool.{both_ways}
 use Rattle.std.proofs.lemmas.Bool.Decides.{Decides-eqb}
-use Rattle.std.proofs.lemmas.Cmp.{nat_eq_equiv}
 use Rattle.std.proofs.lemmas.Option.{same_Some, slice_get_within}
 use Rattle.jl_class.specs.Class.{ClassFile}
 use Rattle.jl_types.specs.declared.refusal.DefineFault.TheVariants.{UnknownLoader}
@@ -289,7 +288,7 @@ module _ (cs : Classes) (ordered : AreOrdered cs.rows) (closed : IsClosed cs) (l
     ancestors = λ a x up present.
         let was = left_present x present in
         stays_present a (closed.ancestors a x up was.0) (none_above a x up was.0 was.1);
-    records = λ k name c alive e. by_loader k name c (parts (is_retired cs k) is_listed loaders k (sym (retired_after cs loaders k) ∙ alive))
+    records = λ k name c alive e. by_loader k name c (parts (is_retired cs k) (is_listed loaders k) (sym (retired_after cs loaders k) ∙ alive))
         (found_before cs loaders k name c e);
   }
     where
@@ -301,7 +300,8 @@ module _ (cs : Classes) (ordered : AreOrdered cs.rows) (closed : IsClosed cs) (l
       not_of : (k : ℕ) (name : List ℕ) (c : ℕ) → is_listed loaders k ≡ false → lookup cs k name ≡ Some c → is_of_any cs loaders c ≡ false
       not_of k name c other e = by_records (slice_get cs.loaders k) refl e
         where
-          by_records : (o : Option (List (List ℕ × ℕ))) → slice_get cs.loaders k ≡ o → option_and_then (recorded name) o ≡ Some c → is_of_any cs loaders c ≡ false
+          by_records : (o : Option (List (List ℕ × ℕ))) → slice_get cs.loaders k ≡ o → option_and_then (recorded name) o ≡ Some c
+              → is_of_any cs loaders c ≡ false
           by_records None at e = cc
           by_records (Some records) at e = by_test (is_of_any cs loaders c) refl
             where
@@ -314,5 +314,6 @@ module _ (cs : Classes) (ordered : AreOrdered cs.rows) (closed : IsClosed cs) (l
               by_test true is = absurd (both_ways (records_any cs loaders k) (free.records k (slice_get_within cs.loaders k records at)) (records_it is))
               by_test false is = refl
 
-      by_loader : (k : ℕ) (name : List ℕ) (c : ℕ) → (is_retired cs k ≡ false) × (is_listed loaders k ≡ false) → lookup cs k name ≡ Some c → is_present left c ≡ true
+      by_loader : (k : ℕ) (name : List ℕ) (c : ℕ) → (is_retired cs k ≡ false) × (is_listed loaders k ≡ false) → lookup cs k name ≡ Some c
+          → is_present left c ≡ true
       by_loader k name c alive e = stays_present c (closed.records k name c alive.0 e) (not_of k name c alive.1 e)

@@ -1,5 +1,5 @@
 -- Definitions, delegations and new loaders leave what was there as it was.
-use Rattle.std.specs.Prelude.{◌≡◌, ℕ, zero, suc, ◌<◌, ◌==◌, ◌&&◌, ◌||◌, not, Bool, true, false, cond, List, []}
+use Rattle.std.specs.Prelude.{◌≡◌, ℕ, zero, suc, ◌<◌, ◌&&◌, ◌||◌, not, Bool, true, false, cond, List, []}
 use Rattle.std.specs.Prelude.{◌∷◌, ◌++◌, length, find, slice_get, slice_set, Option, Some, None, option_map, option_and_then, if◌then◌else◌}
 use Rattle.std.specs.List.{list_any}
 use Rattle.std.specs.Option.{option_map_or}
@@ -160,5 +160,6 @@ stays_retired cs good loaders = record {
     second true b e = cc
     second false b e = e
 
-    found : (k : ℕ) (name : List ℕ) (c : ℕ) → is_retired (retired cs loaders) k ≡ false → lookup cs k name ≡ Some c → lookup (retired cs loaders) k name ≡ Some c
+    found : (k : ℕ) (name : List ℕ) (c : ℕ) → is_retired (retired cs loaders) k ≡ false → lookup cs k name ≡ Some c
+        → lookup (retired cs loaders) k name ≡ Some c
     found k name c alive e = found_after cs loaders k name (second (is_retired cs k) (is_listed loaders k) (sym (retired_after cs loaders k) ∙ alive)) ∙ e

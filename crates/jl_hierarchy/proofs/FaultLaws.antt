@@ -95,7 +95,8 @@ there f (x ∷ xs) (suc i) lt = there f xs i (omega (arith, lt))
 
 -- the definition has a fault where one is found
 pub none_where : (most_classes : ℕ) (cs : Classes) (loader : ℕ) (file : ClassFile) (found : Option FaultAt)
-    → define_fault most_classes cs loader file ≡ option_and_then (fault_of file) found → IfSome found (IsThere file) → is_none found ≡ is_none (define_fault most_classes cs loader file)
+    → define_fault most_classes cs loader file ≡ option_and_then (fault_of file) found → IfSome found (IsThere file)
+    → is_none found ≡ is_none (define_fault most_classes cs loader file)
 none_where most_classes cs loader file None e at = ap is_none (sym e)
 none_where most_classes cs loader file (Some (found.Plain fault)) e at = ap is_none (sym e)
 none_where most_classes cs loader file (Some (found.Missing i)) e at = sym (ap is_none e ∙ there MissingParent (parent_names file) i at)

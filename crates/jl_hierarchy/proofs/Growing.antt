@@ -69,7 +69,8 @@ module _ {inside cs : Classes} (same : inside ≡ cs) {row : Class} (none : MayD
       (old : IsKept inside over under × IsIndexed inside.rows marks are_superclass_chains)
       {loaders' : List (List (List ℕ × ℕ))} {rows' : List Class} {over' under' : List (List ℕ)} {marks' : Marked}
       (loaders_are : loaders' ≡ with_record inside.loaders new_class.row.loader new_class.row.file.name new_class.class)
-      (rows_are : rows' ≡ inside.rows ++ new_class.row ∷ []) (over_are : over' ≡ over ++ new_class.with_itself ∷ []) (received : IsReceived new_class under under')
+      (rows_are : rows' ≡ inside.rows ++ new_class.row ∷ []) (over_are : over' ≡ over ++ new_class.with_itself ∷ [])
+      (received : IsReceived new_class under under')
       (marked : AreKept marks marks') (added : AreAdded new_class marks') where
     kept : IsKept cs over under
     kept = subst (λ (k : Classes). IsKept k over under) same old.0

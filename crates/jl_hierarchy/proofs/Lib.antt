@@ -20,6 +20,7 @@ pub mod FaultLaws
 pub mod NewClass
 pub mod NewRecords
 pub mod Growing
+pub mod GoneLaws
 pub mod LoaderGone
 -- methods, superinterface methods, and walks up the superclasses
 pub mod PrintLaws

@@ -5,7 +5,7 @@ use Rattle.std.specs.Option.{option_map_or}
 use Rattle.std.proofs.Common.{refl, ap, sym, ◌∙◌, arith}
 use Rattle.std.specs.List.{list_any}
 use Rattle.std.proofs.lemmas.Cmp.{nat_eq_equiv}
-use Rattle.std.proofs.lemmas.List.{ext_get_or, length-set}
+use Rattle.std.proofs.lemmas.List.{ext_get_or}
 use Rattle.std.proofs.lemmas.List.FromFn.{get_or-map-range_with_len, length-map-range_with_len}
 use Rattle.std.proofs.lemmas.Bool.{leb-false}
 use Rattle.jl_class.specs.Flags.{object}
@@ -14,8 +14,7 @@ use Rattle.jl_types.specs.Values.Members.{is_retired, is_concrete, is_concrete_r
 use Rattle.jl_types.specs.Values.Ancestry.{is_ancestor, receivers}
 use Rattle.jl_types.specs.Events.Retirement.{is_listed, is_of_any, MayRetire, losing_receivers, retired}
 use Rattle.jl_types.proofs.Bools.{any-range-from}
-use Rattle.jl_types.proofs.Lists.{all_set}
-use Rattle.jl_types.proofs.Orders.{AreBelow, retired_good}
+use Rattle.jl_types.proofs.Orders.{retired_good}
 use Rattle.jl_types.proofs.Retiring.{is_free, retired_after, filter_twice, receivers_left, found_before, found_after}
 use Rattle.jl_types.proofs.Within.{length_emptied}
 use Rattle.jl_hierarchy.specs.Constancy.{has_object, ObjectComesFirst}
@@ -110,7 +109,8 @@ module _ (cs : Classes) (loaders : List ℕ) (none : MayRetire cs loaders) where
         there : has i (numbers cs) ≡ true
         there = any-range-from (λ k. k == i) 0 (length cs.rows) i (omega arith) (omega (arith, lt)) (nat_eq_equiv.refl i)
 
-        by_test : (b : Bool) → loses i ≡ b → (if b && has i (numbers cs) then without cs.rows new.retired (receivers cs i) else receivers cs i) ≡ receivers new i
+        by_test : (b : Bool) → loses i ≡ b → (if b && has i (numbers cs) then without cs.rows new.retired (receivers cs i) else receivers cs i) ≡ receivers
+            new i
         by_test true is =
             ap (λ (b : Bool). if b then without cs.rows new.retired (receivers cs i) else receivers cs i) there ∙ only_present i
         by_test false is = none_lost (is_of_any cs loaders) (receivers cs i) is ∙ sym (receivers_left cs loaders i)

@@ -242,7 +242,8 @@ module _ (cs : Classes) (loaders : List ℕ) (n : ℕ) (l : ℕ) where
   pub none_of_none : (c : ℕ) → has c [] ≡ (is_present cs c && is_of_any cs [] c)
   none_of_none c = sym (by_row (slice_get cs.rows c))
     where
-      by_row : (o : Option Class) → (option_map_or (λ row. not (is_retired cs row.loader)) o false && option_map_or (λ row. is_listed [] row.loader) o false) ≡ false
+      by_row : (o : Option Class) → (option_map_or (λ row. not (is_retired cs row.loader)) o false && option_map_or (λ row. is_listed [] row.loader) o
+          false) ≡ false
       by_row None = refl
       by_row (Some row) = and_none (not (is_retired cs row.loader))
 
@@ -255,7 +256,8 @@ one_passing f (x ∷ xs) h = elim (or_cases (f x) (list_any f xs) h) [
   | inr more ↦ let rest = one_passing f xs more in (rest.0, or_right (x == rest.0) (has rest.0 xs) rest.1, rest.2)
 ]
 
-module _ (cs : Classes) (o : AreOrdered cs.rows) (loaders : List ℕ) (own concrete : List ℕ) (own_is : (c : ℕ) → has c own ≡ (is_present cs c && is_of_any cs loaders c))
+module _ (cs : Classes) (o : AreOrdered cs.rows) (loaders : List ℕ) (own concrete : List ℕ)
+    (own_is : (c : ℕ) → has c own ≡ (is_present cs c && is_of_any cs loaders c))
     (concrete_is : concrete ≡ filter (is_concrete cs) own) where
   there : (c : ℕ) → is_present cs c ≡ true → c < length cs.rows
   there c is = passes_within (λ (row : Class). not (is_retired cs row.loader)) cs.rows c is

@@ -59,7 +59,10 @@ impl Leaving {
 }
 
 /// The loaders, each once. Want of memory is an error.
-pub(crate) fn each_once(alloc: Global, listed: &[LoaderId]) -> Result<IndexSet<LoaderId>, AllocError>
+pub(crate) fn each_once(
+    alloc: Global,
+    listed: &[LoaderId],
+) -> Result<IndexSet<LoaderId>, AllocError>
     ensures { IfOk result (λ loaders. loaders.keys ≡ gone_with [] listed.now) }
 {
     let mut loaders = IndexSet::new(alloc);

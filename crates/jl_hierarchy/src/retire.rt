@@ -1,7 +1,7 @@
 //! The retirement of loaders with the classes that they have defined (JLS SE 17 §12.7).
 
 ghost use Rattle.std.specs.Prelude.{◌≡◌, ◌<◌, ◌≤◌, ◌+◌, ◌&&◌, ◌||◌, ◌==◌, ◌++◌, ◌∷◌, ℕ, None, All, find, filter, length, replicate, slice_get, [], OnOk};
-ghost use Rattle.std.specs.Prelude.{OnErr, IfOk, true, not, if◌then◌else◌};
+ghost use Rattle.std.specs.Prelude.{OnErr, IfOk, true, if◌then◌else◌};
 ghost use Rattle.std.specs.Option.{option_map_or};
 ghost use Rattle.std.specs.List.{list_any, range_with_len};
 ghost use Rattle.jl_types.specs.Values.Members as members;
@@ -148,16 +148,29 @@ impl Classes {
     pub fn spares(&self, leaving: &Leaving) -> bool
         ensures { result ≡ true → retirement.MayRetire self.now leaving.now }
     {
-        self.knows_all(leaving.listed.as_slice())
-            && self.first_heir_of_any(leaving).is_none()
-            && self.first_recorder_of_any(leaving).is_none()
+        if self.may_not_go(leaving.listed.as_slice()) {
+            return false;
+        }
+        if self.first_heir_of_any(leaving).is_some() {
+            return false;
+        }
+        self.first_recorder_of_any(leaving).is_none()
     }
 
-    /// Whether each of the loaders is there, isn't retired and isn't loader 0.
-    fn knows_all(&self, loaders: &[LoaderId]) -> bool
-        ensures { result ≡ not (list_any (λ l. definitions.is_unknown self.now l || (l == 0)) loaders.now) }
+    /// Whether one of the loaders isn't there, is retired or is loader 0.
+    fn may_not_go(&self, loaders: &[LoaderId]) -> bool
+        ensures { result ≡ list_any (λ l. definitions.is_unknown self.now l || (l == 0)) loaders.now }
     {
-        !loaders.iter().any(|loader| self.lacks_loader(*loader) || loader.number() == 0)
+        loaders
+            .iter()
+            .any(|loader| self.is_unknown_or_first(*loader))
+    }
+
+    /// Whether there was never such a loader, or it is retired, or it is loader 0.
+    fn is_unknown_or_first(&self, loader: LoaderId) -> bool
+        ensures { result ≡ (definitions.is_unknown self.now loader || (loader == 0)) }
+    {
+        self.lacks_loader(loader) || loader.number() == 0
     }
 
     /// The number of the least present class that stays and has an ancestor of one of the loaders.
@@ -292,7 +305,7 @@ impl Classes {
         let losing = self.losing_receivers(alloc, loaders)?;
         let bare = bare_loaders(alloc, loaders.len())?;
         add_all(alloc, &mut self.retired, loaders)?;
-        empty_all(self.loaders.as_mut_slice(), loaders, bare);
+        empty_all(&mut self.loaders, loaders, bare);
         drop_own_receivers(alloc, &self.rows, &mut self.below, &self.retired, &losing);
         Ok(())
     }
@@ -343,7 +356,16 @@ fn bare_loaders(alloc: Global, count: usize) -> Result<Vec<Loader>, AllocError>
 }
 
 /// These loaders find nothing any more: each comes to be one of the bare ones, of which there are as many.
-fn empty_all(loaders: &mut [Loader], leaving: &[LoaderId], bare: Vec<Loader>)
+fn empty_all(loaders: &mut Vec<Loader>, leaving: &[LoaderId], bare: Vec<Loader>)
+    requires there { All (λ l. l < length loaders.old.items) leaving.now }
+    requires bare { bare.items ≡ replicate (length leaving.now) [] }
+    ensures { loaders.new.items ≡ retirement.emptied loaders.old.items leaving.now }
+{
+    empty_each(loaders.as_mut_slice(), leaving, bare);
+}
+
+/// The same in a slice.
+fn empty_each(loaders: &mut [Loader], leaving: &[LoaderId], bare: Vec<Loader>)
     requires there { All (λ l. l < length loaders.old) leaving.now }
     requires bare { bare.items ≡ replicate (length leaving.now) [] }
     ensures { loaders.new ≡ retirement.emptied loaders.old leaving.now }

@@ -153,7 +153,8 @@ module _ (cs : Classes) (ordered : AreOrdered cs.rows) (loaders : List ℕ) (c :
 
   -- the receivers of a class that loses none stay
   pub receivers_stay : has_key (map key.Receivers (losing_receivers cs loaders)) (key.Receivers c) ≡ false → receivers (retired cs loaders) c ≡ receivers cs c
-  receivers_stay none = receivers_left cs loaders c ∙ all_stay (is_of_any cs loaders) (receivers cs c) (by_test (list_any (is_of_any cs loaders) (receivers cs c)) refl)
+  receivers_stay none = receivers_left cs loaders c ∙ all_stay (is_of_any cs loaders) (receivers cs c)
+      (by_test (list_any (is_of_any cs loaders) (receivers cs c)) refl)
     where
       inside : list_any (is_of_any cs loaders) (receivers cs c) ≡ true → has_key (map key.Receivers (losing_receivers cs loaders)) (key.Receivers c) ≡ true
       inside is =

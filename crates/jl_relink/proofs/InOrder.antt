@@ -8,7 +8,7 @@ use Rattle.jl_class.specs.Class.{ClassFile}
 use Rattle.jl_class.specs.Flags.{extends_object}
 use Rattle.jl_types.specs.Events.Event.{Event}
 use Rattle.jl_types.specs.declared.event.EventOf.TheVariants as event
-use Rattle.jl_types.specs.declared.refusal.Refusal.TheVariants.{Define, CallSite, Retire}
+use Rattle.jl_types.specs.declared.refusal.Refusal.TheVariants.{Define, CallSite}
 use Rattle.jl_types.specs.Values.World.{World, nothing_yet}
 use Rattle.jl_types.specs.Values.Members.{is_present, lookup}
 use Rattle.jl_types.specs.Events.Definitions.{define_fault, with_record, delegated}
@@ -17,8 +17,7 @@ use Rattle.jl_types.specs.Events.Verdict.{new_call_site_fault, set_target_fault,
 use Rattle.jl_types.specs.Events.History.{world_after}
 use Rattle.jl_types.proofs.Bools.{first_test, second_test}
 use Rattle.jl_types.proofs.Places.{world_more}
-use Rattle.jl_types.proofs.Lists.{all_set}
-use Rattle.jl_types.proofs.Orders.{AreBelow, IsGood, looked_up, recorded_below, defined_good, with_loader}
+use Rattle.jl_types.proofs.Orders.{IsGood, looked_up, recorded_below, defined_good, with_loader}
 use Rattle.jl_hierarchy.specs.Constancy.{has_object, IsClosed, AreInOrder, MayDefine}
 use Rattle.jl_hierarchy.proofs.Finals.{still_extended}
 use Rattle.jl_hierarchy.proofs.LoaderGone.{first_retired}
@@ -31,7 +30,7 @@ use Rattle.jl_types.specs.Events.History.{Settled}
 use Rattle.jl_types.proofs.Installed.{settled_now}
 use Rattle.jl_types.specs.Events.Footprints.{retires, touches}
 use Rattle.jl_relink.specs.Laws.{IsInOrder, has_read_file, AreAccepted, SiteStays}
-use Rattle.jl_relink.proofs.Closing.{no_fault, free_classes, closed_after}
+use Rattle.jl_relink.proofs.Closing.{no_fault, closed_after}
 use Rattle.jl_relink.proofs.KeyLaws.{untouched_stays}
 use Rattle.jl_relink.proofs.Paths.{invalidated_length}
 

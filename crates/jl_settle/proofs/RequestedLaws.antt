@@ -355,7 +355,8 @@ module _ (w : World) (loaders : List ℕ) (own : List ℕ) (own_are : (c : ℕ) 
           ∙ (λ i. (present i && is i) && by_invocation place (invocation_at w.classes place) refl e i)
       by_presence place false present e is = cc
 
-      by_place : (o : Option Place) → link_of w.classes (stage_at w s o) ≡ Ok l → option_map_or (λ place. is_of_any w.classes loaders place.class) o false ≡ true
+      by_place : (o : Option Place) → link_of w.classes (stage_at w s o) ≡ Ok l
+          → option_map_or (λ place. is_of_any w.classes loaders place.class) o false ≡ true
           → option_map_or (is_among w.classes own) o false ≡ true
       by_place None e is = cc
       by_place (Some place) e is = by_presence place (is_present w.classes place.class) refl e is

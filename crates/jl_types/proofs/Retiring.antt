@@ -1,5 +1,5 @@
 -- What a retirement leaves as it is, and what it takes.
-use Rattle.std.specs.Prelude.{◌≡◌, ℕ, zero, suc, ◌+◌, ◌<◌, ◌≤◌, ◌==◌, Bool, true, false, cond, not, ◌&&◌, ◌||◌, List, [], ◌∷◌, ◌++◌, find, filter, fold}
+use Rattle.std.specs.Prelude.{◌≡◌, ℕ, zero, suc, ◌+◌, ◌<◌, ◌==◌, Bool, true, false, cond, not, ◌&&◌, ◌||◌, List, [], ◌∷◌, ◌++◌, find, filter}
 use Rattle.std.specs.Prelude.{length, map, slice_get, slice_set, ◌↔◌, Option, Some, None, option_map, option_and_then, Ok, Err, if◌then◌else◌}
 use Rattle.std.specs.Option.{option_map_or}
 use Rattle.std.specs.List.{list_any, range_with_len}
@@ -16,9 +16,8 @@ use Rattle.jl_types.specs.declared.ids.Place.{Place}
 use Rattle.jl_types.specs.declared.limits.Limits.{Limits}
 use Rattle.jl_types.specs.declared.refusal.RetireFault.{RetireFault}
 use Rattle.jl_types.specs.declared.refusal.RetireFault.TheVariants as fault
-use Rattle.jl_types.specs.declared.refusal.Refusal.{Refusal}
 use Rattle.jl_types.specs.declared.refusal.Refusal.TheVariants as refusal
-use Rattle.jl_types.specs.Values.World.{Class, Classes, CallSite, World}
+use Rattle.jl_types.specs.Values.World.{Class, Classes, World}
 use Rattle.jl_types.specs.Values.Members.{class_test, is_retired, is_present, is_concrete, is_concrete_row, recorded, lookup, numbers}
 use Rattle.jl_types.specs.Values.Ancestry.{ancestors, is_ancestor, receivers}
 use Rattle.jl_types.specs.Linkage.Resolution.{first_of}
@@ -29,7 +28,7 @@ use Rattle.jl_types.specs.ForProofs.Leaving.{inherits_any, records_any}
 use Rattle.jl_types.specs.Linkage.Stages.{Waits, stage_of, stage_at, invocation_at}
 use Rattle.jl_types.specs.Linkage.Links.{link_of, scratch}
 use Rattle.jl_types.specs.Events.Verdict.{retire_all_fault, unless, verdict, with_classes}
-use Rattle.jl_types.proofs.Bools.{or_none, any-range-from, first_test, second_test}
+use Rattle.jl_types.proofs.Bools.{or_none, any-range-from}
 use Rattle.jl_types.proofs.Firsts.{first_none, test_none}
 
 -- ---- lists of loaders
@@ -283,8 +282,10 @@ is_free cs loaders may = record {
 -- where nothing that stays needs one of them, no fault is told
 pub free_may : (cs : Classes) (loaders : List ℕ) → IsFree cs loaders → MayRetire cs loaders
 free_may cs loaders free l there =
-    let no_heir = none_find (inherits_from cs loaders l) 0 (length cs.rows) (λ x lt. no_heir_of x (omega (arith, lt)) (is_present cs x) refl (not (is_of_any cs loaders x)) refl) in
-    let no_recorder = none_find (records_from cs loaders l) 0 (length cs.loaders) (λ k lt. no_recorder_of k (omega (arith, lt)) (not (is_listed loaders k)) refl (slice_get cs.loaders k) refl) in
+    let no_heir = none_find (inherits_from cs loaders l) 0 (length cs.rows)
+    (λ x lt. no_heir_of x (omega (arith, lt)) (is_present cs x) refl (not (is_of_any cs loaders x)) refl) in
+    let no_recorder = none_find (records_from cs loaders l) 0 (length cs.loaders)
+    (λ k lt. no_recorder_of k (omega (arith, lt)) (not (is_listed loaders k)) refl (slice_get cs.loaders k) refl) in
     (λ i. first_of (
     then_some (free.known l there i) fault.UnknownLoader
     ∷ then_some (not_first i) fault.FirstLoader
@@ -322,7 +323,8 @@ free_may cs loaders free l there =
             (λ i. here i && (apart i && any_of (λ a. a) (ancestors cs.rows x) is i)))
         by_test false is = refl
 
-    no_recorder_of : (k : ℕ) → k < length cs.loaders → (b : Bool) → not (is_listed loaders k) ≡ b → (o : Option (List (List ℕ × ℕ))) → slice_get cs.loaders k ≡ o
+    no_recorder_of : (k : ℕ) → k < length cs.loaders → (b : Bool) → not (is_listed loaders k) ≡ b → (o : Option (List (List ℕ × ℕ)))
+        → slice_get cs.loaders k ≡ o
         → (b && option_map_or (list_any (λ r. is_of cs l r.1)) o false) ≡ false
     no_recorder_of k lt false apart o at = refl
     no_recorder_of k lt true apart None at = refl
@@ -367,7 +369,8 @@ free_all w loaders free = each loaders (λ l there. there)
         → first_of (map (λ k. option_map (refusal.RetireAll k) (retire_fault w loaders k)) ks) ≡ None
     each [] among = refl
     each (k ∷ ks) among =
-        ap (λ (o : Option RetireFault). first_of (option_map (refusal.RetireAll k) o ∷ map (λ k. option_map (refusal.RetireAll k) (retire_fault w loaders k)) ks))
+        ap (λ (o : Option RetireFault). first_of (option_map (refusal.RetireAll k) o ∷ map
+        (λ k. option_map (refusal.RetireAll k) (retire_fault w loaders k)) ks))
         (free k (among k (or_left (k == k) (is_listed ks k) (nat_eq_equiv.refl k))))
         ∙ each ks (λ l there. among l (or_right (k == l) (is_listed ks l) there))
 

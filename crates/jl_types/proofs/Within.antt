@@ -37,7 +37,8 @@ use Rattle.jl_types.proofs.Places.{limit_step, accepted_of, world_more}
 length_record : (loaders : List (List (List ℕ × ℕ))) (loader : ℕ) (name : List ℕ) (c : ℕ) → length (with_record loaders loader name c) ≡ length loaders
 length_record loaders loader name c = by_row (slice_get loaders loader)
   where
-    by_row : (o : Option (List (List ℕ × ℕ))) → length (option_map_or (λ records. slice_set loaders loader (records ++ (name, c) ∷ [])) o loaders) ≡ length loaders
+    by_row : (o : Option (List (List ℕ × ℕ))) → length (option_map_or (λ records. slice_set loaders loader (records ++ (name, c) ∷ [])) o loaders) ≡ length
+        loaders
     by_row None = refl
     by_row (Some records) = length-set loaders loader (records ++ (name, c) ∷ [])
 

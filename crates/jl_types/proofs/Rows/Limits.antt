@@ -1,5 +1,5 @@
 -- What there is room for, and places that are never linked.
-use Rattle.std.specs.Prelude.{◌≡◌, ℕ, ◌+◌, ◌≤◌, List, [], ◌∷◌, ◌++◌, Some, None, Ok, Err, length, replicate, codes, refl}
+use Rattle.std.specs.Prelude.{◌≡◌, ℕ, ◌+◌, List, [], ◌∷◌, ◌++◌, Some, None, Ok, Err, length, replicate, codes, refl}
 use Rattle.std.proofs.Common.{arith}
 use Rattle.jl_types.specs.declared.limits.Limits.{Limits}
 use Rattle.jl_types.specs.Events.Limits.{fixed, AreAllowed, IsWithin, AreNoFewer}

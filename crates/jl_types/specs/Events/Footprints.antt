@@ -16,7 +16,7 @@ use Rattle.jl_types.specs.declared.answer.Outcome.TheVariants.{Run, Throws}
 use Rattle.jl_types.specs.declared.link.Link.{Link}
 use Rattle.jl_types.specs.declared.link.Link.TheVariants.{Fault, Plain, Direct, Table, Mega}
 use Rattle.jl_types.specs.Linkage.Links.{runs}
-use Rattle.jl_types.specs.Values.World.{World, Classes, Sites, CallSite}
+use Rattle.jl_types.specs.Values.World.{World, Classes, Sites}
 use Rattle.jl_types.specs.Values.Target.{Target, Method, Guard, Invoker}
 use Rattle.jl_types.specs.Values.Members.{is_concrete, is_private, is_present}
 use Rattle.jl_types.specs.Values.Ancestry.{ancestors, receivers}

@@ -24,16 +24,19 @@ returns-in_ok-lost-in-Install-clause-up_to_date c =
 
 pub settle-requires-clause-changed : goal.settle-requires-clause-changed
 settle-requires-clause-changed c =
-    has_changed _ _ _ _ _ c.requires.led (no_retirement _ c.in_default.not-Retire c.in_default.not-RetireAll) c.defined_class-defined.result (sym c.defined_class-defined.ensures)
+    has_changed _ _ _ _ _ c.requires.led (no_retirement _ c.in_default.not-Retire c.in_default.not-RetireAll) c.defined_class-defined.result
+        (sym c.defined_class-defined.ensures)
 
 pub settle-requires-clause-fits : goal.settle-requires-clause-fits
 settle-requires-clause-fits c =
-    fits_so _ _ _ _ _ c.requires.led (no_retirement _ c.in_default.not-Retire c.in_default.not-RetireAll) c.defined_class-defined.result (sym c.defined_class-defined.ensures)
+    fits_so _ _ _ _ _ c.requires.led (no_retirement _ c.in_default.not-Retire c.in_default.not-RetireAll) c.defined_class-defined.result
+        (sym c.defined_class-defined.ensures)
     c.args.work.now c.requires.small
 
 pub returns-in_ok-lost-in_default-clause-ticks : goal.returns-in_ok-lost-in_default-clause-ticks
 returns-in_ok-lost-in_default-clause-ticks c =
-    ticks_so _ _ _ _ _ c.requires.led (no_retirement _ c.in_default.not-Retire c.in_default.not-RetireAll) c.defined_class-defined.result (sym c.defined_class-defined.ensures)
+    ticks_so _ _ _ _ _ c.requires.led (no_retirement _ c.in_default.not-Retire c.in_default.not-RetireAll) c.defined_class-defined.result
+        (sym c.defined_class-defined.ensures)
     c.args.work.now c.settle.new.work c.in_ok-lost-in_default.ensures.ticks
 
 pub returns-in_ok-lost-in_default-clause-up_to_date : goal.returns-in_ok-lost-in_default-clause-up_to_date

@@ -25,7 +25,8 @@ returns-clause-moved c =
     let count : c.in_ok-class.class ≡ length c.args.world.now.classes.rows = search rules in
     record {
       made_is = λ m.
-          made_so (option_map Define (define_fault m.classes c.args.world.now.classes c.args.loader c.args.file)) (made.Class (length c.args.world.now.classes.rows))
+          made_so (option_map Define (define_fault m.classes c.args.world.now.classes c.args.loader c.args.file))
+              (made.Class (length c.args.world.now.classes.rows))
           (made.Class c.in_ok-class.class) (ap (λ n. made.Class n) count);
       step = search rules;
       constant = subst (λ (w : World). IsConstant w.classes c.add.new.self) c.world.view_is

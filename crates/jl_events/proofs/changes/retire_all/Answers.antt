@@ -1,10 +1,8 @@
-use Rattle.std.specs.Prelude.{◌≡◌, ℕ, List, [], ◌∷◌, option_map}
-use Rattle.std.proofs.Common.{rules, refl, ap, sym, subst, ◌∙◌}
-use Rattle.jl_types.specs.Values.World.{World, Classes}
-use Rattle.jl_types.specs.Events.Retirement.{MayRetire, retired, retire_fault}
+use Rattle.std.proofs.Common.{rules, refl, sym, subst}
+use Rattle.jl_types.specs.Values.World.{World}
+use Rattle.jl_types.specs.Events.Retirement.{MayRetire}
 use Rattle.jl_types.specs.Events.Verdict.{retire_all_fault}
 use Rattle.jl_types.specs.declared.event.Made.TheVariants as made
-use Rattle.jl_types.specs.declared.refusal.Refusal.TheVariants.{Retire}
 use Rattle.jl_select.specs.Constancy.{IsConstant}
 use Rattle.jl_events.proofs.ChangeLaws.{retirements_free, made_so}
 use Rattle.jl_events.proofs.ConstantLaws.{constant_retired}

@@ -1,8 +1,7 @@
-use Rattle.std.specs.Prelude.{◌≡◌, ℕ, List, [], ◌∷◌, option_map}
+use Rattle.std.specs.Prelude.{◌≡◌, [], ◌∷◌, option_map}
 use Rattle.std.proofs.Common.{rules, refl, ap, sym, subst, ◌∙◌}
-use Rattle.jl_types.specs.Values.World.{World, Classes}
+use Rattle.jl_types.specs.Values.World.{World}
 use Rattle.jl_types.specs.Events.Retirement.{MayRetire, retired, retire_fault}
-use Rattle.jl_types.specs.Events.Verdict.{retire_all_fault}
 use Rattle.jl_types.specs.declared.event.Made.TheVariants as made
 use Rattle.jl_types.specs.declared.refusal.Refusal.TheVariants.{Retire}
 use Rattle.jl_select.specs.Constancy.{IsConstant}

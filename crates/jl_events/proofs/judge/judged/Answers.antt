@@ -22,14 +22,16 @@ returns-in-NewCallSite-clause-judged c =
     let w = c.args.world.now in
     as_judged c.args.limits c.args.world.now c.args.event (event.NewCallSite c.in-NewCallSite.kind c.in-NewCallSite.ty c.in-NewCallSite.target)
     c.of_call_site.result (option_map refusal.CallSite c.new_site_fault-fault.result) (made.CallSite (length w.sites.call_sites)) c.unless-in-NewCallSite.result
-    c.in-NewCallSite.is (new_site_verdict c.args.limits w c.in-NewCallSite.kind c.in-NewCallSite.ty c.in-NewCallSite.target c.new_site_fault-fault.result (search rules))
+    c.in-NewCallSite.is (new_site_verdict c.args.limits w c.in-NewCallSite.kind c.in-NewCallSite.ty c.in-NewCallSite.target c.new_site_fault-fault.result
+        (search rules))
     c.of_call_site.ensures (c.unless-in-NewCallSite.ensures (made.CallSite (length w.sites.call_sites)))
 
 pub returns-in-SetTarget-clause-judged : goal.returns-in-SetTarget-clause-judged
 returns-in-SetTarget-clause-judged c =
     as_judged c.args.limits c.args.world.now c.args.event (event.SetTarget c.in-SetTarget.site c.in-SetTarget.target) c.of_call_site-in-SetTarget.result
     (option_map refusal.CallSite c.set_target_fault-fault.result) made.Nothing c.unless-in-SetTarget.result
-    c.in-SetTarget.is (set_target_verdict c.args.limits c.args.world.now c.in-SetTarget.site c.in-SetTarget.target c.set_target_fault-fault.result (search rules))
+    c.in-SetTarget.is (set_target_verdict c.args.limits c.args.world.now c.in-SetTarget.site c.in-SetTarget.target c.set_target_fault-fault.result
+        (search rules))
     c.of_call_site-in-SetTarget.ensures (c.unless-in-SetTarget.ensures made.Nothing)
 
 pub returns-in-NewSwitch-clause-judged : goal.returns-in-NewSwitch-clause-judged

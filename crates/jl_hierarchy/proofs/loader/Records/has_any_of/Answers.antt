@@ -8,15 +8,16 @@ use Rattle.jl_hierarchy.proofs.Turns.{any_next}
 use Rattle.jl_hierarchy.proofs.loader.Records.has_any_of.Goals as goal
 
 pub returns-then-is_row_of_leaving : goal.returns-then-is_row_of_leaving
-returns-then-is_row_of_leaving_any c =
+returns-then-is_row_of_leaving c =
     sym
     (ap (λ (records : List (List ℕ × ℕ)). list_any (λ r. is_row_of_any c.args.rows.now.items c.args.leaving.now r.1) records) (sym c.self.view_is)
     ∙ c.loop-class.invariant.same
-    ∙ any_next (is_row_of_any c.args.rows.now.items c.args.leaving.now) c.self.inside.records.entries c.loop-class.place c.in-Some.field-0-0.now c.in-Some.class.now
+    ∙ any_next (is_row_of_any c.args.rows.now.items c.args.leaving.now) c.self.inside.records.entries c.loop-class.place c.in-Some.field-0-0.now
+    c.in-Some.class.now
     c.in-Some.ensures.entry
     ∙ ap (λ (b : Bool). b || list_any (λ r. is_row_of_any c.args.rows.now.items c.args.leaving.now r.1)
     (named (drop (c.loop-class.place + 1) c.self.inside.records.entries)))
-    (sym c.is_row_of_leaving.ensures ∙ c.if-is_row_of_leaving_leaving.true))
+    (sym c.is_row_of_leaving.ensures ∙ c.if-is_row_of_leaving.true))
 
 pub loop-class-preserved : goal.loop-class-preserved
 loop-class-preserved c = record {
@@ -24,9 +25,10 @@ loop-class-preserved c = record {
       (sym c.in-Some.ensures.entry) in omega (arith, lt));
   same =
       c.loop-class.invariant.same
-      ∙ any_next (is_row_of_any c.args.rows.now.items c.args.leaving.now) c.self.inside.records.entries c.loop-class.place c.in-Some.field-0-0.now c.in-Some.class.now
+      ∙ any_next (is_row_of_any c.args.rows.now.items c.args.leaving.now) c.self.inside.records.entries c.loop-class.place c.in-Some.field-0-0.now
+      c.in-Some.class.now
       c.in-Some.ensures.entry
       ∙ ap (λ (b : Bool). b || list_any (λ r. is_row_of_any c.args.rows.now.items c.args.leaving.now r.1)
       (named (drop (c.loop-class.place + 1) c.self.inside.records.entries)))
-      (sym c.is_row_of_leaving.ensures ∙ c.if-is_row_of_leaving_leaving.false);
+      (sym c.is_row_of_leaving.ensures ∙ c.if-is_row_of_leaving.false);
 }

@@ -1,6 +1,6 @@
 use Rattle.std.specs.Prelude.{◌≡◌, ◌-◌, [], length, replicate, take}
 use Rattle.jl_types.specs.Events.Retirement.{emptied}
-use Rattle.jl_hierarchy.proofs.retire.empty_all.Given as goal
+use Rattle.jl_hierarchy.proofs.retire.empty_each.Given as goal
 
 -- the loaders so far find nothing, and as many bare ones are left as there are loaders to come
 abbrev pub invariant-loop-loader : goal.invariant-loop-loader
