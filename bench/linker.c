@@ -140,6 +140,7 @@ static uint32_t guarded_by_parts(void) {
     return linkd_new_call_site_of(at, 2, (const uint8_t *)"()V", 3, PARTS, sizeof PARTS / sizeof *PARTS, &told);
 }
 static uint32_t retire(void) { return linkd_retire(at, 1, &told); }
+static uint32_t retire_all(void) { return linkd_retire_all(at, (uint32_t[]){3, 2}, 2, &told); }
 
 /* Behind C and the invalidation what was prepared before is stale. The second event behind a view is the one that copies. */
 static const struct {
@@ -152,7 +153,8 @@ static const struct {
     {"install by value", install_prepared_0}, {"install", install_0}, {"T", t}, {"request", request_t}, {"switch point", switch_point},
     {"call site", guarded}, {"bind", bind}, {"view", take}, {"preparation", prepare_all}, {"install by value", install_prepared_all},
     {"seat", refresh}, {"invalidation", invalidation}, {"install by value", install_prepared_all}, {"install", install_1},
-    {"target", retarget}, {"target by parts", retarget_by_parts}, {"call site by parts", guarded_by_parts}, {"retirement", retire}, {"seat", refresh}, {"view", take},
+    {"target", retarget}, {"target by parts", retarget_by_parts}, {"call site by parts", guarded_by_parts}, {"retirement", retire}, {"loader", loader},
+    {"loader", loader}, {"retirements", retire_all}, {"seat", refresh}, {"view", take},
 };
 
 static void print_dropped(void) {

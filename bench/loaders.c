@@ -1,11 +1,12 @@
-/* A host in C whose loaders come and go: each defines ten classes, of which each has a linked site, and is retired. It tells how much memory
- * is resident, what of each retired class stays, and what a loader takes.
+/* A host in C whose loaders come and go: each defines ten classes, of which each has a linked site, and is retired, so many of them at once. It
+ * tells how much memory is resident, what of each retired class stays, and what a loader takes.
  *
- *     loaders [LOADERS [LINES]]     LOADERS (10000) is how many loaders there are, LINES (10) how many lines are told
+ *     loaders [LOADERS [LINES [TOGETHER]]]     LOADERS (10000) is how many loaders there are, LINES (10) how many lines are told, and
+ *                                              TOGETHER (1), up to 1000, how many are retired at once
  *
  * A line has the count of the loaders, the megabytes that are resident, the bytes of each class since the line before, and the microseconds of
- * a processor that a loader took since then, its retirement alone beside that. It ends with status 0 only where each call was done, and the
- * first class of the last loader is gone.
+ * a processor that a loader took since then, its part of a retirement alone beside that. It ends with status 0 only where each call was done,
+ * and the first class of the first loader is gone.
  */
 #include "linkd.h"
 #include <stdio.h>
@@ -21,7 +22,7 @@ static const char CALLING[] =
     "0a0002000900210002000400000000000200090005000600010007000000"
     "0d0000000000000001b1000000000009000800060001000700000010000000000000"
     "0004b8000ab1000000000000";
-enum { CLASSES = 10, BYTES = 256, NAME = 13 };
+enum { CLASSES = 10, BYTES = 256, NAME = 13, MOST_TOGETHER = 1000 };
 
 static linkd_told told;
 
@@ -56,8 +57,8 @@ static double resident(void) {
     return (double)pages * (double)sysconf(_SC_PAGESIZE) / 1e6;
 }
 
-/* One loader, up to its retirement; how long that alone took. */
-static double come_and_go(linkd *at, uint8_t *file, size_t length) {
+/* One loader, up to its retirement. */
+static uint32_t come(linkd *at, uint8_t *file, size_t length) {
     uint32_t sites[CLASSES];
     must(linkd_new_loader(at, &told) == LINKD_DONE, "new_loader");
     uint32_t loader = told.number;
@@ -69,25 +70,35 @@ static double come_and_go(linkd *at, uint8_t *file, size_t length) {
         sites[place] = told.number;
     }
     must(linkd_install(at, sites, CLASSES, &told) == LINKD_DONE, "install");
+    return loader;
+}
+
+/* So many loaders, which go at once; how long that alone took. */
+static double come_and_go(linkd *at, uint8_t *file, size_t length, uint32_t count) {
+    uint32_t loaders[MOST_TOGETHER];
+    for (uint32_t place = 0; place < count; place++) loaders[place] = come(at, file, length);
     double before = now();
-    must(linkd_retire(at, loader, &told) == LINKD_DONE, "retire");
+    must(linkd_retire_all(at, loaders, count, &told) == LINKD_DONE, "retire");
     return now() - before;
 }
 
 int main(int argc, char **argv) {
     uint32_t most = argc > 1 ? (uint32_t)strtoul(argv[1], NULL, 10) : 10000;
     uint32_t lines = argc > 2 ? (uint32_t)strtoul(argv[2], NULL, 10) : 10;
+    uint32_t together = argc > 3 ? (uint32_t)strtoul(argv[3], NULL, 10) : 1;
     uint8_t object[BYTES], file[BYTES];
     linkd *at = aligned_alloc(linkd_align(), (linkd_size() + linkd_align() - 1) / linkd_align() * linkd_align());
-    must(at != NULL && lines > 0, "memory");
+    must(at != NULL && lines > 0 && together > 0 && together <= MOST_TOGETHER, "memory, LINES and TOGETHER");
     linkd_blank(at);
-    must(linkd_open(at, 1048576) == LINKD_DONE, "open");
+    must(linkd_open(at, LINKD_MOST_OF_A_KIND) == LINKD_DONE, "open");
     must(linkd_define(at, 0, object, bytes_of(OBJECT, object), &told) == LINKD_DONE, "define");
     size_t length = bytes_of(CALLING, file);
     double before = now(), size = resident(), going = 0;
     for (uint32_t line = 1, done = 0, last = 0; line <= lines; line++) {
-        for (; done < most / lines * line; done++) {
-            going += come_and_go(at, file, length);
+        while (done < most / lines * line) {
+            uint32_t left = most / lines * line - done, count = left < together ? left : together;
+            going += come_and_go(at, file, length, count);
+            done += count;
         }
         double after = now(), more = resident();
         printf("%u loaders %.3f MB %.0f bytes a class, %.1f us, a retirement %.1f us\n", done, more, (more - size) * 1e6 / CLASSES / (done - last),

@@ -100,6 +100,7 @@ static void closed(linkd_seat *seat) {
     MUST(linkd_invalidate(at, sites, 0, &told) == LINKD_CLOSED);
     MUST(linkd_bind(at, 0, 0, &told) == LINKD_CLOSED);
     MUST(linkd_retire(at, 0, &told) == LINKD_CLOSED);
+    MUST(linkd_retire_all(at, sites, 0, &told) == LINKD_CLOSED);
     MUST(linkd_install(at, sites, 1, &told) == LINKD_CLOSED);
     MUST(linkd_install_links(at, &row, 1, &told, &present) == LINKD_CLOSED);
     MUST(linkd_lookup(at, 0, bytes("A"), 1, sites) == LINKD_CLOSED);
@@ -430,6 +431,9 @@ int main(void) {
     TELLS(call_site_of(2, "()V", parts + 3, 1), LINKD_MALFORMED, 0, 0, 0);
     TELLS(linkd_retire(at, 9, &told), LINKD_RETIRE, 0, LINKD_NO_LOADER, 0);
     TELLS(linkd_retire(at, 0, &told), LINKD_RETIRE, 0, LINKD_FIRST_LOADER, 0);
+    TELLS(linkd_retire_all(at, (uint32_t[]){9, 0}, 2, &told), LINKD_RETIRE, 9, LINKD_NO_LOADER, 0);
+    TELLS(linkd_retire_all(at, (uint32_t[]){0, 9}, 2, &told), LINKD_RETIRE, 0, LINKD_FIRST_LOADER, 0);
+    TELLS(linkd_retire_all(at, sites, 0, &told), LINKD_DONE, 0, 0, 0);
     TELLS(linkd_bind(at, 9, 1, &told), LINKD_UNKNOWN_SITE, 0, 0, 9);
     TELLS(linkd_bind(at, 1, 1, &told), LINKD_NOT_DYNAMIC, 0, 0, 0);
     TELLS(linkd_bind(at, 2, 9, &told), LINKD_CALL_SITE, 0, LINKD_UNKNOWN_CALL_SITE, 0);

@@ -32,7 +32,7 @@ extern "C" {
 #endif
 
 /* Grows with each change of this header; linkd_version() tells it of the library. */
-#define LINKD_VERSION 6
+#define LINKD_VERSION 7
 
 typedef struct linkd linkd;
 typedef struct linkd_seat linkd_seat;
@@ -73,7 +73,7 @@ enum linkd_status {
 
 /* What an event made, or why it was refused; each number that says nothing is 0. It is written whatever the status is. */
 typedef struct linkd_told {
-    uint32_t number; /* of the loader, class, site, call site or switch point that the event made or found */
+    uint32_t number; /* of the loader, class, site, call site or switch point that the event made or found; see at linkd_retire_all */
     uint32_t fault;  /* why, more closely, by the status */
     uint32_t place;  /* where, by the status or the fault */
     uint32_t cause;  /* why, still more closely: of a class file's pool or code */
@@ -120,8 +120,8 @@ enum linkd_call_site_fault {
 enum linkd_retire_fault {
     LINKD_NO_LOADER = 1,    /* never made, or retired */
     LINKD_FIRST_LOADER = 2, /* loader 0 stays */
-    LINKD_INHERITED = 3,    /* place is the least class of another loader that has an ancestor in this one */
-    LINKD_RECORDED = 4,     /* place is the least other loader that records a class of this one */
+    LINKD_INHERITED = 3,    /* place is the least class of a loader that stays that has an ancestor in this one */
+    LINKD_RECORDED = 4,     /* place is the least loader that stays and records a class of this one */
     LINKD_TARGETED = 5      /* place is the least call site whose target names a method of one of its classes */
 };
 
@@ -278,6 +278,8 @@ typedef struct linkd_numbers {
 #define LINKD_NULL UINT32_C(0xffffffff)
 /* The new number of what a renewal doesn't take over. */
 #define LINKD_NO_NUMBER UINT32_C(0xffffffff)
+/* The most sites that a linker may have, and the most loaders, classes, call sites and switch points. */
+#define LINKD_MOST_OF_A_KIND UINT32_C(1048576)
 
 uint32_t linkd_version(void);
 
@@ -287,12 +289,12 @@ size_t linkd_size(void);
 size_t linkd_align(void);
 void linkd_blank(linkd *at);
 
-/* Opens the linker, without classes; at most max_sites sites may be requested, 1 to 1,048,576 (else LINKD_MALFORMED). It may have 1,048,576
- * loaders, classes, call sites and switch points. LINKD_OPEN_ALREADY, LINKD_MEMORY. */
+/* Opens the linker, without classes; at most max_sites sites may be requested, 1 to LINKD_MOST_OF_A_KIND (else LINKD_MALFORMED). It may have
+ * LINKD_MOST_OF_A_KIND loaders, classes, call sites and switch points. LINKD_OPEN_ALREADY, LINKD_MEMORY. */
 uint32_t linkd_open(linkd *at, uint32_t max_sites);
 /* As linkd_open, but it may have as many of each kind as is said here: so many numbers of the kind it ever gives, those of what is retired
- * among them. sites: 1 to 1,048,576; each of the others: 1 to 1,048,576, or 0, which stands for 1,048,576. Loader 0 counts as one.
- * LINKD_OPEN_ALREADY; LINKD_MALFORMED, where sites is 0 or one of them is above 1,048,576; LINKD_MEMORY. */
+ * among them. sites: 1 to LINKD_MOST_OF_A_KIND; each of the others: 1 to LINKD_MOST_OF_A_KIND, or 0, which stands for that. Loader 0 counts
+ * as one. LINKD_OPEN_ALREADY; LINKD_MALFORMED, where sites is 0 or one of them is above LINKD_MOST_OF_A_KIND; LINKD_MEMORY. */
 uint32_t linkd_open_with(linkd *at, uint32_t sites, uint32_t loaders, uint32_t classes, uint32_t call_sites, uint32_t switches);
 /* Lets all go that the linker has; it isn't open then. */
 void linkd_close(linkd *at);
@@ -339,6 +341,13 @@ uint32_t linkd_bind(linkd *at, uint32_t site, uint32_t call_site, linkd_told *to
 /* The loader goes, with the classes that it has defined and the sites in them: they are LINKD_GONE. No number is given again. LINKD_RETIRE,
  * of which linkd_retire_fault says the place. */
 uint32_t linkd_retire(linkd *at, uint32_t loader, linkd_told *told);
+/* The loaders go at once, each as by linkd_retire: all of them or none. Only what stays holds one: loaders that record each other go, and so
+ * do a loader and one whose classes extend its own, in whatever order they stand. One that comes twice goes once; where there are none
+ * nothing changes. LINKD_RETIRE, of which number is the first loader in the array that can't go, and linkd_retire_fault says why and the place.
+ * However many loaders go, it takes one look at each class that there ever was, at what each loader records, at each call site's target, and
+ * at each link that rests on a class which loses a receiver. Where it is refused it looks no link up, but looks at the classes, the records and
+ * the targets once more for each loader up to the one that is told. */
+uint32_t linkd_retire_all(linkd *at, const uint32_t *loaders, size_t count, linkd_told *told);
 /* Links the sites from scratch, 1 to 256 of them, and installs their links: all of them or none. In this order: LINKD_BATCH_SIZE;
  * LINKD_UNKNOWN_SITE or LINKD_REPEATED, whose place is the first site that wasn't requested or comes a second time; LINKD_NOT_READY,
  * whose place is the first site that has no link now: a linkd_call there is LINKD_UNLINKED. */
@@ -461,7 +470,7 @@ void linkd_renewal_blank(linkd_renewal *at);
  * here on the linker forgets no event until the renewal is finished or left.
  * Counts as a call on the renewal and on the linker.
  * In this order: LINKD_CLOSED, where the linker isn't open; LINKD_OPEN_ALREADY, where the renewal has begun and wasn't left;
- * LINKD_MALFORMED, where max_sites is 0 or above 1,048,576; LINKD_MEMORY. Where it isn't done the renewal is as before. */
+ * LINKD_MALFORMED, where max_sites is 0 or above LINKD_MOST_OF_A_KIND; LINKD_MEMORY. Where it isn't done the renewal is as before. */
 uint32_t linkd_renewal_begin_with(linkd_renewal *at, linkd *from, uint32_t max_sites, const uint32_t *released_call_sites,
                                   size_t released_call_site_count, const uint32_t *released_switches, size_t released_switch_count);
 

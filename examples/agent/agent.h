@@ -105,6 +105,7 @@ struct loader {
     uint32_t number; /* NO_NUMBER where the linker has no more, or needs not know it */
     bool going_on;   /* what it has recorded is being handed in */
     bool gone;       /* the machine has collected it: the agent has no class of it any more */
+    bool going;      /* once it is gone: it goes with the linker's next retirement, or has gone with it */
     uint32_t classes, sites;    /* once it is gone: how many the linker has of it */
     uint32_t fault, place;      /* once it is gone: why the linker doesn't retire it, of its last refusal */
     struct loader *gone_before; /* the machine told of that one before */
@@ -193,7 +194,7 @@ void count_refusal(uint32_t status, uint32_t fault);
 /* Counts an event that the linker has accepted, by the definition of a class or of none, and the links that it dropped. */
 void accepted(struct class *by);
 /* The same, of a retirement. */
-void accepted_retirement(const struct loader *loader);
+void accepted_retirement(void);
 /* Counts the classes of loaders that are gone, and lets them go with their files. */
 void forget_classes(void);
 /* Puts a class among those that dropped most, falling, where it is one of them. */

@@ -2,7 +2,6 @@
 #include "../host/names.h"
 #include <inttypes.h>
 #include <stdlib.h>
-#include <string.h>
 
 /* What the machine has told of since the last look, the latest first. */
 static struct loader *_Atomic collected;
@@ -28,6 +27,14 @@ static void name_class(char *out, size_t length, uint32_t number) {
     snprintf(out, length, "class %" PRIu32 ", %.*s", number, (int)written, name);
 }
 
+/* The loader of this number, or null where the agent has none. */
+static struct loader *numbered(uint32_t number) {
+    for (uint32_t i = 0; i < world.loader_count; i++) {
+        if (world.loaders[i]->number == number) return world.loaders[i];
+    }
+    return NULL;
+}
+
 void name_holder(char *out, size_t length, uint32_t fault, uint32_t place) {
     if (fault == LINKD_INHERITED) {
         name_class(out, length, place);
@@ -35,19 +42,13 @@ void name_holder(char *out, size_t length, uint32_t fault, uint32_t place) {
     }
     if (fault == 0) snprintf(out, length, "want of memory");
     else snprintf(out, length, "%s %" PRIu32, fault == LINKD_TARGETED ? "call site" : "loader", place);
-    if (fault != LINKD_RECORDED) return;
-    for (uint32_t i = 0; i < world.loader_count; i++) {
-        if (world.loaders[i]->number == place) name_loader(out, length, world.loaders[i]);
-    }
+    const struct loader *loader = fault == LINKD_RECORDED ? numbered(place) : NULL;
+    if (loader != NULL) name_loader(out, length, loader);
 }
 
 /* ---- retirements */
 
-static void count_refused(struct loader *loader, uint32_t status, const linkd_told *told) {
-    if (status != LINKD_RETIRE || told->fault >= RETIRE_FAULTS) {
-        count_refusal(status, told->fault);
-        return;
-    }
+static void count_refused(struct loader *loader, const linkd_told *told) {
     struct refused_retirements *refused = &world.refused_retirements[told->fault];
     loader->fault = told->fault;
     loader->place = told->place;
@@ -56,36 +57,69 @@ static void count_refused(struct loader *loader, uint32_t status, const linkd_to
     name_holder(refused->holder, sizeof refused->holder, told->fault, told->place);
 }
 
-/* Whether the linker, too, has it no more. */
-static bool retire(struct loader *loader) {
-    linkd_told told;
-    if (loader->number == NO_NUMBER) return true;
-    uint32_t status = linkd_retire(world.linker, loader->number, &told);
-    if (status != LINKD_DONE) {
-        count_refused(loader, status, &told);
-        return false;
+/* The numbers of the loaders that are to go with the next call. */
+static uint32_t list_going(uint32_t *numbers) {
+    uint32_t count = 0;
+    for (uint32_t i = 0; i < world.loader_count; i++) {
+        if (world.loaders[i]->going) numbers[count++] = world.loaders[i]->number;
     }
-    accepted_retirement(loader);
-    return true;
+    return count;
 }
 
-static void let_loader_go(uint32_t place) {
-    struct loader *loader = world.loaders[place];
-    world.loader_count--;
-    memmove(&world.loaders[place], &world.loaders[place + 1], (world.loader_count - place) * sizeof *world.loaders);
+/* The linker has them no more, or says which one can't go: that one stays. Else all stay. */
+static bool retire_listed(const uint32_t *numbers, uint32_t count) {
+    linkd_told told;
+    uint32_t status = linkd_retire_all(world.linker, numbers, count, &told);
+    if (status == LINKD_DONE) {
+        accepted_retirement();
+        return true;
+    }
+    struct loader *held = status == LINKD_RETIRE && told.fault < RETIRE_FAULTS ? numbered(told.number) : NULL;
+    if (held == NULL || !held->going) {
+        count_refusal(status, told.fault);
+        for (uint32_t i = 0; i < world.loader_count; i++) world.loaders[i]->going = false;
+        return true;
+    }
+    count_refused(held, &told);
+    held->going = false;
+    return false;
+}
+
+/* All that the machine has collected go at once, but for those that a loader holds that stays. */
+static void retire_gone(void) {
+    uint32_t count, *numbers = malloc(world.loader_count * sizeof *numbers);
+    if (numbers == NULL) {
+        count_refusal(LINKD_MEMORY, 0);
+        return;
+    }
+    for (uint32_t i = 0; i < world.loader_count; i++) {
+        world.loaders[i]->going = world.loaders[i]->gone && world.loaders[i]->number != NO_NUMBER;
+    }
+    do {
+        count = list_going(numbers);
+    } while (count > 0 && !retire_listed(numbers, count));
+    free(numbers);
+}
+
+static void let_loader_go(struct loader *loader) {
+    if (loader->going) {
+        world.retired.loaders++;
+        world.retired.classes += loader->classes;
+        world.retired.sites += loader->sites;
+    }
     free(loader->name);
     free(loader);
 }
 
-/* Of two that go together the later one may hold the earlier one, so that goes first. */
-static bool retire_once(void) {
-    bool any = false;
-    for (uint32_t i = world.loader_count; i-- > 0;) {
-        if (!world.loaders[i]->gone || !retire(world.loaders[i])) continue;
-        any = any || world.loaders[i]->number != NO_NUMBER;
-        let_loader_go(i);
+/* The agent, too, lets go what the linker has no more. */
+static void let_loaders_go(void) {
+    uint32_t kept = 0;
+    for (uint32_t i = 0; i < world.loader_count; i++) {
+        struct loader *loader = world.loaders[i];
+        if (loader->gone && (loader->going || loader->number == NO_NUMBER)) let_loader_go(loader);
+        else world.loaders[kept++] = loader;
     }
-    return any;
+    world.loader_count = kept;
 }
 
 void retire_collected(JNIEnv *jni) {
@@ -97,5 +131,6 @@ void retire_collected(JNIEnv *jni) {
     }
     forget_calls();
     forget_classes();
-    while (retire_once()) {}
+    retire_gone();
+    let_loaders_go();
 }

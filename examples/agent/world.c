@@ -71,11 +71,8 @@ void accepted(struct class *by) {
     if (by != NULL) by->dropped += (uint32_t)count;
 }
 
-void accepted_retirement(const struct loader *loader) {
+void accepted_retirement(void) {
     size_t kept, count = count_event(&kept);
-    world.retired.loaders++;
-    world.retired.classes += loader->classes;
-    world.retired.sites += loader->sites;
     world.retired.links += count;
     world.retired.kept_links += kept;
 }

@@ -147,9 +147,9 @@ pub enum RetireFault {
     UnknownLoader,
     /// The first loader stays.
     FirstLoader,
-    /// This class, of another loader, has an ancestor of the loader.
+    /// This class, of a loader that stays, has an ancestor of the loader.
     Inherited(ClassId),
-    /// This other loader records a class of the loader.
+    /// This loader, which stays, records a class of the loader.
     Recorded(LoaderId),
     /// This call site's target names a method of one of the loader's classes.
     Targeted(CallSiteId),
@@ -223,6 +223,13 @@ pub enum Error {
     LoadersFull,
     /// The loader isn't retired.
     Retire(RetireFault),
+    /// None of several loaders is retired.
+    RetireAll {
+        /// The first of those that were given that can't go.
+        loader: LoaderId,
+        /// Why it can't.
+        fault: RetireFault,
+    },
     /// A type, a target or a link that is none, or a number that is too large.
     Malformed,
     /// Since a renewal began an event has named what was released and is gone. The renewal can't be finished.
@@ -267,6 +274,7 @@ impl fmt::Display for Error {
             Error::Delegate(fault) => write!(to, "no delegation: {fault}"),
             Error::LoadersFull => to.write_str("there is no room for more loaders"),
             Error::Retire(fault) => write!(to, "the loader isn't retired: {fault}"),
+            Error::RetireAll { loader, fault } => write!(to, "{loader} isn't retired, nor are the others: {fault}"),
             Error::Malformed => to.write_str("a type, a target or a link that is none, or a number that is too large"),
             Error::Released { number, events } => write!(to, "event {events} names {number}, which was released and is gone"),
             Error::OtherLinker => to.write_str("the renewal has begun with another linker"),

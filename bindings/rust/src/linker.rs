@@ -206,6 +206,20 @@ impl Linker {
         done(status, &told)
     }
 
+    /// The loaders go at once, with their classes and the sites in them: all or none. Only what stays holds one, so loaders that record each
+    /// other go. One that comes twice goes once; where there are none nothing changes.
+    ///
+    /// [`Error::RetireAll`], of the first that can't go.
+    pub fn retire_all(&mut self, loaders: &[LoaderId]) -> Result<(), Error> {
+        let mut told = Told::default();
+        let numbers: Vec<u32> = loaders.iter().map(|loader| loader.0).collect();
+        let status = unsafe { raw::linkd_retire_all(self.at(), numbers.as_ptr(), numbers.len(), &mut told) };
+        done(status, &told).map_err(|error| match error {
+            Error::Retire(fault) => Error::RetireAll { loader: LoaderId(told.number), fault },
+            other => other,
+        })
+    }
+
     /// Links the sites from scratch, 1 to 256 of them: all or none.
     pub fn install(&mut self, sites: &[SiteId]) -> Result<(), Error> {
         let mut told = Told::default();

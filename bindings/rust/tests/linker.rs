@@ -174,6 +174,41 @@ fn definitions_are_refused_by_name() -> Result<(), Error> {
     Ok(())
 }
 
+/// Loader 1 has C and records D, and loader 2 has D and records C: each alone is held by the other.
+#[test]
+fn loaders_that_record_each_other_go_at_once() -> Result<(), Error> {
+    let World { mut linker, a, b, site, .. } = world()?;
+    let (first, second, third) = (linker.new_loader()?, linker.new_loader()?, linker.new_loader()?);
+    for loader in [first, second] {
+        linker.delegate(loader, b"A", LoaderId::FIRST)?;
+    }
+    let c = linker.define_in(first, &with_f("C", "A"))?;
+    let d = linker.define_in(second, &with_f("D", "A"))?;
+    linker.delegate(first, b"D", second)?;
+    linker.delegate(second, b"C", first)?;
+    linker.delegate(third, b"C", first)?;
+    linker.install(&[site])?;
+    let rows = [(a, a), (b, a), (c, c), (d, d)].map(|(of, by)| (of, runs(by)));
+    let all = Some(Link::VirtualTable(rows.to_vec()));
+    assert_eq!(linker.retire(first), Err(Error::Retire(RetireFault::Recorded(second))));
+    assert_eq!(linker.retire(second), Err(Error::Retire(RetireFault::Recorded(first))));
+    let held = Error::RetireAll { loader: first, fault: RetireFault::Recorded(third) };
+    assert_eq!(linker.retire_all(&[second, first]), Err(held.clone()));
+    assert_eq!(held.to_string(), "loader 1 isn't retired, nor are the others: loader 3 records a class of it");
+    assert_eq!(
+        linker.retire_all(&[third, LoaderId::FIRST]),
+        Err(Error::RetireAll { loader: LoaderId::FIRST, fault: RetireFault::FirstLoader })
+    );
+    linker.retire_all(&[])?;
+    assert_eq!((linker.link_of(site), linker.dropped()), (all, vec![]));
+    linker.retire_all(&[first, second, third, first])?;
+    assert_eq!((linker.link_of(site), linker.dropped()), (None, vec![site]));
+    assert_eq!((linker.call(site, Some(b)), linker.call(site, Some(c))), (answers(a), Answer::BadReceiver));
+    assert_eq!(linker.retire_all(&[second]), Err(Error::RetireAll { loader: second, fault: RetireFault::UnknownLoader }));
+    linker.install(&[site])?;
+    Ok(())
+}
+
 #[test]
 fn requests_and_installs_are_refused_by_name() -> Result<(), Error> {
     let World { mut linker, m, site, .. } = world()?;

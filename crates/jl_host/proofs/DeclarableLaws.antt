@@ -506,6 +506,7 @@ declarable_after limits w all (event.Invalidate points) accepted read = all
 declarable_after limits w all (event.Bind s c) accepted read = all
 declarable_after limits w all (event.Install rows) accepted read = all
 declarable_after limits w all (event.Retire loader) accepted read = all
+declarable_after limits w all (event.RetireAll loaders) accepted read = all
 
 from : (limits : Limits) (h : List Event) (w : World) → AreDeclarable w
     → ((n : ℕ) (e : Event) → slice_get h n ≡ Some e → IsOk (verdict limits (fold step w (take n h)) e)) → list_all has_read_file h ≡ true

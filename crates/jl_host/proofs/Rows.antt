@@ -48,8 +48,8 @@ refusals : map status_of_refusal (refusal.Define definition.Full ∷ refusal.Unk
     ∷ refusal.CallSite site.Full ∷ refusal.NotDynamic ∷ refusal.AlreadyBound 0 ∷ refusal.TypeMismatch ∷ refusal.Stale 0 link.Mega ∷ refusal.NotReady 0
     ∷ refusal.UnknownSite 0
     ∷ refusal.Repeated 0 ∷ refusal.BatchSize ∷ refusal.Memory ∷ refusal.Delegate delegation.NotRecorded ∷ refusal.LoadersFull
-    ∷ refusal.Retire retirement.FirstLoader ∷ [])
-    ≡ 1 ∷ 2 ∷ 3 ∷ 4 ∷ 5 ∷ 6 ∷ 7 ∷ 8 ∷ 9 ∷ 10 ∷ 11 ∷ 12 ∷ 13 ∷ 14 ∷ 15 ∷ 16 ∷ 17 ∷ 19 ∷ []
+    ∷ refusal.Retire retirement.FirstLoader ∷ refusal.RetireAll 7 retirement.FirstLoader ∷ [])
+    ≡ 1 ∷ 2 ∷ 3 ∷ 4 ∷ 5 ∷ 6 ∷ 7 ∷ 8 ∷ 9 ∷ 10 ∷ 11 ∷ 12 ∷ 13 ∷ 14 ∷ 15 ∷ 16 ∷ 17 ∷ 19 ∷ 19 ∷ []
 refusals = refl
 
 unprepared : map status_of_unprepared (preparation.NotReady 0 ∷ preparation.UnknownSite 0 ∷ preparation.Repeated 0 ∷ preparation.BatchSize ∷ preparation.Memory
@@ -100,6 +100,15 @@ told_events : map five (told_of_reply (record { made = made.Class 7; dropped = 3
     ∷ (0 ∷ 0 ∷ 7 ∷ 0 ∷ 0 ∷ []) ∷ (0 ∷ 0 ∷ 7 ∷ 0 ∷ 0 ∷ []) ∷ (0 ∷ 0 ∷ 7 ∷ 0 ∷ 0 ∷ []) ∷ (0 ∷ 0 ∷ 7 ∷ 0 ∷ 0 ∷ []) ∷ (0 ∷ 0 ∷ 0 ∷ 0 ∷ 0 ∷ [])
     ∷ (0 ∷ 0 ∷ 7 ∷ 0 ∷ 0 ∷ []) ∷ (0 ∷ 9 ∷ 7 ∷ 0 ∷ 0 ∷ []) ∷ []
 told_events = refl
+
+-- a retirement of several tells by the number the loader that keeps them from going, and one of a single loader tells no number
+told_retirements : map five (told_of_refusal (refusal.Retire retirement.UnknownLoader) ∷ told_of_refusal (refusal.Retire (retirement.Recorded 7))
+    ∷ told_of_refusal (refusal.RetireAll 6 retirement.UnknownLoader) ∷ told_of_refusal (refusal.RetireAll 0 retirement.FirstLoader)
+    ∷ told_of_refusal (refusal.RetireAll 6 (retirement.Inherited 7)) ∷ told_of_refusal (refusal.RetireAll 6 (retirement.Recorded 7))
+    ∷ told_of_refusal (refusal.RetireAll 6 (retirement.Targeted 7)) ∷ [])
+    ≡ (0 ∷ 1 ∷ 0 ∷ 0 ∷ 0 ∷ []) ∷ (0 ∷ 4 ∷ 7 ∷ 0 ∷ 0 ∷ []) ∷ (6 ∷ 1 ∷ 0 ∷ 0 ∷ 0 ∷ []) ∷ (0 ∷ 2 ∷ 0 ∷ 0 ∷ 0 ∷ []) ∷ (6 ∷ 3 ∷ 7 ∷ 0 ∷ 0 ∷ [])
+    ∷ (6 ∷ 4 ∷ 7 ∷ 0 ∷ 0 ∷ []) ∷ (6 ∷ 5 ∷ 7 ∷ 0 ∷ 0 ∷ []) ∷ []
+told_retirements = refl
 
 told_files : map (λ f. five (told_of_file f)) (file.TooLarge ∷ file.BadMagic ∷ file.BadVersion ∷ file.Truncated ∷ file.Pool pool.Truncated
     ∷ file.Pool (pool.BadTag 9)

@@ -189,6 +189,9 @@ IsBind s c = IfOpen (IsAsked (event.Bind s c))
 abbrev pub IsRetire : ℕ → Option Opened → ℕ → Told → Option Opened → Type 0
 IsRetire loader = IfOpen (IsAsked (event.Retire loader))
 
+abbrev pub IsRetireAll : List ℕ → Option Opened → ℕ → Told → Option Opened → Type 0
+IsRetireAll loaders = IfOpenWithMemory (IsAsked (event.RetireAll loaders))
+
 -- by what the preparation of the sites came to
 abbrev pub IsInstallOf : Result Prepared PrepareFault → Opened → ℕ → Told → Opened → Type 0
 IsInstallOf (Ok prepared) old status told new = IsAsked (event.Install prepared.rows) old status told new

@@ -67,6 +67,7 @@ told_of_refusal refusal.BatchSize = nothing
 told_of_refusal refusal.Memory = nothing
 told_of_refusal refusal.LoadersFull = nothing
 told_of_refusal (refusal.Retire fault) = told_of_retirement fault
+told_of_refusal (refusal.RetireAll loader fault) = record (told_of_retirement fault) { number = loader }
 
 -- by what the event came to
 abbrev pub status_of : Result Reply Refusal → ℕ

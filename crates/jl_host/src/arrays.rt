@@ -4,7 +4,7 @@ ghost use Rattle.std.specs.Prelude.{◌≡◌, ◌≤◌, ◌++◌, length, drop
 ghost use Rattle.jl_host.specs.Copies.{IsCopied};
 
 use crate::told::{DONE, TOO_SHORT};
-use jl_types::{CallSiteId, SiteNo, SwitchId};
+use jl_types::{CallSiteId, LoaderId, SiteNo, SwitchId};
 use std::alloc::{AllocError, Global};
 
 /// The sites of these numbers. Want of memory is an error.
@@ -16,6 +16,17 @@ pub(crate) fn sites_of(alloc: Global, numbers: &[u32]) -> Result<Vec<SiteNo>, Al
         sites.push(SiteNo::new(*number))?;
     }
     Ok(sites)
+}
+
+/// The loaders of these numbers. Want of memory is an error.
+pub(crate) fn loaders_of(alloc: Global, numbers: &[u32]) -> Result<Vec<LoaderId>, AllocError>
+    ensures { IfOk result (λ loaders. loaders.items ≡ numbers.now) }
+{
+    let mut loaders = Vec::with_capacity(alloc, numbers.len())?;
+    for number in numbers {
+        loaders.push(LoaderId::new(*number))?;
+    }
+    Ok(loaders)
 }
 
 /// The call sites of these numbers. Want of memory is an error.

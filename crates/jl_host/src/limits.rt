@@ -6,10 +6,7 @@ ghost use Rattle.jl_host.specs.Linkers.{wide, may_be_asked, limit_asked, limits_
 ghost use Rattle.jl_host.specs.Renewals.{limits_for};
 
 use jl_core::Core;
-use jl_types::Limits;
-
-/// The most of a kind that a linker may have.
-pub(crate) const MOST: u32 = 1 << 20;
+use jl_types::{Limits, MOST_OF_A_KIND};
 
 /// So many sites, and as many of each other kind as a linker may have.
 pub(crate) fn wide(max_sites: u32) -> Limits
@@ -19,10 +16,10 @@ pub(crate) fn wide(max_sites: u32) -> Limits
 {
     Limits {
         sites: max_sites,
-        loaders: MOST,
-        classes: MOST,
-        call_sites: MOST,
-        switches: MOST,
+        loaders: MOST_OF_A_KIND,
+        classes: MOST_OF_A_KIND,
+        call_sites: MOST_OF_A_KIND,
+        switches: MOST_OF_A_KIND,
     }
 }
 
@@ -31,18 +28,18 @@ pub(crate) fn may_be_asked(asked: &Limits) -> bool
     ensures { result ≡ may_be_asked asked.now }
 {
     asked.sites >= 1
-        && asked.sites <= MOST
-        && asked.loaders <= MOST
-        && asked.classes <= MOST
-        && asked.call_sites <= MOST
-        && asked.switches <= MOST
+        && asked.sites <= MOST_OF_A_KIND
+        && asked.loaders <= MOST_OF_A_KIND
+        && asked.classes <= MOST_OF_A_KIND
+        && asked.call_sites <= MOST_OF_A_KIND
+        && asked.switches <= MOST_OF_A_KIND
 }
 
 /// The limit that was asked for, where 0 stands for as many as there may be.
 fn limit_asked(number: u32) -> u32
     ensures { result ≡ limit_asked number }
 {
-    if number == 0 { MOST } else { number }
+    if number == 0 { MOST_OF_A_KIND } else { number }
 }
 
 /// The limits that were asked for, where 0 stands for as many as there may be, but for the sites.

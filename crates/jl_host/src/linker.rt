@@ -7,7 +7,7 @@ ghost use Rattle.jl_core.specs.State.{events, world_of};
 ghost use Rattle.jl_host.specs.Showing.{recv_of};
 ghost use Rattle.jl_host.specs.Seats.{seen_of};
 ghost use Rattle.jl_host.specs.Linkers.{IsOpen, IsOpenWith, limits_of, IsNewLoader, IsDefine, IsDefineUpTo, IsDelegate, IsRequest, IsNewCallSite, IsSetTarget, IsNewSwitch, IsInvalidate};
-ghost use Rattle.jl_host.specs.Linkers.{IsBind, IsRetire, IsInstall, IsDropped, IsTake, IsCall, IsLinkOf, IsAnswer, kind_of, IfOpen, IsAsked};
+ghost use Rattle.jl_host.specs.Linkers.{IsBind, IsRetire, IsRetireAll, IsInstall, IsDropped, IsTake, IsCall, IsLinkOf, IsAnswer, kind_of, IfOpen, IsAsked};
 ghost use Rattle.jl_session.specs.Sessions.{snapshot_of};
 ghost use Rattle.jl_host.specs.Targets.{IsNewCallSiteOf, IsSetTargetOf};
 ghost use Rattle.jl_host.specs.Views.{IsInstallLinks};
@@ -16,14 +16,14 @@ ghost use Rattle.jl_host.specs.Renewals.{IsCounts, IsRenew, arrays_of, released_
 ghost use Rattle.jl_host.specs.Renewing.{IsBegunOf};
 ghost use Rattle.jl_host.specs.Linkers.{Opened as OpenedValue};
 
-use crate::arrays::{copy_sites, copy_text, sites_of, switches_of};
+use crate::arrays::{copy_sites, copy_text, loaders_of, sites_of, switches_of};
 use crate::asked::{
     copy_awaited, copy_class_name, copy_invocations_of, copy_method_name, copy_method_type,
     copy_name, find_class,
 };
 use crate::begun::Begun;
 use crate::invocations::Invocation;
-use crate::limits::{MOST, limits_asked, may_be_asked, wide};
+use crate::limits::{limits_asked, may_be_asked, wide};
 use crate::opened::Opened;
 use crate::reading::{LinkRow, rows_of};
 use crate::renew::{Counts, write_numbers};
@@ -38,7 +38,8 @@ use jl_names::{Name, Seq};
 use jl_relink::Snapshot;
 use jl_session::read_target;
 use jl_types::{
-    Answer, CallSiteId, CallSiteKind, ClassId, Event, Limits, Link, LoaderId, Place, SiteNo,
+    Answer, CallSiteId, CallSiteKind, ClassId, Event, Limits, Link, LoaderId, MOST_OF_A_KIND,
+    Place, SiteNo,
 };
 use std::alloc::{AllocError, Global};
 use std::marker::Model;
@@ -84,7 +85,7 @@ impl Linker {
         if self.opened.is_some() {
             return OPEN_ALREADY;
         }
-        if max_sites == 0 || max_sites > MOST {
+        if max_sites == 0 || max_sites > MOST_OF_A_KIND {
             return MALFORMED;
         }
         match Opened::new(alloc, wide(max_sites)) {
@@ -338,6 +339,20 @@ impl Linker {
         self.ask(alloc, Event::Retire(LoaderId::new(loader)), told)
     }
 
+    /// The loaders go at once, with the classes that they have defined and the sites in them: all or none. The first one that can't go is
+    /// told. What only one of them needs of another holds none back. Where there are none nothing changes.
+    pub fn retire_all(&mut self, alloc: Global, loaders: &[u32], told: &mut Told) -> u32
+        ensures { IsRetireAll loaders.now self.old result told.new self.new }
+    {
+        let Some(opened) = &mut self.opened else {
+            return unasked(CLOSED, told);
+        };
+        let Ok(loaders) = loaders_of(alloc, loaders) else {
+            return unasked(MEMORY, told);
+        };
+        opened.ask(alloc, Event::RetireAll(Seq::of(loaders)), told)
+    }
+
     /// The sites are linked from scratch, 1 to 256 of them, and their links installed: all or none.
     pub fn install(&mut self, alloc: Global, sites: &[u32], told: &mut Told) -> u32
         ensures { IsInstall sites.now self.old result told.new self.new }
@@ -568,7 +583,7 @@ impl Linker {
         if fresh.opened.is_some() {
             return OPEN_ALREADY;
         }
-        if max_sites == 0 || max_sites > MOST {
+        if max_sites == 0 || max_sites > MOST_OF_A_KIND {
             return MALFORMED;
         }
         let counts = opened.counts();

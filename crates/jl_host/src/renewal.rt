@@ -6,11 +6,11 @@ ghost use Rattle.jl_host.specs.Renewing.{IsBegin, IsTake, IsFill, IsFinish, IsHa
 
 use crate::begun::Begun;
 use crate::fresh::Fresh;
-use crate::limits::MOST;
 use crate::linker::Linker;
 use crate::renew::{have_places, write_numbers};
 use crate::told::{CLOSED, DONE, MALFORMED, MEMORY, OPEN_ALREADY, TOO_SHORT, Told, unasked};
 use jl_core::Core;
+use jl_types::MOST_OF_A_KIND;
 use std::alloc::Global;
 use std::marker::Model;
 
@@ -75,7 +75,7 @@ impl Renewal {
         if self.begun.is_some() {
             return OPEN_ALREADY;
         }
-        if max_sites == 0 || max_sites > MOST {
+        if max_sites == 0 || max_sites > MOST_OF_A_KIND {
             return MALFORMED;
         }
         match from.begun(alloc, released_call_sites, released_switches, max_sites) {

@@ -50,7 +50,7 @@ pub const RELEASED: u32 = 37;
 #[repr(C)]
 #[derive(Clone, Copy, Debug, PartialEq, Eq)]
 pub struct Told {
-    /// Of the loader, class, site, call site or switch point that the event made or found.
+    /// Of the loader, class, site, call site or switch point that the event made or found; or of the loader that keeps several from going.
     pub number: u32,
     /// Why, more closely, by the status.
     pub fault: u32,
@@ -145,6 +145,7 @@ pub(crate) fn status_of_refusal(refusal: &Refusal) -> u32
         Refusal::Delegate(_) => 16,
         Refusal::LoadersFull => 17,
         Refusal::Retire(_) => 19,
+        Refusal::RetireAll { .. } => 19,
     }
 }
 
@@ -232,6 +233,10 @@ fn told_of_refusal(refusal: &Refusal) -> Told
         Refusal::Memory => Told::nothing(),
         Refusal::LoadersFull => Told::nothing(),
         Refusal::Retire(fault) => told_of_retirement(fault),
+        Refusal::RetireAll { loader, fault } => Told {
+            number: loader.number(),
+            ..told_of_retirement(fault)
+        },
     }
 }
 

@@ -161,7 +161,11 @@ fn numbered(place: usize) -> Refusal {
         9 => Refusal::Retire(RetireFault::FirstLoader),
         10 => Refusal::Retire(RetireFault::Inherited(ClassId::new(3))),
         11 => Refusal::Retire(RetireFault::Recorded(LoaderId::new(3))),
-        _ => Refusal::Retire(RetireFault::Targeted(CallSiteId::new(3))),
+        12 => Refusal::Retire(RetireFault::Targeted(CallSiteId::new(3))),
+        _ => Refusal::RetireAll {
+            loader: LoaderId::new(4),
+            fault: RetireFault::Recorded(LoaderId::new(3)),
+        },
     }
 }
 
@@ -179,6 +183,7 @@ const NUMBERED: &[&str] = &[
     "Retire.Inherited",
     "Retire.Recorded",
     "Retire.Targeted",
+    "Retire.Recorded",
 ];
 
 /// Why an event is refused, with no more than a name, by its place among the names below.

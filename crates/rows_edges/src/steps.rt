@@ -38,6 +38,7 @@ pub enum Step {
     InvalidateTimes(u32, &'static [u32]),
     Bind(u32, u32),
     Retire(u32),
+    RetireAll(&'static [u32]),
     Install(&'static [u32]),
     /// The sites that went, copied to an array of so many.
     Dropped(usize),
@@ -462,6 +463,7 @@ fn event_numbers(alloc: Global, linker: &mut Linker, step: &Step) -> Numbers {
         Step::Invalidate(switches) => linker.invalidate(alloc, switches, &mut told),
         Step::Bind(site, call_site) => linker.bind(alloc, *site, *call_site, &mut told),
         Step::Retire(loader) => linker.retire(alloc, *loader, &mut told),
+        Step::RetireAll(loaders) => linker.retire_all(alloc, loaders, &mut told),
         Step::Install(sites) => linker.install(alloc, sites, &mut told),
         Step::NewCallSite(kind, ty, target) => {
             linker.new_call_site(alloc, *kind, ty.as_bytes(), target.as_bytes(), &mut told)

@@ -216,6 +216,20 @@ public final class Linker implements AutoCloseable {
         made(Native.retire(at(), loader.number(), told));
     }
 
+    /**
+     * The loaders go at once, with their classes and the sites in them: all or none. Only what stays holds one, so loaders that record each
+     * other go. One that comes twice goes once; where there are none nothing changes.
+     *
+     * <p>Refused as {@link Refusal.RetireAll}, of the first that can't go.
+     */
+    public synchronized void retireAll(Collection<LoaderId> loaders) {
+        MemorySegment open = at();
+        int[] numbers = loaders.stream().mapToInt(LoaderId::number).toArray();
+        try (Arena call = Arena.ofConfined()) {
+            Numbers.allRetired(Native.retireAll(open, call.allocateFrom(JAVA_INT, numbers), numbers.length, told), told);
+        }
+    }
+
     /** Links the sites from scratch, 1 to 256 of them: all or none. */
     public synchronized void install(Collection<SiteId> sites) {
         MemorySegment open = at();

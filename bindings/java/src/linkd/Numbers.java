@@ -47,6 +47,14 @@ final class Numbers {
         }
     }
 
+    /** The same of a retirement of several loaders, which tells, too, the one that can't go. */
+    static void allRetired(int status, MemorySegment told) {
+        if (status != Native.DONE && refusal(status, told) instanceof Refusal.Retire(Refusal.RetireFault fault, int place)) {
+            throw new RefusedException(new Refusal.RetireAll(new LoaderId(number(told)), fault, place));
+        }
+        done(status, told);
+    }
+
     private static Refusal site(Refusal.SiteFault fault, int place) {
         return new Refusal.Site(fault, place);
     }

@@ -56,6 +56,16 @@ public sealed interface Refusal {
     }
 
     /**
+     * None of several loaders is retired.
+     *
+     * @param loader the first of those that were given that can't go
+     * @param fault why it can't
+     * @param place the class, the loader or the call site that the fault is about; else 0
+     */
+    record RetireAll(LoaderId loader, RetireFault fault, int place) implements Refusal {
+    }
+
+    /**
      * A site of those that were handed in can't be prepared, installed or bound.
      *
      * @param fault why not

@@ -9,6 +9,7 @@ import java.util.Optional;
 import java.util.concurrent.CompletableFuture;
 import java.util.stream.IntStream;
 import linkd.Refusal.DefineFault;
+import linkd.Refusal.RetireFault;
 import linkd.Refusal.SiteFault;
 
 /**
@@ -203,9 +204,42 @@ final class Tests {
             linker.delegate(other, "A", LoaderId.FIRST);
             refused(new Refusal.Delegate(Refusal.DelegateFault.ALREADY_RECORDED), () -> linker.delegate(other, "A", LoaderId.FIRST));
             linker.define(other, withF("D", "A"));
-            refused(new Refusal.Retire(Refusal.RetireFault.FIRST_LOADER, 0), () -> linker.retire(LoaderId.FIRST));
+            refused(new Refusal.Retire(RetireFault.FIRST_LOADER, 0), () -> linker.retire(LoaderId.FIRST));
             linker.retire(other);
-            refused(new Refusal.Retire(Refusal.RetireFault.NO_LOADER, 0), () -> linker.retire(other));
+            refused(new Refusal.Retire(RetireFault.NO_LOADER, 0), () -> linker.retire(other));
+        }
+    }
+
+    /** The first loader has C and records D, and the second has D and records C: each alone is held by the other. */
+    private static void loadersThatRecordEachOtherGoAtOnce() throws Exception {
+        try (World world = World.open()) {
+            Linker linker = world.linker;
+            LoaderId first = linker.newLoader();
+            LoaderId second = linker.newLoader();
+            LoaderId third = linker.newLoader();
+            linker.delegate(first, "A", LoaderId.FIRST);
+            linker.delegate(second, "A", LoaderId.FIRST);
+            ClassId c = linker.define(first, withF("C", "A"));
+            linker.define(second, withF("D", "A"));
+            linker.delegate(first, "D", second);
+            linker.delegate(second, "C", first);
+            linker.delegate(third, "C", first);
+            linker.install(List.of(world.site));
+            Optional<Link> before = linker.linkOf(world.site);
+            RetireFault held = RetireFault.RECORDED;
+            refused(new Refusal.Retire(held, second.number()), () -> linker.retire(first));
+            refused(new Refusal.Retire(held, first.number()), () -> linker.retire(second));
+            refused(new Refusal.RetireAll(first, held, third.number()), () -> linker.retireAll(List.of(second, first)));
+            refused(new Refusal.RetireAll(LoaderId.FIRST, RetireFault.FIRST_LOADER, 0), () -> linker.retireAll(List.of(third, LoaderId.FIRST)));
+            linker.retireAll(List.of());
+            same(before, linker.linkOf(world.site));
+            same(List.of(), linker.dropped());
+            linker.retireAll(List.of(first, second, third, first));
+            same(Optional.empty(), linker.linkOf(world.site));
+            same(List.of(world.site), linker.dropped());
+            same(new Answer.BadReceiver(), linker.call(world.site, c));
+            refused(new Refusal.RetireAll(second, RetireFault.NO_LOADER, 0), () -> linker.retireAll(List.of(second)));
+            linker.install(List.of(world.site));
         }
     }
 
@@ -806,6 +840,7 @@ final class Tests {
                 & passes("bad files are refused by name", Tests::badFilesAreRefusedByName)
                 & passes("later files are defined up to a version", Tests::laterFilesAreDefinedUpToAVersion)
                 & passes("definitions are refused by name", Tests::definitionsAreRefusedByName)
+                & passes("loaders that record each other go at once", Tests::loadersThatRecordEachOtherGoAtOnce)
                 & passes("sites are refused by name", Tests::sitesAreRefusedByName)
                 & passes("a linker has limits of its own", Tests::aLinkerHasLimitsOfItsOwn)
                 & passes("a call site has targets", Tests::aCallSiteHasTargets)

@@ -6,7 +6,7 @@ use Rattle.jl_core.specs.State.{State, world_of}
 use Rattle.jl_host.specs.Linkers.{Opened}
 use Rattle.jl_host.specs.Seats.{seen_of}
 use Rattle.jl_host.specs.Renewals.{limits_for, released_of, counts_of}
-use Rattle.jl_host.specs.Renewing.{Start, Renewing, AreEntries, HasBegun, begun_from}
+use Rattle.jl_host.specs.Renewing.{Renewing, AreEntries, HasBegun, begun_from}
 use Rattle.jl_host.proofs.opened.Opened.begun.Goals as goal
 
 pub returns-clause-begun : goal.returns-clause-begun
