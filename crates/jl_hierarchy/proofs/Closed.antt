@@ -17,7 +17,8 @@ use Rattle.jl_types.specs.Values.World.{Class, Classes}
 use Rattle.jl_types.specs.Values.Members.{is_retired, is_present, recorded, lookup}
 use Rattle.jl_types.specs.Values.Ancestry.{AreOrdered, IsAncestor, itself, over, is_ancestor, is_parent, parents, ancestors}
 use Rattle.jl_types.specs.Events.Definitions.{class_made, defined, with_record, is_unknown}
-use Rattle.jl_types.specs.Events.Retirement.{is_of, inherits_from, records_from, classes_fault, retired}
+use Rattle.jl_types.specs.Events.Retirement.{is_listed, is_of_any, MayRetire, retired}
+use Rattle.jl_types.specs.ForProofs.Leaving.{inherits_any, records_any}
 use Rattle.jl_types.proofs.Ancestors.{ancestor_decides}
 use Rattle.jl_types.proofs.Firsts.{first_none, test_none}
 use Rattle.jl_types.proofs.Grown.{among_ancestors, old_within}
@@ -232,7 +233,7 @@ module _ (cs : Classes) (good : IsGood cs) (loader : ℕ) (file : ClassFile) whe
         by_found k name c alive (inr same) =
             subst (λ x. is_present new x ≡ true) same.0 (new_present ∙ ap not (ap (is_retired cs) same.1 ∙ alive))
 
--- ---- a loader less
+-- ---- loaders less
 
 pub any_recorded : (p : ℕ → Bool) (name : List ℕ) (c : ℕ) (records : List (List ℕ × ℕ)) → recorded name records ≡ Some c → p c ≡ true
     → list_any (λ r. p r.1) records ≡ true
@@ -248,70 +249,70 @@ any_recorded p name c (r ∷ records) e is = by_test (bytes_eq r.0 name) e (λ e
     by_test true e rest = ap (λ (b : Bool). b || list_any (λ r. p r.1) records) (ap p (same_Some r.1 c e) ∙ is)
     by_test false e rest = ap (λ (b : Bool). p r.1 || b) (rest e) ∙ always (p r.1)
 
-module _ (cs : Classes) (ordered : AreOrdered cs.rows) (closed : IsClosed cs) (loader : ℕ) (none : classes_fault cs loader ≡ None) where
+module _ (cs : Classes) (ordered : AreOrdered cs.rows) (closed : IsClosed cs) (loaders : List ℕ) (none : MayRetire cs loaders) where
   abbrev left : Classes
-  left = retired cs loader
+  left = retired cs loaders
 
-  free : IsFree cs loader
-  free = is_free cs loader none
+  free : IsFree cs loaders
+  free = is_free cs loaders none
 
-  -- a class that is left was present, and isn't of the loader
-  left_present : (c : ℕ) → is_present left c ≡ true → (is_present cs c ≡ true) × (is_of cs loader c ≡ false)
-  left_present c h = parts (is_present cs c) (is_of cs loader c) (sym (present_after cs loader c) ∙ h)
+  -- a class that is left was present, and isn't of the loaders
+  left_present : (c : ℕ) → is_present left c ≡ true → (is_present cs c ≡ true) × (is_of_any cs loaders c ≡ false)
+  left_present c h = parts (is_present cs c) (is_of_any cs loaders c) (sym (present_after cs loaders c) ∙ h)
     where
       parts : (a b : Bool) → (a && not b) ≡ true → (a ≡ true) × (b ≡ false)
       parts true true e = cc
       parts true false e = (refl, refl)
       parts false b e = cc
 
-  stays_present : (c : ℕ) → is_present cs c ≡ true → is_of cs loader c ≡ false → is_present left c ≡ true
-  stays_present c h other = present_after cs loader c ∙ (λ i. h i && not (other i))
+  stays_present : (c : ℕ) → is_present cs c ≡ true → is_of_any cs loaders c ≡ false → is_present left c ≡ true
+  stays_present c h other = present_after cs loaders c ∙ (λ i. h i && not (other i))
 
-  none_above : (a x : ℕ) → is_ancestor cs a x ≡ true → is_present cs x ≡ true → is_of cs loader x ≡ false → is_of cs loader a ≡ false
-  none_above a x up present other = by_test (is_of cs loader a) refl
+  none_above : (a x : ℕ) → is_ancestor cs a x ≡ true → is_present cs x ≡ true → is_of_any cs loaders x ≡ false → is_of_any cs loaders a ≡ false
+  none_above a x up present other = by_test (is_of_any cs loaders a) refl
     where
       inside : list_any (λ k. k == a) (ancestors cs.rows x) ≡ true
       inside = sym (among_ancestors cs ordered a x) ∙ up
 
-      inherits : is_of cs loader a ≡ true → inherits_from cs loader x ≡ true
-      inherits is = λ i. present i && (not (other i) && any_at (is_of cs loader) a (ancestors cs.rows x) is inside i)
+      inherits : is_of_any cs loaders a ≡ true → inherits_any cs loaders x ≡ true
+      inherits is = λ i. present i && (not (other i) && any_at (is_of_any cs loaders) a (ancestors cs.rows x) is inside i)
 
-      by_test : (b : Bool) → is_of cs loader a ≡ b → b ≡ false
+      by_test : (b : Bool) → is_of_any cs loaders a ≡ b → b ≡ false
       by_test true is =
-          absurd (both_ways (inherits_from cs loader x)
+          absurd (both_ways (inherits_any cs loaders x)
           (free.heirs x (passes_within (λ (row : Class). not (is_retired cs row.loader)) cs.rows x present)) (inherits is))
       by_test false is = refl
 
   pub closed_retired : IsClosed left
   closed_retired = record {
-    first = retired_after cs loader 0 ∙ (λ i. closed.first i || free.other i);
+    first = retired_after cs loaders 0 ∙ (λ i. closed.first i || free.other i);
     ancestors = λ a x up present.
         let was = left_present x present in
         stays_present a (closed.ancestors a x up was.0) (none_above a x up was.0 was.1);
-    records = λ k name c alive e. by_loader k name c (parts (is_retired cs k) (loader == k) (sym (retired_after cs loader k) ∙ alive))
-        (found_before cs loader k name c e);
+    records = λ k name c alive e. by_loader k name c (parts (is_retired cs k) is_listed loaders k (sym (retired_after cs loaders k) ∙ alive))
+        (found_before cs loaders k name c e);
   }
     where
       parts : (a b : Bool) → (a || b) ≡ false → (a ≡ false) × (b ≡ false)
       parts true b e = cc
       parts false b e = (refl, e)
 
-      -- what another loader has recorded isn't of the loader
-      not_of : (k : ℕ) (name : List ℕ) (c : ℕ) → (loader == k) ≡ false → lookup cs k name ≡ Some c → is_of cs loader c ≡ false
+      -- what another loader has recorded isn't of the loaders
+      not_of : (k : ℕ) (name : List ℕ) (c : ℕ) → is_listed loaders k ≡ false → lookup cs k name ≡ Some c → is_of_any cs loaders c ≡ false
       not_of k name c other e = by_records (slice_get cs.loaders k) refl e
         where
-          by_records : (o : Option (List (List ℕ × ℕ))) → slice_get cs.loaders k ≡ o → option_and_then (recorded name) o ≡ Some c → is_of cs loader c ≡ false
+          by_records : (o : Option (List (List ℕ × ℕ))) → slice_get cs.loaders k ≡ o → option_and_then (recorded name) o ≡ Some c → is_of_any cs loaders c ≡ false
           by_records None at e = cc
-          by_records (Some records) at e = by_test (is_of cs loader c) refl
+          by_records (Some records) at e = by_test (is_of_any cs loaders c) refl
             where
-              records_it : is_of cs loader c ≡ true → records_from cs loader k ≡ true
+              records_it : is_of_any cs loaders c ≡ true → records_any cs loaders k ≡ true
               records_it is =
-                  (λ i. not ((nat_eq_equiv.symm k loader ∙ other) i) && option_map_or (list_any (λ r. is_of cs loader r.1)) (at i) false)
-                  ∙ any_recorded (is_of cs loader) name c records e is
+                  (λ i. not (other i) && option_map_or (list_any (λ r. is_of_any cs loaders r.1)) (at i) false)
+                  ∙ any_recorded (is_of_any cs loaders) name c records e is
 
-              by_test : (b : Bool) → is_of cs loader c ≡ b → b ≡ false
-              by_test true is = absurd (both_ways (records_from cs loader k) (free.records k (slice_get_within cs.loaders k records at)) (records_it is))
+              by_test : (b : Bool) → is_of_any cs loaders c ≡ b → b ≡ false
+              by_test true is = absurd (both_ways (records_any cs loaders k) (free.records k (slice_get_within cs.loaders k records at)) (records_it is))
               by_test false is = refl
 
-      by_loader : (k : ℕ) (name : List ℕ) (c : ℕ) → (is_retired cs k ≡ false) × ((loader == k) ≡ false) → lookup cs k name ≡ Some c → is_present left c ≡ true
+      by_loader : (k : ℕ) (name : List ℕ) (c : ℕ) → (is_retired cs k ≡ false) × (is_listed loaders k ≡ false) → lookup cs k name ≡ Some c → is_present left c ≡ true
       by_loader k name c alive e = stays_present c (closed.records k name c alive.0 e) (not_of k name c alive.1 e)

@@ -16,7 +16,7 @@ use Rattle.jl_types.specs.Events.Definitions.{class_made, with_record, defined}
 use Rattle.jl_types.proofs.Grown.{old_ancestors, receivers_after}
 use Rattle.jl_types.proofs.Lists.{before_end}
 use Rattle.jl_types.proofs.Orders.{IsGood, looked_up}
-use Rattle.jl_types.specs.Events.Retirement.{retired}
+use Rattle.jl_types.specs.Events.Retirement.{is_listed, retired}
 use Rattle.jl_types.proofs.Retiring.{retired_after, found_after}
 use Rattle.jl_hierarchy.specs.Constancy.{AreInOrder, Stays, AddsReceiver}
 
@@ -147,18 +147,18 @@ stays_with_record cs good loader name d =
 pub stays_with_loader : (cs : Classes) → IsGood cs → Stays cs (record cs { loaders = cs.loaders ++ [] ∷ [] })
 stays_with_loader cs good = stays_recorded cs good (cs.loaders ++ [] ∷ []) (λ k name c h. loader_stays cs.loaders k name c h)
 
--- a loader goes
-pub stays_retired : (cs : Classes) → IsGood cs → (loader : ℕ) → Stays cs (retired cs loader)
-stays_retired cs good loader = record {
+-- loaders go
+pub stays_retired : (cs : Classes) → IsGood cs → (loaders : List ℕ) → Stays cs (retired cs loaders)
+stays_retired cs good loaders = record {
   rows = λ c row e. e;
   records = found;
   ancestors = λ c lt. refl;
-  hosts = hosts_stay cs (retired cs loader) good (λ c lt. refl) found;
+  hosts = hosts_stay cs (retired cs loaders) good (λ c lt. refl) found;
 }
   where
     second : (a b : Bool) → (a || b) ≡ false → b ≡ false
     second true b e = cc
     second false b e = e
 
-    found : (k : ℕ) (name : List ℕ) (c : ℕ) → is_retired (retired cs loader) k ≡ false → lookup cs k name ≡ Some c → lookup (retired cs loader) k name ≡ Some c
-    found k name c alive e = found_after cs loader k name (second (is_retired cs k) (loader == k) (sym (retired_after cs loader k) ∙ alive)) ∙ e
+    found : (k : ℕ) (name : List ℕ) (c : ℕ) → is_retired (retired cs loaders) k ≡ false → lookup cs k name ≡ Some c → lookup (retired cs loaders) k name ≡ Some c
+    found k name c alive e = found_after cs loaders k name (second (is_retired cs k) (is_listed loaders k) (sym (retired_after cs loaders k) ∙ alive)) ∙ e

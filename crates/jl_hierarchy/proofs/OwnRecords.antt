@@ -1,6 +1,6 @@
 -- A class of a loader that isn't retired stands in that loader's records, through every change; what is found by them.
 use Rattle.std.specs.Prelude.{◌≡◌, ℕ, zero, suc, ◌+◌, ◌<◌, ◌==◌, ◌||◌, ◌&&◌, Bool, true, false, cond, not, nat_le, List, [], ◌∷◌, ◌++◌, map, filter}
-use Rattle.std.specs.Prelude.{find, length, get_or, slice_get, slice_set}
+use Rattle.std.specs.Prelude.{find, length, get_or, slice_get, slice_set, take}
 use Rattle.std.specs.Prelude.{Option, Some, None, option_map, option_and_then}
 use Rattle.std.specs.Bool.{one_answer, then_some}
 use Rattle.std.specs.List.{list_any, range_with_len}
@@ -10,6 +10,8 @@ use Rattle.std.proofs.Common.{refl, ap, sym, subst, ◌∙◌, arith, inl, inr, 
 use Rattle.std.proofs.lemmas.Bool.{both_ways, leb-false, or_cases, or_right}
 use Rattle.std.proofs.lemmas.Bool.Decides.{Decides-eqb}
 use Rattle.std.proofs.lemmas.Cmp.{nat_eq_equiv}
+use Rattle.std.proofs.lemmas.List.{take_more}
+use Rattle.std.proofs.lemmas.List.Folds.{list_any-append}
 use Rattle.std.proofs.lemmas.Map.Views.{any-filter_same}
 use Rattle.std.proofs.lemmas.Option.{same_Some, slice_get_within}
 use Rattle.std.proofs.lemmas.Slice.Eq.{bytes_eq-Decides}
@@ -19,9 +21,9 @@ use Rattle.jl_types.specs.Values.World.{Class, Classes}
 use Rattle.jl_types.specs.Values.Members.{is_retired, is_present, is_concrete, recorded, lookup, numbers}
 use Rattle.jl_types.specs.Values.Ancestry.{AreOrdered, is_ancestor, receivers}
 use Rattle.jl_types.specs.Events.Definitions.{class_made, with_record, defined, is_unknown}
-use Rattle.jl_types.specs.Events.Retirement.{is_of, losing_receivers, retired}
+use Rattle.jl_types.specs.Events.Retirement.{is_listed, is_of, is_of_any, losing_receivers, retired}
 use Rattle.jl_types.proofs.Ancestors.{ancestor_decides}
-use Rattle.jl_types.proofs.Bools.{any-filter, any-filter-at, any-map, any-range-from, first_test, second_test}
+use Rattle.jl_types.proofs.Bools.{or_none, any-filter, any-filter-at, any-map, any-range-from, first_test, second_test}
 use Rattle.jl_types.proofs.Firsts.{first_none, test_none}
 use Rattle.jl_types.proofs.Grown.{above}
 use Rattle.jl_types.proofs.Lists.{at_end, before_end, passes_within}
@@ -53,10 +55,10 @@ module _ (cs : Classes) (good : IsGood cs) (own : AreRecorded cs) where
   own_with_record loader name d c row at alive =
       (stays_with_record cs good loader name d).records row.loader row.file.name c alive (own c row at alive)
 
-  pub own_retired : (loader : ℕ) → AreRecorded (retired cs loader)
-  own_retired loader c row at alive =
-      (stays_retired cs good loader).records row.loader row.file.name c alive
-      (own c row at (first_of_both (is_retired cs row.loader) (loader == row.loader) (sym (retired_after cs loader row.loader) ∙ alive)))
+  pub own_retired : (loaders : List ℕ) → AreRecorded (retired cs loaders)
+  own_retired loaders c row at alive =
+      (stays_retired cs good loaders).records row.loader row.file.name c alive
+      (own c row at (first_of_both (is_retired cs row.loader) (is_listed loaders row.loader) (sym (retired_after cs loaders row.loader) ∙ alive)))
 
 -- a name that isn't recorded is found once it is
 recorded_last : (name : List ℕ) (n : ℕ) (records : List (List ℕ × ℕ)) → recorded name records ≡ None → recorded name (records ++ (name, n) ∷ []) ≡ Some n
@@ -123,7 +125,7 @@ module _ (cs : Classes) (good : IsGood cs) (own : AreRecorded cs) (loader : ℕ)
 pub has_filtered : (p : ℕ → Bool) (c : ℕ) (xs : List ℕ) → has c (filter p xs) ≡ (p c && has c xs)
 has_filtered p c xs = any-filter_same (λ k. k == c) p (p c) (λ k is. ap p ((Decides-eqb k c).0 is)) xs
 
-has_place : (xs : List ℕ) (k d : ℕ) → k < length xs → has (get_or xs k d) xs ≡ true
+pub has_place : (xs : List ℕ) (k d : ℕ) → k < length xs → has (get_or xs k d) xs ≡ true
 has_place [] k d lt = absurd (omega arith)
 has_place (x ∷ xs) zero d lt = ap (λ (b : Bool). b || has x xs) (nat_eq_equiv.refl x)
 has_place (x ∷ xs) (suc k) d lt = or_right (x == get_or xs k d) (has (get_or xs k d) xs) (has_place xs k d (omega arith))
@@ -206,6 +208,44 @@ module _ (cs : Classes) (own : AreRecorded cs) (loader : ℕ) where
       by_test false other =
           not_among other (slice_get cs.loaders loader) ∙ sym (and_none (is_present cs c)) ∙ ap (λ (b : Bool). is_present cs c && b) (sym other)
 
+-- ---- the own classes of several loaders
+
+module _ (cs : Classes) (loaders : List ℕ) (n : ℕ) (l : ℕ) where
+  -- those of one loader more
+  pub own_more : n < length loaders → l ≡ get_or loaders n l → (all own : List ℕ)
+      → ((c : ℕ) → has c all ≡ (is_present cs c && is_of_any cs (take n loaders) c))
+      → ((c : ℕ) → has c own ≡ (is_present cs c && is_of cs l c))
+      → (c : ℕ) → has c (all ++ own) ≡ (is_present cs c && is_of_any cs (take (n + 1) loaders) c)
+  own_more lt is all own alls owns c =
+      list_any-append (λ k. k == c) all own ∙ (λ i. alls c i || owns c i) ∙ by_row (slice_get cs.rows c)
+    where
+      turned : (a b d : Bool) → ((a && b) || (a && d)) ≡ (a && (b || d))
+      turned true b d = refl
+      turned false b d = refl
+
+      one_more : (k : ℕ) → is_listed (take (n + 1) loaders) k ≡ (is_listed (take n loaders) k || (l == k))
+      one_more k =
+          ap (λ (ks : List ℕ). is_listed ks k) (take_more loaders n l lt)
+          ∙ list_any-append (λ j. j == k) (take n loaders) (get_or loaders n l ∷ [])
+          ∙ ap (λ (b : Bool). is_listed (take n loaders) k || b) (or_none (get_or loaders n l == k) ∙ ap (λ j. j == k) (sym is))
+
+      by_row : (o : Option Class)
+          → ((option_map_or (λ row. not (is_retired cs row.loader)) o false && option_map_or (λ row. is_listed (take n loaders) row.loader) o false)
+          || (option_map_or (λ row. not (is_retired cs row.loader)) o false && option_map_or (λ row. row.loader == l) o false))
+          ≡ (option_map_or (λ row. not (is_retired cs row.loader)) o false && option_map_or (λ row. is_listed (take (n + 1) loaders) row.loader) o false)
+      by_row None = refl
+      by_row (Some row) =
+          turned (not (is_retired cs row.loader)) (is_listed (take n loaders) row.loader) (row.loader == l)
+          ∙ ap (λ (b : Bool). not (is_retired cs row.loader) && b)
+          (ap (λ (b : Bool). is_listed (take n loaders) row.loader || b) (nat_eq_equiv.symm row.loader l) ∙ sym (one_more row.loader))
+
+  pub none_of_none : (c : ℕ) → has c [] ≡ (is_present cs c && is_of_any cs [] c)
+  none_of_none c = sym (by_row (slice_get cs.rows c))
+    where
+      by_row : (o : Option Class) → (option_map_or (λ row. not (is_retired cs row.loader)) o false && option_map_or (λ row. is_listed [] row.loader) o false) ≡ false
+      by_row None = refl
+      by_row (Some row) = and_none (not (is_retired cs row.loader))
+
 -- ---- what loses a receiver
 
 one_passing : (f : ℕ → Bool) (xs : List ℕ) → list_any f xs ≡ true → (x : ℕ) × (has x xs ≡ true) × (f x ≡ true)
@@ -215,41 +255,41 @@ one_passing f (x ∷ xs) h = elim (or_cases (f x) (list_any f xs) h) [
   | inr more ↦ let rest = one_passing f xs more in (rest.0, or_right (x == rest.0) (has rest.0 xs) rest.1, rest.2)
 ]
 
-module _ (cs : Classes) (o : AreOrdered cs.rows) (loader : ℕ) (own concrete : List ℕ) (own_is : (c : ℕ) → has c own ≡ (is_present cs c && is_of cs loader c))
+module _ (cs : Classes) (o : AreOrdered cs.rows) (loaders : List ℕ) (own concrete : List ℕ) (own_is : (c : ℕ) → has c own ≡ (is_present cs c && is_of_any cs loaders c))
     (concrete_is : concrete ≡ filter (is_concrete cs) own) where
   there : (c : ℕ) → is_present cs c ≡ true → c < length cs.rows
   there c is = passes_within (λ (row : Class). not (is_retired cs row.loader)) cs.rows c is
 
-  -- the loader's classes are there
+  -- the loaders' classes are there
   pub own_there : (k d : ℕ) → k < length concrete → get_or concrete k d < length cs.rows
   own_there k d lt =
       let in_list = has_place concrete k d lt in
-      there (get_or concrete k d) (first_test (is_present cs (get_or concrete k d)) (is_of cs loader (get_or concrete k d))
+      there (get_or concrete k d) (first_test (is_present cs (get_or concrete k d)) (is_of_any cs loaders (get_or concrete k d))
       (sym (own_is (get_or concrete k d)) ∙ second_test (is_concrete cs (get_or concrete k d)) (has (get_or concrete k d) own)
       (sym (ap (has (get_or concrete k d)) concrete_is ∙ has_filtered (is_concrete cs) (get_or concrete k d) own) ∙ in_list)))
 
   abbrev loses : ℕ → Bool
-  loses a = list_any (is_of cs loader) (receivers cs a)
+  loses a = list_any (is_of_any cs loaders) (receivers cs a)
 
-  on : (a : ℕ) → list_any (λ p. is_ancestor cs a p) concrete ≡ true → has a (losing_receivers cs loader) ≡ true
+  on : (a : ℕ) → list_any (λ p. is_ancestor cs a p) concrete ≡ true → has a (losing_receivers cs loaders) ≡ true
   on a h =
       let one = one_passing (is_ancestor cs a) concrete h in
       let p = one.0 in
       let both : (is_concrete cs p && has p own) ≡ true = sym (ap (has p) concrete_is ∙ has_filtered (is_concrete cs) p own) ∙ one.1 in
       let concrete' = first_test (is_concrete cs p) (has p own) both in
-      let mine : (is_present cs p && is_of cs loader p) ≡ true = sym (own_is p) ∙ second_test (is_concrete cs p) (has p own) both in
-      let lt = there p (first_test (is_present cs p) (is_of cs loader p) mine) in
+      let mine : (is_present cs p && is_of_any cs loaders p) ≡ true = sym (own_is p) ∙ second_test (is_concrete cs p) (has p own) both in
+      let lt = there p (first_test (is_present cs p) (is_of_any cs loaders p) mine) in
       let le = above cs.rows o a ((ancestor_decides cs o a p).0 one.2) in
       any-filter-at loses (λ k. k == a) a (numbers cs)
       (any-range-from (λ k. k == a) 0 (length cs.rows) a (omega arith) (omega (arith, lt, le)) (nat_eq_equiv.refl a))
-      (any-filter-at (λ x. is_concrete cs x && is_ancestor cs a x) (is_of cs loader) p (numbers cs)
+      (any-filter-at (λ x. is_concrete cs x && is_ancestor cs a x) (is_of_any cs loaders) p (numbers cs)
       (any-range-from (λ k. k == p) 0 (length cs.rows) p (omega arith) (omega (arith, lt)) (nat_eq_equiv.refl p))
-      (λ i. concrete' i && one.2 i) (second_test (is_present cs p) (is_of cs loader p) mine))
+      (λ i. concrete' i && one.2 i) (second_test (is_present cs p) (is_of_any cs loaders p) mine))
       (nat_eq_equiv.refl a)
 
-  back : (a : ℕ) → has a (losing_receivers cs loader) ≡ true → list_any (λ p. is_ancestor cs a p) concrete ≡ true
+  back : (a : ℕ) → has a (losing_receivers cs loaders) ≡ true → list_any (λ p. is_ancestor cs a p) concrete ≡ true
   back a h =
-      let one = any-filter (λ x. is_concrete cs x && is_ancestor cs a x) (is_of cs loader) (numbers cs)
+      let one = any-filter (λ x. is_concrete cs x && is_ancestor cs a x) (is_of_any cs loaders) (numbers cs)
       (first_test (loses a) (has a (numbers cs)) (sym (has_filtered loses a (numbers cs)) ∙ h)) in
       let p = one.item in
       let concrete' = first_test (is_concrete cs p) (is_ancestor cs a p) one.meets in
@@ -258,15 +298,15 @@ module _ (cs : Classes) (o : AreOrdered cs.rows) (loader : ℕ) (own concrete : 
       ∙ (λ i. concrete' i && (own_is p ∙ (λ j. first_test (is_present cs p) _ concrete' j && one.passes j)) i))
 
   pub losing_are : (joined : List ℕ) → Rises joined → ((a : ℕ) → has a joined ≡ list_any (λ p. is_ancestor cs a p) concrete)
-      → joined ≡ losing_receivers cs loader
+      → joined ≡ losing_receivers cs loaders
   losing_are joined rises members =
-      one_rising joined (losing_receivers cs loader) rises (filter_rises loses 0 (length cs.rows))
-      (λ a. members a ∙ one_answer (list_any (λ p. is_ancestor cs a p) concrete) (has a (losing_receivers cs loader)) (λ e. e, λ e. e) (back a, on a))
+      one_rising joined (losing_receivers cs loaders) rises (filter_rises loses 0 (length cs.rows))
+      (λ a. members a ∙ one_answer (list_any (λ p. is_ancestor cs a p) concrete) (has a (losing_receivers cs loaders)) (λ e. e, λ e. e) (back a, on a))
 
 -- those that lose a receiver are there, and rise
-pub losing_there : (cs : Classes) (loader : ℕ) (losing : List ℕ) → losing ≡ losing_receivers cs loader
+pub losing_there : (cs : Classes) (loaders : List ℕ) (losing : List ℕ) → losing ≡ losing_receivers cs loaders
     → (k d : ℕ) → k < length losing → get_or losing k d < length cs.rows
-losing_there cs loader losing e = filtered_there (λ c. list_any (is_of cs loader) (receivers cs c)) (length cs.rows) losing e
+losing_there cs loaders losing e = filtered_there (λ c. list_any (is_of_any cs loaders) (receivers cs c)) (length cs.rows) losing e
 
-pub losing_rises : (cs : Classes) (loader : ℕ) (losing : List ℕ) → losing ≡ losing_receivers cs loader → Rises losing
-losing_rises cs loader losing e = subst Rises (sym e) (filter_rises (λ c. list_any (is_of cs loader) (receivers cs c)) 0 (length cs.rows))
+pub losing_rises : (cs : Classes) (loaders : List ℕ) (losing : List ℕ) → losing ≡ losing_receivers cs loaders → Rises losing
+losing_rises cs loaders losing e = subst Rises (sym e) (filter_rises (λ c. list_any (is_of_any cs loaders) (receivers cs c)) 0 (length cs.rows))

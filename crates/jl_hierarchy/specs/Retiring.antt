@@ -3,13 +3,18 @@ use Rattle.std.specs.Prelude.{ℕ, ◌==◌, Bool, false, not, if◌then◌else�
 use Rattle.std.specs.Option.{option_map_or}
 use Rattle.jl_types.specs.Values.World.{Class, Classes}
 use Rattle.jl_types.specs.Values.Members.{is_retired}
+use Rattle.jl_types.specs.Events.Retirement.{is_listed}
 
 abbrev pub is_row_of : List Class → ℕ → ℕ → Bool
 is_row_of rows loader c = option_map_or (λ row. row.loader == loader) (slice_get rows c) false
 
--- those that the loader hasn't defined
-abbrev pub without : List Class → ℕ → List ℕ → List ℕ
-without rows loader xs = filter (λ c. not (is_row_of rows loader c)) xs
+-- one of the loaders has defined the class
+abbrev pub is_row_of_any : List Class → List ℕ → ℕ → Bool
+is_row_of_any rows loaders c = option_map_or (λ row. is_listed loaders row.loader) (slice_get rows c) false
+
+-- those that none of the loaders has defined
+abbrev pub without : List Class → List ℕ → List ℕ → List ℕ
+without rows loaders xs = filter (λ c. not (is_row_of_any rows loaders c)) xs
 
 -- the classes of these records that the loader has defined
 abbrev pub own_recorded : List Class → ℕ → List (List ℕ × ℕ) → List ℕ

@@ -15,6 +15,7 @@ mod defaults;
 mod define;
 mod delegate;
 mod faults;
+mod leaving;
 mod loader;
 mod marks;
 mod members;
@@ -30,4 +31,5 @@ mod upward;
 
 pub use classes::Classes;
 pub use delegate::LoaderFault;
+pub use leaving::Leaving;
 pub use name_and_type::NameAndType;

@@ -5,9 +5,10 @@ ghost use Rattle.std.specs.List.{list_any};
 ghost use Rattle.jl_types.specs.Values.Members.{recorded};
 ghost use Rattle.jl_types.specs.Events.Definitions.{with_record};
 ghost use Rattle.jl_hierarchy.specs.ForProofs.Kept.{are_new};
-ghost use Rattle.jl_hierarchy.specs.Retiring.{is_row_of, own_recorded};
+ghost use Rattle.jl_hierarchy.specs.Retiring.{is_row_of, is_row_of_any, own_recorded};
 
-use crate::retire::{is_row_of, push_if};
+use crate::leaving::Leaving;
+use crate::retire::{is_row_of, is_row_of_leaving, push_if};
 use crate::row::Row;
 use indexmap::IndexMap;
 use jl_pages::Paged;
@@ -75,6 +76,13 @@ impl Loader {
         ensures { result ≡ list_any (λ r. is_row_of rows.now.items loader r.1) self.now }
     {
         self.older.has_one_of(rows, loader) || self.recent.has_one_of(rows, loader)
+    }
+
+    /// Whether one of the classes that are recorded is of one of the loaders.
+    pub(crate) fn has_any_of(&self, rows: &Paged<Row>, leaving: &Leaving) -> bool
+        ensures { result ≡ list_any (λ r. is_row_of_any rows.now.items leaving.now r.1) self.now }
+    {
+        self.older.has_any_of(rows, leaving) || self.recent.has_any_of(rows, leaving)
     }
 
     /// Adds the classes that are recorded and of the loader behind these. Want of memory is an error.
@@ -229,6 +237,22 @@ impl Records {
         let mut place = 0;
         while let Some((_, class)) = self.records.get_index(place) {
             if is_row_of(rows, loader, *class) {
+                return true;
+            }
+            place += 1;
+        }
+        false
+    }
+
+    /// Whether one of the classes is of one of the loaders.
+    fn has_any_of(&self, rows: &Paged<Row>, leaving: &Leaving) -> bool
+        ensures { result ≡ list_any (λ r. is_row_of_any rows.now.items leaving.now r.1) self.now }
+    {
+        // Bounds the loop.
+        let _count = self.records.len();
+        let mut place = 0;
+        while let Some((_, class)) = self.records.get_index(place) {
+            if is_row_of_leaving(rows, leaving, *class) {
                 return true;
             }
             place += 1;

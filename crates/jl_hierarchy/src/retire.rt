@@ -1,7 +1,7 @@
-//! The retirement of a loader with the classes that it has defined (JLS SE 17 §12.7).
+//! The retirement of loaders with the classes that they have defined (JLS SE 17 §12.7).
 
-ghost use Rattle.std.specs.Prelude.{◌≡◌, ◌<◌, ◌&&◌, ◌==◌, ◌++◌, ◌∷◌, ℕ, None, All, find, filter, length, slice_get, slice_set, [], OnOk};
-ghost use Rattle.std.specs.Prelude.{OnErr, IfOk, false, if◌then◌else◌};
+ghost use Rattle.std.specs.Prelude.{◌≡◌, ◌<◌, ◌≤◌, ◌+◌, ◌&&◌, ◌||◌, ◌==◌, ◌++◌, ◌∷◌, ℕ, None, All, find, filter, length, replicate, slice_get, [], OnOk};
+ghost use Rattle.std.specs.Prelude.{OnErr, IfOk, true, not, if◌then◌else◌};
 ghost use Rattle.std.specs.Option.{option_map_or};
 ghost use Rattle.std.specs.List.{list_any, range_with_len};
 ghost use Rattle.jl_types.specs.Values.Members as members;
@@ -9,9 +9,11 @@ ghost use Rattle.jl_types.specs.Events.Definitions as definitions;
 ghost use Rattle.jl_types.specs.Events.Retirement as retirement;
 ghost use Rattle.jl_hierarchy.specs.Constancy.{AreInOrder};
 ghost use Rattle.jl_hierarchy.specs.ForProofs.Kept.{AreChanged, Rises, lists};
-ghost use Rattle.jl_hierarchy.specs.Retiring.{is_row_of, own_classes, own_recorded, without};
+ghost use Rattle.jl_types.specs.ForProofs.Leaving.{inherits_any, records_any};
+ghost use Rattle.jl_hierarchy.specs.Retiring.{is_row_of, is_row_of_any, own_classes, own_recorded, without};
 
 use crate::classes::Classes;
+use crate::leaving::{Leaving, each_once, is_listed};
 use crate::loader::Loader;
 use crate::receiving::Receivers;
 use crate::row::Row;
@@ -57,10 +59,30 @@ impl Classes {
         }
     }
 
-    /// Why the loader can't go, by the classes alone: a walk over the ancestors of all classes, and over all that loaders record. Takes
-    /// no memory.
-    pub fn retire_fault(&self, loader: LoaderId) -> Option<RetireFault>
-        ensures { result ≡ retirement.classes_fault self.now loader }
+    /// Whether one of the loaders has defined the class.
+    pub fn is_of_any(&self, leaving: &Leaving, class: ClassId) -> bool
+        ensures { result ≡ retirement.is_of_any self.now leaving.now class }
+    {
+        match self.class_at(class) {
+            Some(row) => leaving.has(row.loader()),
+            None => false,
+        }
+    }
+
+    /// Whether one of the listed loaders has defined the class.
+    fn is_of_listed(&self, loaders: &[LoaderId], class: ClassId) -> bool
+        ensures { result ≡ retirement.is_of_any self.now loaders.now class }
+    {
+        match self.class_at(class) {
+            Some(row) => is_listed(loaders, row.loader()),
+            None => false,
+        }
+    }
+
+    /// Why the loader can't go where all of these go at once, by the classes alone: a walk over the ancestors of all classes, and over
+    /// all that loaders record. Takes no memory.
+    pub fn retire_fault(&self, loaders: &[LoaderId], loader: LoaderId) -> Option<RetireFault>
+        ensures { result ≡ retirement.classes_fault self.now loaders.now loader }
     {
         if self.lacks_loader(loader) {
             return Some(RetireFault::UnknownLoader);
@@ -68,29 +90,29 @@ impl Classes {
         if loader.number() == 0 {
             return Some(RetireFault::FirstLoader);
         }
-        if let Some(class) = self.first_heir(loader) {
+        if let Some(class) = self.first_heir(loaders, loader) {
             return Some(RetireFault::Inherited(ClassId::new(class)));
         }
-        if let Some(other) = self.first_recorder(loader) {
+        if let Some(other) = self.first_recorder(loaders, loader) {
             return Some(RetireFault::Recorded(LoaderId::new(other)));
         }
         None
     }
 
-    /// The number of the least present class of another loader that has an ancestor of this one.
-    fn first_heir(&self, loader: LoaderId) -> Option<u32>
-        ensures { result ≡ find (retirement.inherits_from self.now loader) (members.numbers self.now) }
+    /// The number of the least present class that stays and has an ancestor of the loader.
+    fn first_heir(&self, loaders: &[LoaderId], loader: LoaderId) -> Option<u32>
+        ensures { result ≡ find (retirement.inherits_from self.now loaders.now loader) (members.numbers self.now) }
     {
         let count = self.count_in_order() as u32;
-        (0..count).find(|class| self.inherits_from(loader, ClassId::new(*class)))
+        (0..count).find(|class| self.inherits_from(loaders, loader, ClassId::new(*class)))
     }
 
-    /// Whether the class is a present one of another loader, and has an ancestor of this one.
-    fn inherits_from(&self, loader: LoaderId, class: ClassId) -> bool
-        ensures { result ≡ retirement.inherits_from self.now loader class }
+    /// Whether the class is a present one that stays, and has an ancestor of the loader.
+    fn inherits_from(&self, loaders: &[LoaderId], loader: LoaderId, class: ClassId) -> bool
+        ensures { result ≡ retirement.inherits_from self.now loaders.now loader class }
     {
         self.is_present(class)
-            && !self.is_of(loader, class)
+            && !self.is_of_listed(loaders, class)
             && self.has_one_of(loader, self.ancestors(class))
     }
 
@@ -101,39 +123,118 @@ impl Classes {
         classes.iter().any(|class| self.is_of(loader, *class))
     }
 
-    /// The number of the least other loader that records a class of this one: a present one, since a retired one records nothing.
-    fn first_recorder(&self, loader: LoaderId) -> Option<u32>
-        ensures { result ≡ find (retirement.records_from self.now loader) (range_with_len 0 (length self.now.loaders)) }
+    /// The number of the least loader that stays and records a class of this one: a present one, since a retired one records nothing.
+    fn first_recorder(&self, loaders: &[LoaderId], loader: LoaderId) -> Option<u32>
+        ensures { result ≡ find (retirement.records_from self.now loaders.now loader) (range_with_len 0 (length self.now.loaders)) }
     {
         let count = self.loader_count() as u32;
-        (0..count).find(|other| self.records_from(loader, LoaderId::new(*other)))
+        (0..count).find(|other| self.records_from(loaders, loader, LoaderId::new(*other)))
     }
 
-    /// Whether the other loader is another one, and records a class of this one.
-    fn records_from(&self, loader: LoaderId, other: LoaderId) -> bool
-        ensures { result ≡ retirement.records_from self.now loader other }
+    /// Whether the other loader stays, and records a class of this one.
+    fn records_from(&self, loaders: &[LoaderId], loader: LoaderId, other: LoaderId) -> bool
+        ensures { result ≡ retirement.records_from self.now loaders.now loader other }
     {
         match self.loaders.get(other.number() as usize) {
-            Some(records) => other != loader && records.has_one_of(&self.rows, loader),
+            Some(records) => {
+                !is_listed(loaders, other) && records.has_one_of(&self.rows, loader)
+            }
             None => false,
         }
     }
 
-    /// The classes that lose a receiver where the loader goes, by rising number: a walk over what the loader has recorded, and over
-    /// the ancestors of its own classes. Want of memory is an error.
+    /// Whether nothing speaks against it that these loaders go at once, by the classes alone: one walk over the ancestors of all
+    /// classes, and one over all that the loaders record that stay. Takes no memory.
+    pub fn spares(&self, leaving: &Leaving) -> bool
+        ensures { result ≡ true → retirement.MayRetire self.now leaving.now }
+    {
+        self.knows_all(leaving.listed.as_slice())
+            && self.first_heir_of_any(leaving).is_none()
+            && self.first_recorder_of_any(leaving).is_none()
+    }
+
+    /// Whether each of the loaders is there, isn't retired and isn't loader 0.
+    fn knows_all(&self, loaders: &[LoaderId]) -> bool
+        ensures { result ≡ not (list_any (λ l. definitions.is_unknown self.now l || (l == 0)) loaders.now) }
+    {
+        !loaders.iter().any(|loader| self.lacks_loader(*loader) || loader.number() == 0)
+    }
+
+    /// The number of the least present class that stays and has an ancestor of one of the loaders.
+    fn first_heir_of_any(&self, leaving: &Leaving) -> Option<u32>
+        ensures { result ≡ find (inherits_any self.now leaving.now) (members.numbers self.now) }
+    {
+        let count = self.count_in_order() as u32;
+        (0..count).find(|class| self.inherits_any(leaving, ClassId::new(*class)))
+    }
+
+    /// Whether the class is a present one that stays, and has an ancestor of one of the loaders.
+    fn inherits_any(&self, leaving: &Leaving, class: ClassId) -> bool
+        ensures { result ≡ inherits_any self.now leaving.now class }
+    {
+        self.is_present(class)
+            && !self.is_of_any(leaving, class)
+            && self.has_any_of(leaving, self.ancestors(class))
+    }
+
+    /// Whether one of the loaders has defined one of the classes.
+    fn has_any_of(&self, leaving: &Leaving, classes: &[ClassId]) -> bool
+        ensures { result ≡ list_any (retirement.is_of_any self.now leaving.now) classes.now }
+    {
+        classes.iter().any(|class| self.is_of_any(leaving, *class))
+    }
+
+    /// The number of the least loader that stays and records a class of one of these.
+    fn first_recorder_of_any(&self, leaving: &Leaving) -> Option<u32>
+        ensures { result ≡ find (records_any self.now leaving.now) (range_with_len 0 (length self.now.loaders)) }
+    {
+        let count = self.loader_count() as u32;
+        (0..count).find(|other| self.records_any(leaving, LoaderId::new(*other)))
+    }
+
+    /// Whether the other loader stays, and records a class of one of these.
+    fn records_any(&self, leaving: &Leaving, other: LoaderId) -> bool
+        ensures { result ≡ records_any self.now leaving.now other }
+    {
+        match self.loaders.get(other.number() as usize) {
+            Some(records) => !leaving.has(other) && records.has_any_of(&self.rows, leaving),
+            None => false,
+        }
+    }
+
+    /// The classes that lose a receiver where the loaders go, by rising number: a walk over what the loaders have recorded, and over
+    /// the ancestors of their own classes. Want of memory is an error.
     pub fn losing_receivers(
         &self,
         alloc: Global,
-        loader: LoaderId,
+        loaders: &[LoaderId],
     ) -> Result<Vec<ClassId>, AllocError>
-        ensures { IfOk result (λ losing. losing.items ≡ retirement.losing_receivers self.now loader) }
+        ensures { IfOk result (λ losing. losing.items ≡ retirement.losing_receivers self.now loaders.now) }
     {
         // Opens the invariant of the classes.
         let _ = &self.rows;
-        let own = self.own_classes(alloc, loader)?;
+        let own = self.classes_of_all(alloc, loaders)?;
         let concrete = self.concrete_among(alloc, &own)?;
         let losing = self.joined_ancestors(alloc, &concrete)?;
         Ok(losing)
+    }
+
+    /// The classes that these loaders have defined, one loader after another, and none of a retired one: a walk over what they have
+    /// recorded. Want of memory is an error.
+    pub fn classes_of_all(
+        &self,
+        alloc: Global,
+        loaders: &[LoaderId],
+    ) -> Result<Vec<ClassId>, AllocError>
+        ensures { IfOk result (λ own. (c : ℕ) → list_any (λ k. k == c) own.items
+            ≡ (members.is_present self.now c && retirement.is_of_any self.now loaders.now c)) }
+    {
+        let mut all = Vec::new(alloc);
+        for loader in loaders {
+            let own = self.own_classes(alloc, *loader)?;
+            all.extend_from_slice(own.as_slice())?;
+        }
+        Ok(all)
     }
 
     /// The classes that the loader has defined, in the order in which it recorded them, and none of a retired one: a walk over what it
@@ -175,24 +276,24 @@ impl Classes {
         Ok(concrete)
     }
 
-    /// The loader goes, with all that it has defined and all that it finds, where nothing speaks against it: it finds nothing any
-    /// more, and its classes are no receivers. Their numbers aren't given again. A walk over what the loader has recorded, and over the
-    /// receivers of the ancestors of its own classes; every growth comes before the first change, or is it.
+    /// The loaders go, with all that they have defined and all that they find, where nothing speaks against it: they find nothing any
+    /// more, and their classes are no receivers. Their numbers aren't given again. A walk over what the loaders have recorded, and over
+    /// the receivers of the ancestors of their own classes, each once; every growth comes before the first change, or is it.
     ///
     /// # Errors
     ///
     /// Want of memory. Nothing has changed then.
-    pub fn retire(&mut self, alloc: Global, loader: LoaderId) -> Result<(), AllocError>
-        requires { retirement.classes_fault self.old loader ≡ None }
-        ensures ok { OnOk result (self.new ≡ retirement.retired self.old loader) }
+    pub fn retire(&mut self, alloc: Global, loaders: &[LoaderId]) -> Result<(), AllocError>
+        requires { retirement.MayRetire self.old loaders.now }
+        ensures ok { OnOk result (self.new ≡ retirement.retired self.old loaders.now) }
         ensures in_order { OnOk result (AreInOrder self.old) }
         ensures err { OnErr result (self.new ≡ self.old) }
     {
-        let losing = self.losing_receivers(alloc, loader)?;
-        let bare = Loader::new(alloc)?;
-        mark_retired(&mut self.retired, loader)?;
-        empty_in(&mut self.loaders, loader, bare);
-        drop_own_receivers(alloc, &self.rows, &mut self.below, loader, &losing);
+        let losing = self.losing_receivers(alloc, loaders)?;
+        let bare = bare_loaders(alloc, loaders.len())?;
+        add_all(alloc, &mut self.retired, loaders)?;
+        empty_all(self.loaders.as_mut_slice(), loaders, bare);
+        drop_own_receivers(alloc, &self.rows, &mut self.below, &self.retired, &losing);
         Ok(())
     }
 }
@@ -211,42 +312,72 @@ pub(crate) fn push_if(
     Ok(())
 }
 
-/// The loader, which isn't among them, is behind the retired ones.
+/// Adds each of the loaders that isn't among the retired ones yet.
 ///
 /// # Errors
 ///
 /// Want of memory. Nothing has changed then.
-fn mark_retired(retired: &mut IndexSet<LoaderId>, loader: LoaderId) -> Result<(), AllocError>
-    requires { list_any (λ k. k == loader) retired.old.keys ≡ false }
-    ensures ok { OnOk result (retired.new.keys ≡ retired.old.keys ++ loader ∷ []) }
+fn add_all(
+    alloc: Global,
+    retired: &mut IndexSet<LoaderId>,
+    loaders: &[LoaderId],
+) -> Result<(), AllocError>
+    ensures ok { OnOk result (retired.new.keys ≡ retirement.gone_with retired.old.keys loaders.now) }
     ensures err { OnErr result (retired.new.keys ≡ retired.old.keys) }
 {
-    retired.insert(loader)?;
+    let mut leaving = each_once(alloc, loaders)?;
+    retired.append(&mut leaving)?;
     Ok(())
 }
 
-/// The loader finds nothing any more.
-fn empty_in(loaders: &mut Vec<Loader>, loader: LoaderId, bare: Loader)
-    requires there { loader < length loaders.old.items }
-    requires bare { bare ≡ [] }
-    ensures { loaders.new.items ≡ slice_set loaders.old.items loader [] }
+/// So many loaders that find nothing. Want of memory is an error.
+fn bare_loaders(alloc: Global, count: usize) -> Result<Vec<Loader>, AllocError>
+    ensures { IfOk result (λ bare. bare.items ≡ replicate count []) }
 {
-    loaders.as_mut_slice()[loader.number() as usize] = bare;
+    let one = Loader::new(alloc)?;
+    let mut bare = Vec::with_capacity(alloc, count)?;
+    for _ in 0..count {
+        bare.push(one.copy()?)?;
+    }
+    Ok(bare)
 }
 
-/// Takes the classes of the loader out of the receivers of each of these.
+/// These loaders find nothing any more: each comes to be one of the bare ones, of which there are as many.
+fn empty_all(loaders: &mut [Loader], leaving: &[LoaderId], bare: Vec<Loader>)
+    requires there { All (λ l. l < length loaders.old) leaving.now }
+    requires bare { bare.items ≡ replicate (length leaving.now) [] }
+    ensures { loaders.new ≡ retirement.emptied loaders.old leaving.now }
+{
+    let mut bare = bare;
+    for loader in leaving {
+        loaders[loader.number() as usize] = next_bare(&mut bare);
+    }
+}
+
+/// The last of the bare loaders, which goes from them.
+fn next_bare(bare: &mut Vec<Loader>) -> Loader
+    requires some { 1 ≤ length bare.old.items }
+    requires bare { bare.old.items ≡ replicate (length bare.old.items) [] }
+    ensures bare { result ≡ [] }
+    ensures fewer { length bare.new.items + 1 ≡ length bare.old.items }
+    ensures left { bare.new.items ≡ replicate (length bare.new.items) [] }
+{
+    bare.pop().unwrap()
+}
+
+/// Takes the classes of retired loaders out of the receivers of each of these.
 fn drop_own_receivers(
     alloc: Global,
     rows: &Paged<Row>,
     below: &mut Vec<Receivers>,
-    loader: LoaderId,
+    retired: &IndexSet<LoaderId>,
     losing: &[ClassId],
 )
     requires there { All (λ c. c < length below.old.items) losing.now }
     requires rising { Rises losing.now }
-    ensures { AreChanged losing.now (without rows.now.items loader) (lists below.old.items) (lists below.new.items) }
+    ensures { AreChanged losing.now (without rows.now.items retired.now.keys) (lists below.old.items) (lists below.new.items) }
 {
-    drop_receivers(alloc, rows, below.as_mut_slice(), loader, losing);
+    drop_receivers(alloc, rows, below.as_mut_slice(), retired, losing);
 }
 
 /// The same in a slice.
@@ -254,33 +385,58 @@ fn drop_receivers(
     alloc: Global,
     rows: &Paged<Row>,
     below: &mut [Receivers],
-    loader: LoaderId,
+    retired: &IndexSet<LoaderId>,
     losing: &[ClassId],
 )
     requires there { All (λ c. c < length below.old) losing.now }
     requires rising { Rises losing.now }
-    ensures { AreChanged losing.now (without rows.now.items loader) (lists below.old) (lists below.new) }
+    ensures { AreChanged losing.now (without rows.now.items retired.now.keys) (lists below.old) (lists below.new) }
 {
     for class in losing {
-        drop_from(alloc, rows, &mut below[class.number() as usize], loader);
+        drop_from(alloc, rows, &mut below[class.number() as usize], retired);
     }
 }
 
-/// Takes the classes of the loader out of the list, which keeps no room where nothing is left.
-fn drop_from(alloc: Global, rows: &Paged<Row>, receivers: &mut Receivers, loader: LoaderId)
-    ensures { receivers.new.items ≡ without rows.now.items loader receivers.old.items }
+/// Takes the classes of retired loaders out of the list, which keeps no room where nothing is left.
+fn drop_from(
+    alloc: Global,
+    rows: &Paged<Row>,
+    receivers: &mut Receivers,
+    retired: &IndexSet<LoaderId>,
+)
+    ensures { receivers.new.items ≡ without rows.now.items retired.now.keys receivers.old.items }
 {
-    retain_others(rows, receivers, loader);
+    retain_others(rows, receivers, retired);
     if receivers.is_empty() {
         *receivers = Vec::new(alloc);
     }
 }
 
-/// Takes the classes of the loader out of the list.
-fn retain_others(rows: &Paged<Row>, receivers: &mut Receivers, loader: LoaderId)
-    ensures { receivers.new.items ≡ without rows.now.items loader receivers.old.items }
+/// Takes the classes of retired loaders out of the list.
+fn retain_others(rows: &Paged<Row>, receivers: &mut Receivers, retired: &IndexSet<LoaderId>)
+    ensures { receivers.new.items ≡ without rows.now.items retired.now.keys receivers.old.items }
 {
-    receivers.retain(|class| !is_row_of(rows, loader, *class));
+    receivers.retain(|class| !is_row_of_any(rows, retired, *class));
+}
+
+/// Whether one of the loaders has defined the class.
+fn is_row_of_any(rows: &Paged<Row>, loaders: &IndexSet<LoaderId>, class: ClassId) -> bool
+    ensures { result ≡ is_row_of_any rows.now.items loaders.now.keys class }
+{
+    match rows.get(class.number() as usize) {
+        Some(row) => loaders.contains(&row.class().loader()),
+        None => false,
+    }
+}
+
+/// Whether one of the leaving loaders has defined the class.
+pub(crate) fn is_row_of_leaving(rows: &Paged<Row>, leaving: &Leaving, class: ClassId) -> bool
+    ensures { result ≡ is_row_of_any rows.now.items leaving.now class }
+{
+    match rows.get(class.number() as usize) {
+        Some(row) => leaving.has(row.class().loader()),
+        None => false,
+    }
 }
 
 /// Whether the loader has defined the class.

@@ -25,6 +25,7 @@ use Rattle.jl_types.specs.Linkage.Resolution.{first_of}
 use Rattle.jl_types.specs.Events.Definitions.{is_unknown}
 use Rattle.jl_types.specs.Events.Retirement.{is_listed, is_of, is_of_any, inherits_from, records_from, classes_fault, targeted, retire_fault, MayRetire}
 use Rattle.jl_types.specs.Events.Retirement.{emptied, gone_with, retired, retires_site}
+use Rattle.jl_types.specs.ForProofs.Leaving.{inherits_any, records_any}
 use Rattle.jl_types.specs.Linkage.Stages.{Waits, stage_of, stage_at, invocation_at}
 use Rattle.jl_types.specs.Linkage.Links.{link_of, scratch}
 use Rattle.jl_types.specs.Events.Verdict.{retire_all_fault, unless, verdict, with_classes}
@@ -148,7 +149,7 @@ module _ (cs : Classes) (loaders : List ℕ) where
       turned true false false = refl
       turned false b d = refl
 
-  filter_twice : (p q r : ℕ → Bool) → ((x : ℕ) → r x ≡ (p x && q x)) → (xs : List ℕ) → filter r xs ≡ filter q (filter p xs)
+  pub filter_twice : (p q r : ℕ → Bool) → ((x : ℕ) → r x ≡ (p x && q x)) → (xs : List ℕ) → filter r xs ≡ filter q (filter p xs)
   filter_twice p q r same [] = refl
   filter_twice p q r same (x ∷ xs) =
       ap (λ (b : Bool). cond b (x ∷ filter r xs) (filter r xs)) (same x) ∙ by_tests (p x) (q x) refl (filter_twice p q r same xs)
@@ -216,15 +217,6 @@ at_none p n none x lt = by_test (p x) refl
     by_test true is = absurd (both_ways (list_any p (range_with_len 0 n)) none (any-range-from p 0 n x (omega arith) (omega arith) is))
     by_test false is = refl
 
--- the present class of a loader that stays has an ancestor of one of those that go
-abbrev pub inherits_any : Classes → List ℕ → ℕ → Bool
-inherits_any cs loaders x = is_present cs x && (not (is_of_any cs loaders x) && list_any (is_of_any cs loaders) (ancestors cs.rows x))
-
--- the loader stays, and records a class of one of those that go
-abbrev pub records_any : Classes → List ℕ → ℕ → Bool
-records_any cs loaders k =
-    not (is_listed loaders k) && option_map_or (list_any (λ r. is_of_any cs loaders r.1)) (slice_get cs.loaders k) false
-
 -- what no fault says
 pub record IsFree (cs : Classes) (loaders : List ℕ) : Type 0 where
   pub known : (l : ℕ) → is_listed loaders l ≡ true → is_unknown cs l ≡ false
@@ -287,6 +279,60 @@ is_free cs loaders may = record {
             absurd (both_ways (records_from cs loaders one.0 k) ((free_of cs loaders one.0 (may one.0 one.1)).records k lt)
             (λ i. apart i && (ap (λ (o : Option (List (List ℕ × ℕ))). option_map_or (list_any (λ r. is_of cs one.0 r.1)) o false) at ∙ one.2) i))
         by_record false none = refl
+
+-- where nothing that stays needs one of them, no fault is told
+pub free_may : (cs : Classes) (loaders : List ℕ) → IsFree cs loaders → MayRetire cs loaders
+free_may cs loaders free l there =
+    let no_heir = none_find (inherits_from cs loaders l) 0 (length cs.rows) (λ x lt. no_heir_of x (omega (arith, lt)) (is_present cs x) refl (not (is_of_any cs loaders x)) refl) in
+    let no_recorder = none_find (records_from cs loaders l) 0 (length cs.loaders) (λ k lt. no_recorder_of k (omega (arith, lt)) (not (is_listed loaders k)) refl (slice_get cs.loaders k) refl) in
+    (λ i. first_of (
+    then_some (free.known l there i) fault.UnknownLoader
+    ∷ then_some (not_first i) fault.FirstLoader
+    ∷ option_map fault.Inherited (no_heir i)
+    ∷ option_map fault.Recorded (no_recorder i)
+    ∷ []))
+  where
+    none_find : (p : ℕ → Bool) (a n : ℕ) → ((x : ℕ) → x < a + n → p x ≡ false) → find p (range_with_len a n) ≡ None
+    none_find p a zero none = refl
+    none_find p a (suc n) none =
+        ap (λ (b : Bool). cond b (Some a) (find p (range_with_len (a + 1) n))) (none a (omega arith)) ∙ none_find p (a + 1) n (λ x lt. none x (omega arith))
+
+    not_first : (l == 0) ≡ false
+    not_first = by_test (l == 0) refl
+      where
+        by_test : (b : Bool) → (l == 0) ≡ b → b ≡ false
+        by_test true is = absurd (both_ways (is_listed loaders 0) free.other (subst (λ k. is_listed loaders k ≡ true) ((Decides-eqb l 0).0 is) there))
+        by_test false is = refl
+
+    any_of : {A : Type 0} (g : A → ℕ) (xs : List A) → list_any (λ x. is_of cs l (g x)) xs ≡ true → list_any (λ x. is_of_any cs loaders (g x)) xs ≡ true
+    any_of g [] e = cc
+    any_of g (x ∷ xs) e = elim (or_cases (is_of cs l (g x)) (list_any (λ x. is_of cs l (g x)) xs) e) [
+      | inl here ↦ or_left (is_of_any cs loaders (g x)) (list_any (λ x. is_of_any cs loaders (g x)) xs) (any_of_one cs loaders l (g x) there here)
+      | inr more ↦ or_right (is_of_any cs loaders (g x)) (list_any (λ x. is_of_any cs loaders (g x)) xs) (any_of g xs more)
+    ]
+
+    no_heir_of : (x : ℕ) → x < length cs.rows → (a : Bool) → is_present cs x ≡ a → (b : Bool) → not (is_of_any cs loaders x) ≡ b
+        → (a && (b && list_any (is_of cs l) (ancestors cs.rows x))) ≡ false
+    no_heir_of x lt false here b apart = refl
+    no_heir_of x lt true here false apart = refl
+    no_heir_of x lt true here true apart = by_test (list_any (is_of cs l) (ancestors cs.rows x)) refl
+      where
+        by_test : (d : Bool) → list_any (is_of cs l) (ancestors cs.rows x) ≡ d → d ≡ false
+        by_test true is = absurd (both_ways (inherits_any cs loaders x) (free.heirs x lt)
+            (λ i. here i && (apart i && any_of (λ a. a) (ancestors cs.rows x) is i)))
+        by_test false is = refl
+
+    no_recorder_of : (k : ℕ) → k < length cs.loaders → (b : Bool) → not (is_listed loaders k) ≡ b → (o : Option (List (List ℕ × ℕ))) → slice_get cs.loaders k ≡ o
+        → (b && option_map_or (list_any (λ r. is_of cs l r.1)) o false) ≡ false
+    no_recorder_of k lt false apart o at = refl
+    no_recorder_of k lt true apart None at = refl
+    no_recorder_of k lt true apart (Some records) at = by_test (list_any (λ r. is_of cs l r.1) records) refl
+      where
+        by_test : (d : Bool) → list_any (λ r. is_of cs l r.1) records ≡ d → d ≡ false
+        by_test true is = absurd (both_ways (records_any cs loaders k) (free.records k lt)
+            (λ i. apart i && (ap (λ (o : Option (List (List ℕ × ℕ))). option_map_or (list_any (λ r. is_of_any cs loaders r.1)) o false) at
+            ∙ any_of (λ (r : List ℕ × ℕ). r.1) records is) i))
+        by_test false is = refl
 
 -- ---- the verdicts
 

@@ -10,5 +10,5 @@ pub returns : goal.returns
 returns c =
     let n = length c.args.self.now.rows in
     sym (option_map_id c.find.result)
-    ∙ find_from_yields_List (inherits_from c.args.self.now c.args.loader) _ _ _ c.find.ensures.ran
+    ∙ find_from_yields_List (inherits_from c.args.self.now c.args.loaders.now c.args.loader) _ _ _ c.find.ensures.ran
     (YieldsList-from_range 0 n n (λ i. record { start = 0; end = c.count_in_order-count.ensures.count i }) (omega arith)) (λ x b q k. search rules)
