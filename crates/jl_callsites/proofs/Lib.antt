@@ -7,5 +7,7 @@ pub mod Turns
 pub mod Walks
 pub mod Known
 pub mod Invoked
+-- what holds no loader
+pub mod Spared
 -- threads
 pub mod Crossing

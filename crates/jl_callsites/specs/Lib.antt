@@ -3,5 +3,6 @@
 pub mod Faults
 pub mod Known
 pub mod Earlier
+pub mod Targeted
 pub mod Laws
 pub mod ForProofs

@@ -1,10 +1,12 @@
-//! Which call sites name methods of a loader's classes.
+//! Which call sites name methods of a loader's classes, or of the classes of several.
 
-ghost use Rattle.std.specs.Prelude.{◌≡◌, ◌<◌, ◌^◌, IfSome};
+ghost use Rattle.std.specs.Prelude.{◌≡◌, ◌<◌, ◌^◌, not, IfSome};
+ghost use Rattle.std.specs.List.{list_any};
 ghost use Rattle.jl_types.specs.Events.Retirement as retirement;
+ghost use Rattle.jl_callsites.specs.Targeted.{names_any};
 
 use crate::sites::Sites;
-use jl_hierarchy::Classes;
+use jl_hierarchy::{Classes, Leaving};
 use jl_types::{CallSiteId, LoaderId, Part, Target};
 
 impl Sites {
@@ -17,6 +19,18 @@ impl Sites {
             Some(place) => Some(CallSiteId::new(place as u32)),
             None => None,
         }
+    }
+
+    /// Whether no target names a method of a class of one of the loaders, be it on a side that isn't taken: a walk over all targets.
+    /// Takes no memory.
+    pub fn spares(&self, classes: &Classes, leaving: &Leaving) -> bool
+        ensures { result ≡ not (list_any (λ site. names_any classes.now leaving.now site.target) self.now.call_sites) }
+    {
+        !self
+            .call_sites
+            .as_slice()
+            .iter()
+            .any(|site| names_any(classes, leaving, site.target()))
     }
 
     /// Its place.
@@ -41,6 +55,19 @@ fn names_from(classes: &Classes, loader: LoaderId, target: &Target) -> bool
         Part::Method(method) => classes.is_of(loader, method.class),
         Part::Guard(_, first, fallback) => {
             names_from(classes, loader, first) || names_from(classes, loader, fallback)
+        }
+        Part::Invoker(_) => false,
+    }
+}
+
+/// Whether the target names a method of a class of one of the loaders.
+fn names_any(classes: &Classes, leaving: &Leaving, target: &Target) -> bool
+    ensures { result ≡ names_any classes.now leaving.now target.now }
+{
+    match &target.part {
+        Part::Method(method) => classes.is_of_any(leaving, method.class),
+        Part::Guard(_, first, fallback) => {
+            names_any(classes, leaving, first) || names_any(classes, leaving, fallback)
         }
         Part::Invoker(_) => false,
     }

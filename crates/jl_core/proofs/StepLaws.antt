@@ -31,7 +31,7 @@ use Rattle.jl_events.specs.Changes as changes
 use Rattle.jl_events.proofs.ChangeLaws.{rows_free}
 use Rattle.jl_events.proofs.InstallCounts.{few_of_range}
 use Rattle.jl_core.specs.ForProofs.Changes.{installs_at, retires_at, lost}
-use Rattle.jl_core.specs.ForProofs.Steps.{IsSound, HasStepped, most_to_settle, most_told}
+use Rattle.jl_core.specs.ForProofs.Steps.{IsRetirement, one, all, IsSound, HasStepped, most_to_settle, most_told}
 use Rattle.jl_core.specs.ForProofs.Touched.{has, AreTouched}
 use Rattle.jl_core.proofs.KeptLaws.{kept_once}
 use Rattle.jl_core.proofs.InstallLaws.{install_keeps}
@@ -103,6 +103,7 @@ defined_so w (event.Invalidate points) = refl
 defined_so w (event.Bind s c) = refl
 defined_so w (event.Install rows) = refl
 defined_so w (event.Retire loader) = refl
+defined_so w (event.RetireAll loaders) = refl
 
 pub no_install : (s : ℕ) (told : Accepted) → ((rows : List (ℕ × Link)) → told ≡ event.Install rows → ⊥) → installs_at s told ≡ false
 no_install s event.NewLoader other = refl
@@ -116,8 +117,9 @@ no_install s (event.Invalidate points) other = refl
 no_install s (event.Bind site c) other = refl
 no_install s (event.Install rows) other = absurd (other rows refl)
 no_install s (event.Retire loader) other = refl
+no_install s (event.RetireAll loaders) other = refl
 
-pub no_retired : (w : World) (s : ℕ) (told : Accepted) → ((loader : ℕ) → told ≡ event.Retire loader → ⊥) → retires_at w told s ≡ false
+pub no_retired : (w : World) (s : ℕ) (told : Accepted) → ((loaders : List ℕ) → IsRetirement told loaders → ⊥) → retires_at w told s ≡ false
 no_retired w s event.NewLoader other = refl
 no_retired w s (event.Define loader c) other = refl
 no_retired w s (event.Delegate loader name to) other = refl
@@ -128,7 +130,8 @@ no_retired w s event.NewSwitch other = refl
 no_retired w s (event.Invalidate points) other = refl
 no_retired w s (event.Bind site c) other = refl
 no_retired w s (event.Install rows) other = refl
-no_retired w s (event.Retire loader) other = absurd (other loader refl)
+no_retired w s (event.Retire loader) other = absurd (other (loader ∷ []) (one loader))
+no_retired w s (event.RetireAll loaders) other = absurd (other loaders (all loaders))
 
 -- the event is no retirement where the log keeps none
 module _ (rows : List Class) (e : Event) where
@@ -139,7 +142,7 @@ module _ (rows : List Class) (e : Event) where
   no_row loader None is = absurd (cc is)
   no_row loader (Some row) is = as_no (event.Define loader row.file) is refl
 
-  not_retirement : (told : Accepted) → event_of rows told ≡ Some e → ((loader : ℕ) → told ≡ event.Retire loader → ⊥) → is_retirement e ≡ false
+  not_retirement : (told : Accepted) → event_of rows told ≡ Some e → ((loaders : List ℕ) → IsRetirement told loaders → ⊥) → is_retirement e ≡ false
   not_retirement event.NewLoader is other = as_no event.NewLoader is refl
   not_retirement (event.Define loader c) is other = no_row loader (slice_get rows c) is
   not_retirement (event.Delegate loader name to) is other = as_no (event.Delegate loader name to) is refl
@@ -150,7 +153,8 @@ module _ (rows : List Class) (e : Event) where
   not_retirement (event.Invalidate points) is other = as_no (event.Invalidate points) is refl
   not_retirement (event.Bind site c) is other = as_no (event.Bind site c) is refl
   not_retirement (event.Install links) is other = as_no (event.Install links) is refl
-  not_retirement (event.Retire loader) is other = absurd (other loader refl)
+  not_retirement (event.Retire loader) is other = absurd (other (loader ∷ []) (one loader))
+  not_retirement (event.RetireAll loaders) is other = absurd (other loaders (all loaders))
 
 -- how many evaluations it takes is told by the event
 module _ (old new : World) (index : List (ℕ × List Key)) (e : Event) (ks : List Key) (step_is : new ≡ events.step old e) (keys_are : ks ≡ keys old e) where
@@ -167,6 +171,14 @@ module _ (old new : World) (index : List (ℕ × List Key)) (e : Event) (ks : Li
   row_many loader None is = absurd (cc is)
   row_many loader (Some row) is = as_many (event.Define loader row.file) is refl
 
+  left_by : (x : Event) (loaders : List ℕ) → x ≡ e
+      → sum_by (most_for new) (filter (λ s. not (retires_site new loaders s)) (touched_by index ks))
+      ≡ sum_by (most_for (events.step old x)) (filter (λ s. not (retires_site (events.step old x) loaders s)) (touched_by index (keys old x)))
+  left_by x loaders same =
+      let new_is : new ≡ events.step old x = step_is ∙ ap (events.step old) (sym same) in
+      let ks_are : ks ≡ keys old x = keys_are ∙ ap (keys old) (sym same) in
+      (λ i. sum_by (most_for (new_is i)) (filter (λ s. not (retires_site (new_is i) loaders s)) (touched_by index (ks_are i))))
+
   pub most_by_told : (told : Accepted) → event_of new.classes.rows told ≡ Some e → most_told new told index ks ≡ most_to_settle old index e
   most_by_told event.NewLoader is = as_many event.NewLoader is refl
   most_by_told (event.Define loader c) is = row_many loader (slice_get new.classes.rows c) is
@@ -180,16 +192,16 @@ module _ (old new : World) (index : List (ℕ × List Key)) (e : Event) (ks : Li
   most_by_told (event.Install links) is = as_many (event.Install links) is refl
   most_by_told (event.Retire loader) is =
       let same : event.Retire loader ≡ e = same_Some (event.Retire loader) e is in
-      let new_is : new ≡ events.step old (event.Retire loader) = step_is ∙ ap (events.step old) (sym same) in
-      let ks_are : ks ≡ keys old (event.Retire loader) = keys_are ∙ ap (keys old) (sym same) in
-      (λ i. sum_by (most_for (new_is i)) (filter (λ s. not (retires_site (new_is i) loader s)) (touched_by index (ks_are i))))
-      ∙ ap (most_to_settle old index) same
+      left_by (event.Retire loader) (loader ∷ []) same ∙ ap (most_to_settle old index) same
+  most_by_told (event.RetireAll loaders) is =
+      let same : event.RetireAll loaders ≡ e = same_Some (event.RetireAll loaders) e is in
+      left_by (event.RetireAll loaders) loaders same ∙ ap (most_to_settle old index) same
 
 -- ---- the event that was settled
 
 module _ (w : World) (ks : List Key) (told : Accepted) (links : List (ℕ × Link)) (index : List (ℕ × List Key)) (led : HasStepped w ks told links index) where
   -- where no loader goes
-  pub has_changed : ((loader : ℕ) → told ≡ event.Retire loader → ⊥) → (defined : Option ℕ) → class_of told ≡ defined
+  pub has_changed : ((loaders : List ℕ) → IsRetirement told loaders → ⊥) → (defined : Option ℕ) → class_of told ≡ defined
       → HasChanged w ks defined (link_at links) index
   has_changed other defined is = record {
     before = led.before;
@@ -204,17 +216,17 @@ module _ (w : World) (ks : List Key) (told : Accepted) (links : List (ℕ × Lin
     index_is = led.sound.indexed;
   }
 
-  pub most_so : (other : (loader : ℕ) → told ≡ event.Retire loader → ⊥) (defined : Option ℕ) → class_of told ≡ defined
+  pub most_so : (other : (loaders : List ℕ) → IsRetirement told loaders → ⊥) (defined : Option ℕ) → class_of told ≡ defined
       → sum_by (most_asked w defined) (touched_by index ks) ≡ length (touched_by index ks)
   unfolding has_changed
   most_so other defined is =
       most_are w ks (link_at links) index led.sound.rising defined (has_changed other defined is) (not_retirement w.classes.rows led.event told led.tells other)
 
   -- as many as are touched
-  pub most_of_told : (other : (loader : ℕ) → told ≡ event.Retire loader → ⊥) → most_told w told index ks ≡ length (touched_by index ks)
+  pub most_of_told : (other : (loaders : List ℕ) → IsRetirement told loaders → ⊥) → most_told w told index ks ≡ length (touched_by index ks)
   most_of_told other = by_told told other
     where
-      by_told : (told : Accepted) → ((loader : ℕ) → told ≡ event.Retire loader → ⊥) → most_told w told index ks ≡ length (touched_by index ks)
+      by_told : (told : Accepted) → ((loaders : List ℕ) → IsRetirement told loaders → ⊥) → most_told w told index ks ≡ length (touched_by index ks)
       by_told event.NewLoader other = refl
       by_told (event.Define loader c) other = refl
       by_told (event.Delegate loader name to) other = refl
@@ -225,7 +237,8 @@ module _ (w : World) (ks : List Key) (told : Accepted) (links : List (ℕ × Lin
       by_told (event.Invalidate points) other = refl
       by_told (event.Bind site c) other = refl
       by_told (event.Install rows) other = refl
-      by_told (event.Retire loader) other = absurd (other loader refl)
+      by_told (event.Retire loader) other = absurd (other (loader ∷ []) (one loader))
+      by_told (event.RetireAll loaders) other = absurd (other loaders (all loaders))
 
   pub fits : (work : ℕ) → work ≤ 268435456 → work + length (touched_by index ks) < 2 ^ 64
   fits work small =
@@ -235,14 +248,14 @@ module _ (w : World) (ks : List Key) (told : Accepted) (links : List (ℕ × Lin
       let places = led.few in
       omega arith
 
-  pub fits_so : (other : (loader : ℕ) → told ≡ event.Retire loader → ⊥) (defined : Option ℕ) → class_of told ≡ defined → (work : ℕ) → work ≤ 268435456
+  pub fits_so : (other : (loaders : List ℕ) → IsRetirement told loaders → ⊥) (defined : Option ℕ) → class_of told ≡ defined → (work : ℕ) → work ≤ 268435456
       → work + sum_by (most_asked w defined) (touched_by index ks) < 2 ^ 64
   fits_so other defined is work small =
       let most = most_so other defined is in
       let few = fits work small in
       omega (arith, most, few)
 
-  pub ticks_so : (other : (loader : ℕ) → told ≡ event.Retire loader → ⊥) (defined : Option ℕ) → class_of told ≡ defined → (work next : ℕ)
+  pub ticks_so : (other : (loaders : List ℕ) → IsRetirement told loaders → ⊥) (defined : Option ℕ) → class_of told ≡ defined → (work next : ℕ)
       → next ≤ work + sum_by (most_asked w defined) (touched_by index ks) → next ≤ work + most_told w told index ks
   ticks_so other defined is work next le =
       let most = most_so other defined is in
@@ -298,3 +311,9 @@ module _ (w : World) (ks : List Key) (told : Accepted) (links : List (ℕ × Lin
         index = indexed;
         lost = none_lost;
       }
+
+-- neither of the events that retire loaders is none that does
+pub no_retirement : (told : Accepted) → ((loader : ℕ) → told ≡ event.Retire loader → ⊥) → ((loaders : List ℕ) → told ≡ event.RetireAll loaders → ⊥)
+    → (loaders : List ℕ) → IsRetirement told loaders → ⊥
+no_retirement told not_one not_all loaders (one loader) = not_one loader refl
+no_retirement told not_one not_all loaders (all ls) = not_all ls refl

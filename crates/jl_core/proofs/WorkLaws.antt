@@ -16,7 +16,7 @@ use Rattle.jl_deps.specs.Indexes.{AreRising, IsIndex, touched_by}
 use Rattle.jl_deps.proofs.BoundLaws.{touched_are_bounded}
 use Rattle.jl_events.specs.Judging.{most_to_judge}
 use Rattle.jl_core.specs.State.{State, events, IsAccepted}
-use Rattle.jl_core.specs.ForProofs.Steps.{most_to_settle}
+use Rattle.jl_core.specs.ForProofs.Steps.{most_left, most_to_settle}
 use Rattle.jl_core.proofs.StepLaws.{none_touched}
 use Rattle.jl_core.specs.WorkBounds.{most_after, most_of_last}
 
@@ -47,11 +47,12 @@ module _ (h : List Event) (w : World) (links : ℕ → Option Link) (index : Lis
   by_touched : (e : Event) → length (touched_by index (keys w e)) ≡ length (touched h e) → 0 + length (touched_by index (keys w e)) ≤ length (touched h e)
   by_touched e same = omega arith
 
-  retirement_so : (loader : ℕ) → most_to_settle w index (event.Retire loader) ≡ bound h (event.Retire loader)
-  retirement_so loader =
-      ap (λ (v : World). most_to_settle v index (event.Retire loader)) is_world
-      ∙ ap (λ (ts : List ℕ). sum_by (most_for (step (world_after h) (event.Retire loader))) (filter (λ s. not (retires_site (world_after h) loader s)) ts))
-      (touched_are_bounded h (event.Retire loader) index rising as_index)
+  retirement_so : (e : Event) (loaders : List ℕ) → most_left w index e loaders
+      ≡ sum_by (most_for (step (world_after h) e)) (filter (λ s. not (retires_site (world_after h) loaders s)) (touched h e))
+  retirement_so e loaders =
+      ap (λ (v : World). most_left v index e loaders) is_world
+      ∙ ap (λ (ts : List ℕ). sum_by (most_for (step (world_after h) e)) (filter (λ s. not (retires_site (world_after h) loaders s)) ts))
+      (touched_are_bounded h e index rising as_index)
 
   as_much : (a b : ℕ) → a ≡ b → 0 + a ≤ b
   as_much a b same = omega arith
@@ -71,7 +72,10 @@ module _ (h : List Event) (w : World) (links : ℕ → Option Link) (index : Lis
       let none : length (touched_by index []) ≡ 0 = ap (λ (ts : List ℕ). length ts) (none_touched index) in
       let same = ap (λ (v : World). most_to_judge v (event.Install rows)) is_world in
       omega arith
-  are_bounded (event.Retire loader) = as_much (most_to_settle w index (event.Retire loader)) (bound h (event.Retire loader)) (retirement_so loader)
+  are_bounded (event.Retire loader) =
+      as_much (most_to_settle w index (event.Retire loader)) (bound h (event.Retire loader)) (retirement_so (event.Retire loader) (loader ∷ []))
+  are_bounded (event.RetireAll loaders) =
+      as_much (most_to_settle w index (event.RetireAll loaders)) (bound h (event.RetireAll loaders)) (retirement_so (event.RetireAll loaders) loaders)
 
 -- what it takes to judge an event is no more than it may take
 at_least_none : (n : ℕ) → 0 ≤ n
@@ -92,6 +96,7 @@ judged_in_bound h (event.Invalidate points) = at_least_none (bound h (event.Inva
 judged_in_bound h (event.Bind s c) = at_least_none (bound h (event.Bind s c))
 judged_in_bound h (event.Install rows) = no_more (most_to_judge (world_after h) (event.Install rows)) (bound h (event.Install rows)) refl
 judged_in_bound h (event.Retire loader) = at_least_none (bound h (event.Retire loader))
+judged_in_bound h (event.RetireAll loaders) = at_least_none (bound h (event.RetireAll loaders))
 
 -- of the events that led to a core
 pub most_of_accepted : (old new : State) (e : Event) (reply : Reply) → IsAccepted old new e reply → most_of_last (events new) ≡ bound (events old) e

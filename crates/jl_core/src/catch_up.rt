@@ -4,6 +4,7 @@
 ghost use Rattle.std.specs.Prelude.{◌≡◌, ◌<◌, ◌^◌, ◌++◌, ◌∷◌, [], ℕ, false, Some, None, length, IfOk, OnOk, if◌then◌else◌};
 ghost use Rattle.jl_types.specs.Events.Event.{Event};
 ghost use Rattle.jl_types.specs.Events.Footprints as footprints;
+ghost use Rattle.jl_types.specs.Events.Retirement.{retires_site};
 ghost use Rattle.jl_cache.specs.Links.{link_at};
 ghost use Rattle.jl_deps.specs.Indexes.{footprint_at, IsIndex};
 ghost use Rattle.jl_events.specs.Accepted.{event_of};
@@ -23,8 +24,9 @@ use jl_journal::{Journal, Share};
 use jl_names::Seq;
 use jl_relink::World;
 use jl_settle::{forget, sites_of, take_over};
-use jl_types::SiteNo;
+use jl_types::{LoaderId, SiteNo};
 use std::alloc::{AllocError, Global};
+use std::slice::from_ref;
 use std::sync::Arc;
 
 /// The world, the links, their index and the log come after the entry, the last one of those ahead. Want of memory is an error; what
@@ -131,7 +133,7 @@ fn catch_up_touched(
     Ok(())
 }
 
-/// Where the event retires a loader, the sites in its classes have no links and no footprints any more. Want of memory is an error.
+/// Where the event retires loaders, the sites in their classes have no links and no footprints any more. Want of memory is an error.
 fn forget_retired(
     alloc: Global,
     world: &World,
@@ -149,12 +151,34 @@ fn forget_retired(
 {
     match event {
         Accepted::Retire(loader) => {
-            let sites = sites_of(alloc, world, *loader)?;
-            forget(alloc, links, index, sites.as_slice())?;
-            Ok(())
+            forget_sites_of(alloc, world, links, index, from_ref(loader))
+        }
+        Accepted::RetireAll(loaders) => {
+            forget_sites_of(alloc, world, links, index, loaders.as_slice())
         }
         _ => Ok(()),
     }
+}
+
+/// The sites in the classes of the loaders have no links and no footprints any more. Want of memory is an error.
+fn forget_sites_of(
+    alloc: Global,
+    world: &World,
+    links: &mut Cache,
+    index: &mut Index,
+    loaders: &[LoaderId],
+) -> Result<(), AllocError>
+    requires few { length world.now.places < 2 ^ 32 }
+    requires scratch { AreScratch world.now links.old }
+    requires indexed { IsIndex world.now (link_at links.old) index.old }
+    ensures links { OnOk result ((s : ℕ) → link_at links.new s
+        ≡ (if retires_site world.now loaders.now s then None else link_at links.old s)) }
+    ensures index { OnOk result ((s : ℕ) → footprint_at index.new s
+        ≡ (if retires_site world.now loaders.now s then None else footprint_at index.old s)) }
+{
+    let sites = sites_of(alloc, world, loaders)?;
+    forget(alloc, links, index, sites.as_slice())?;
+    Ok(())
 }
 
 /// The sites whose links and footprints the event may change. Want of memory is an error.
@@ -199,7 +223,10 @@ fn keys_told(
         }
         Accepted::SetTarget(site, _) => keys_of_target(alloc, *site),
         Accepted::Invalidate(points) => keys_of_points(alloc, &world.sites, points.as_slice()),
-        Accepted::Retire(loader) => keys_of_retirement(alloc, &world.classes, *loader),
+        Accepted::Retire(loader) => keys_of_retirement(alloc, &world.classes, from_ref(loader)),
+        Accepted::RetireAll(loaders) => {
+            keys_of_retirement(alloc, &world.classes, loaders.as_slice())
+        }
         _ => Ok(Seq::of(Vec::new(alloc))),
     }
 }

@@ -114,13 +114,18 @@ impl Instance {
     /// # Errors
     ///
     /// The first refusal.
-    pub(crate) fn judged(&self, event: Event, work: &mut Work) -> Result<Event, Refusal>
+    pub(crate) fn judged(
+        &self,
+        alloc: Global,
+        event: Event,
+        work: &mut Work,
+    ) -> Result<Event, Refusal>
         requires nothing_yet { work.old ≡ 0 }
         ensures judged { IsJudged (verdict self.now.limits (world_of self.now) event) event result }
         ensures ticks { work.new ≤ most_to_judge (world_of self.now) event }
         ensures small { work.new ≤ 2 ^ 28 }
     {
-        judged(&self.world, self.limits, event, work)
+        judged(alloc, &self.world, self.limits, event, work)
     }
 
     /// The instance after the accepted event, with its reply; and counts what that takes. Want of memory is an error; the instance is

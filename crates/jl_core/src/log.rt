@@ -112,7 +112,8 @@ fn tells_classes(event: &Accepted) -> bool
         | Accepted::Invalidate(_)
         | Accepted::Bind(_, _)
         | Accepted::Install(_)
-        | Accepted::Retire(_) => false,
+        | Accepted::Retire(_)
+        | Accepted::RetireAll(_) => false,
     }
 }
 

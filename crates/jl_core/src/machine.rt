@@ -114,7 +114,7 @@ impl Core {
         ensures unchanged { OnErr result (self.new ≡ self.old) }
     {
         let mut work = Work::new();
-        let event = self.present.judged(event, &mut work)?;
+        let event = self.present.judged(alloc, event, &mut work)?;
         let (next, reply) = self.perform_next(alloc, event, &mut work)?;
         self.come_to(next, work.ticks());
         Ok(reply)
@@ -155,7 +155,7 @@ impl Core {
         ensures ticks { OnOk result (work.new ≤ bound (events self.old) event) }
         ensures refused_ticks { IfErr result (λ refusal. (refusal ≡ Memory) ⊎ (work.new ≤ bound (events self.old) event)) }
     {
-        let event = self.present.judged(event, work)?;
+        let event = self.present.judged(alloc, event, work)?;
         let planned = self.plan_accepted(alloc, event, work)?;
         Ok(planned)
     }

@@ -7,7 +7,7 @@ ghost use Rattle.jl_cache.specs.Links.{link_at};
 ghost use Rattle.jl_settle.specs.Settling.{AreUpToDate};
 ghost use Rattle.jl_events.specs.Changes.{IsAcceptable};
 ghost use Rattle.jl_core.specs.ForProofs.Changes.{installs_at};
-ghost use Rattle.jl_core.specs.ForProofs.Steps.{AreGone, AreRetired, IsSound, HasStepped, IsStep, most_told};
+ghost use Rattle.jl_core.specs.ForProofs.Steps.{AreGone, AreRetired, IsRetirement, IsSound, HasStepped, IsStep, most_told};
 ghost use Rattle.jl_core.specs.ForProofs.Touched.{AreTouched};
 
 use crate::log::Entry;
@@ -18,8 +18,9 @@ use jl_journal::Journal;
 use jl_names::Seq;
 use jl_relink::World;
 use jl_settle::{forget, install_rows, settle, sites_of};
-use jl_types::{Event, Key, LoaderId, Made, Reply, SiteNo, Work};
+use jl_types::{Event, Key, Made, Reply, SiteNo, Work};
 use std::alloc::{AllocError, Global};
+use std::slice::from_ref;
 use std::sync::Arc;
 
 /// Changes the world, the links and their index as the accepted event says, keeps it in the log, and answers it. Of the installed links
@@ -67,10 +68,8 @@ fn retired_sites(alloc: Global, world: &World, event: &Event) -> Result<Vec<Site
     ensures { IfOk result (λ sites. AreRetired world.now event.now sites.items) }
 {
     match event {
-        Event::Retire(loader) => {
-            let sites = sites_of(alloc, world, *loader)?;
-            Ok(sites)
-        }
+        Event::Retire(loader) => sites_of(alloc, world, from_ref(loader)),
+        Event::RetireAll(loaders) => sites_of(alloc, world, loaders.as_slice()),
         _ => Ok(Vec::new(alloc)),
     }
 }
@@ -99,8 +98,12 @@ fn relink(
             let lost = install_links(alloc, world, links, index, rows.as_slice())?;
             Ok(lost)
         }
-        Accepted::Retire(loader) => {
-            let lost = retire_links(alloc, world, links, index, keys, retired, *loader, work)?;
+        Accepted::Retire(_) => {
+            let lost = retire_links(alloc, world, links, index, keys, retired, event, work)?;
+            Ok(lost)
+        }
+        Accepted::RetireAll(_) => {
+            let lost = retire_links(alloc, world, links, index, keys, retired, event, work)?;
             Ok(lost)
         }
         _ => {
@@ -127,8 +130,8 @@ fn install_links(
     Ok(Vec::new(alloc))
 }
 
-/// The same for the retirement of the loader: the links of its sites are dropped without a look at them, and of the others those that
-/// the event touches are looked up.
+/// The same for a retirement: the links of the loaders' sites are dropped without a look at them, and of the others those that the
+/// event touches are looked up, each once.
 fn retire_links(
     alloc: Global,
     world: &World,
@@ -136,14 +139,15 @@ fn retire_links(
     index: &mut Index,
     keys: &[Key],
     retired: &[SiteNo],
-    loader: LoaderId,
+    event: &Accepted,
     work: &mut Work,
 ) -> Result<Vec<SiteNo>, AllocError>
-    requires led { HasStepped world.now keys.now (events.Retire loader) links.old index.old }
-    requires gone { AreGone world.now (events.Retire loader) links.old retired.now }
+    requires is { (loaders : List ℕ) × IsRetirement event.now loaders }
+    requires led { HasStepped world.now keys.now event.now links.old index.old }
+    requires gone { AreGone world.now event.now links.old retired.now }
     requires small { work.old ≤ 2 ^ 28 }
     ensures up_to_date { IfOk result (λ lost. AreUpToDate world.now (λ s. false) (link_at links.old) (link_at links.new) index.new lost.items) }
-    ensures ticks { OnOk result (work.new ≤ work.old + most_told world.now (events.Retire loader) index.old keys.now) }
+    ensures ticks { OnOk result (work.new ≤ work.old + most_told world.now event.now index.old keys.now) }
 {
     // Shows how few classes there are, which bounds the work.
     let _classes = world.classes.count_in_order();

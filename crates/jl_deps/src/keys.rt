@@ -16,6 +16,7 @@ use jl_names::Seq;
 use jl_relink::World;
 use jl_types::{CallSiteId, ClassId, Event, Key, LoaderId, SwitchId};
 use std::alloc::{AllocError, Global};
+use std::slice::from_ref;
 
 /// What an event changes of what links rest on: keys, rising, none of them twice.
 pub type Keys = Seq<Key>;
@@ -28,7 +29,8 @@ pub fn keys_of(alloc: Global, world: &World, event: &Event) -> Result<Keys, Allo
         Event::Define(loader, file) => keys_of_definition(alloc, &world.classes, *loader, file),
         Event::SetTarget(site, _) => keys_of_target(alloc, *site),
         Event::Invalidate(points) => keys_of_points(alloc, &world.sites, points.as_slice()),
-        Event::Retire(loader) => keys_of_retirement(alloc, &world.classes, *loader),
+        Event::Retire(loader) => keys_of_retirement(alloc, &world.classes, from_ref(loader)),
+        Event::RetireAll(loaders) => keys_of_retirement(alloc, &world.classes, loaders.as_slice()),
         _ => Ok(Seq::of(Vec::new(alloc))),
     }
 }
@@ -49,15 +51,15 @@ pub fn keys_of_definition(
     Ok(Seq::of(keys))
 }
 
-/// What a retirement changes: the receivers of the ancestors of the loader's classes that objects may be of. Want of memory is an error.
+/// What a retirement changes: the receivers of the ancestors of the loaders' classes that objects may be of. Want of memory is an error.
 pub fn keys_of_retirement(
     alloc: Global,
     classes: &Classes,
-    loader: LoaderId,
+    loaders: &[LoaderId],
 ) -> Result<Keys, AllocError>
-    ensures { IfOk result (λ keys. keys ≡ map key.Receivers (losing_receivers classes.now loader)) }
+    ensures { IfOk result (λ keys. keys ≡ map key.Receivers (losing_receivers classes.now loaders.now)) }
 {
-    let losing = classes.losing_receivers(alloc, loader)?;
+    let losing = classes.losing_receivers(alloc, loaders)?;
     let mut keys = Vec::with_capacity(alloc, losing.len())?;
     push_receivers(&mut keys, &losing)?;
     Ok(Seq::of(keys))

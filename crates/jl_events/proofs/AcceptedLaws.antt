@@ -25,6 +25,7 @@ rows_stay w (event.Invalidate points) c row is = is
 rows_stay w (event.Bind site call_site) c row is = is
 rows_stay w (event.Install links) c row is = is
 rows_stay w (event.Retire loader) c row is = is
+rows_stay w (event.RetireAll loaders) c row is = is
 
 -- ---- where the classes stay
 
@@ -49,6 +50,7 @@ module _ (rows more : List Class) (stay : (c : ℕ) (row : Class) → slice_get 
   event_still (event.Bind site call_site) e = refl
   event_still (event.Install links) e = refl
   event_still (event.Retire loader) e = refl
+  event_still (event.RetireAll loaders) e = refl
 
 -- a definition names the class that it made
 pub defines : (cs : Classes) (loader : ℕ) (file : ClassFile)
@@ -69,3 +71,4 @@ no_class (event.Invalidate points) other = refl
 no_class (event.Bind s c) other = refl
 no_class (event.Install rows) other = refl
 no_class (event.Retire loader) other = refl
+no_class (event.RetireAll loaders) other = refl

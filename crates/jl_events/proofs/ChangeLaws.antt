@@ -15,7 +15,9 @@ use Rattle.jl_types.specs.declared.refusal.Refusal.TheVariants as refusal
 use Rattle.jl_types.specs.Values.Target.{Target}
 use Rattle.jl_types.specs.Values.World.{World}
 use Rattle.jl_types.specs.Events.Definitions.{define_fault, delegate_fault}
-use Rattle.jl_types.specs.Events.Retirement.{retire_fault}
+use Rattle.jl_types.specs.Events.Retirement.{MayRetire}
+use Rattle.jl_types.proofs.Retiring.{may_retire}
+use Rattle.jl_relink.proofs.Closing.{free_loader, free_loaders}
 use Rattle.jl_types.specs.Events.Verdict.{unless, new_call_site_fault, set_target_fault, invalidate_fault, bind_fault, install_fault}
 use Rattle.jl_types.proofs.Within.{room_below, definition_has_room}
 use Rattle.jl_hierarchy.specs.Constancy.{MayDefine}
@@ -104,6 +106,8 @@ module _ (w : World) where
   pub rows_free : (rows : List (ℕ × Link)) → IsAcceptable w (event.Install rows) → install_fault w rows ≡ None
   rows_free rows ok = no_fault (install_fault w rows) made.Nothing ok.accepted
 
-  pub retirement_free : (loader : ℕ) → IsAcceptable w (event.Retire loader) → retire_fault w loader ≡ None
-  retirement_free loader ok =
-      none_of refusal.Retire (retire_fault w loader) (no_fault (option_map refusal.Retire (retire_fault w loader)) made.Nothing ok.accepted)
+  pub retirement_free : (loader : ℕ) → IsAcceptable w (event.Retire loader) → MayRetire w.classes (loader ∷ [])
+  retirement_free loader ok = may_retire w (loader ∷ []) (free_loader ok.limits w loader ok.accepted)
+
+  pub retirements_free : (loaders : List ℕ) → IsAcceptable w (event.RetireAll loaders) → MayRetire w.classes loaders
+  retirements_free loaders ok = may_retire w loaders (free_loaders ok.limits w loaders ok.accepted)

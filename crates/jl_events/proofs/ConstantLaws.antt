@@ -5,7 +5,7 @@ use Rattle.jl_class.specs.Class.{ClassFile}
 use Rattle.jl_types.specs.Values.World.{Classes}
 use Rattle.jl_types.specs.Values.Ancestry.{AreOrdered}
 use Rattle.jl_types.specs.Events.Definitions.{defined, delegate_fault, delegated}
-use Rattle.jl_types.specs.Events.Retirement.{classes_fault, retired}
+use Rattle.jl_types.specs.Events.Retirement.{MayRetire, retired}
 use Rattle.jl_types.proofs.Orders.{IsGood, defined_good}
 use Rattle.jl_hierarchy.specs.Constancy.{AreInOrder, IsClosed, Stays}
 use Rattle.jl_hierarchy.proofs.Constancy.{stays_retired}
@@ -35,7 +35,7 @@ module _ (old : Classes) (order : AreInOrder old) where
         constant old new order stays (subst (λ (cs : Classes). AreOrdered cs.rows) (sym is) order.ordered)
         (subst IsClosed (sym is) (closed_with_loader old order.closed))
 
-  pub constant_retired : (new : Classes) (loader : ℕ) → classes_fault old loader ≡ None → new ≡ retired old loader → IsConstant old new
-  constant_retired new loader free is =
+  pub constant_retired : (new : Classes) (loaders : List ℕ) → MayRetire old loaders → new ≡ retired old loaders → IsConstant old new
+  constant_retired new loaders may is =
       subst (IsConstant old) (sym is)
-      (constant old (retired old loader) order (stays_retired old good loader) order.ordered (closed_retired old order.ordered order.closed loader free))
+      (constant old (retired old loaders) order (stays_retired old good loaders) order.ordered (closed_retired old order.ordered order.closed loaders may))

@@ -1,5 +1,6 @@
 -- verdicts, event by event
 pub mod PlaceLaws
+pub mod RetireLaws
 pub mod CallSiteLaws
 pub mod InstallLaws
 pub mod InstallCounts

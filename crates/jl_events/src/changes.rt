@@ -12,6 +12,7 @@ use jl_names::Name;
 use jl_relink::World;
 use jl_types::{CallSiteId, CallSiteKind, ClassId, LoaderId, Place, SiteNo, SwitchId, Target};
 use std::alloc::{AllocError, Global};
+use std::slice::from_ref;
 
 /// One loader more.
 pub(crate) fn add_loader(world: &mut World, alloc: Global) -> Result<LoaderId, AllocError>
@@ -139,6 +140,19 @@ pub(crate) fn retire_loader(
     requires { IsAcceptable world.old (event.Retire loader) }
     ensures { OnOk result (IsMoved world.old world.new (event.Retire loader) made.Nothing) }
 {
-    world.classes.retire(alloc, loader)?;
+    world.classes.retire(alloc, from_ref(&loader))?;
+    Ok(())
+}
+
+/// The loaders go at once, with the classes that they have defined.
+pub(crate) fn retire_all(
+    world: &mut World,
+    alloc: Global,
+    loaders: &[LoaderId],
+) -> Result<(), AllocError>
+    requires { IsAcceptable world.old (event.RetireAll loaders.now) }
+    ensures { OnOk result (IsMoved world.old world.new (event.RetireAll loaders.now) made.Nothing) }
+{
+    world.classes.retire(alloc, loaders)?;
     Ok(())
 }

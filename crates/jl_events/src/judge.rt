@@ -1,12 +1,13 @@
 //! Whether an event is accepted. The verdict is asked here and nowhere else.
 
-ghost use Rattle.std.specs.Prelude.{◌≡◌, ◌≤◌, ◌^◌, nat_le, length, option_map};
+ghost use Rattle.std.specs.Prelude.{◌≡◌, ◌≤◌, ◌^◌, ◌∷◌, [], true, None, nat_le, length, option_map};
 ghost use Rattle.std.specs.Bool.{then_some};
 ghost use Rattle.jl_types.specs.declared.event.EventOf.TheVariants as event;
 ghost use Rattle.jl_types.specs.declared.event.Made.{Made};
 ghost use Rattle.jl_types.specs.declared.refusal.Refusal.TheVariants as refusal;
 ghost use Rattle.jl_types.specs.Events.Definitions.{delegate_fault};
 ghost use Rattle.jl_types.specs.Events.Retirement.{retire_fault};
+ghost use Rattle.jl_types.specs.Events.Verdict.{retire_all_fault};
 ghost use Rattle.jl_types.specs.Events.Verdict as events;
 ghost use Rattle.jl_types.specs.Events.Verdict.{verdict};
 ghost use Rattle.jl_events.specs.Judging.{IsJudged, most_to_judge};
@@ -16,9 +17,11 @@ use crate::install::install_refusal;
 use crate::request::judged_request;
 use jl_callsites::discard_target;
 use jl_class::ClassFile;
-use jl_hierarchy::Classes;
+use jl_hierarchy::{Classes, Leaving};
 use jl_relink::World;
 use jl_types::{CallSiteFault, Event, Limits, LoaderId, Refusal, RetireFault, Work};
+use std::alloc::Global;
+use std::slice::from_ref;
 
 /// The event once more, if the world accepts it at these limits, and what it takes to tell: only the links of an install are looked up.
 ///
@@ -26,6 +29,7 @@ use jl_types::{CallSiteFault, Event, Limits, LoaderId, Refusal, RetireFault, Wor
 ///
 /// The first refusal.
 pub fn judged(
+    alloc: Global,
     world: &World,
     limits: Limits,
     event: Event,
@@ -78,6 +82,10 @@ pub fn judged(
             unless(refusal, Event::Install(rows))
         }
         Event::Retire(loader) => unless(retire_refusal(world, loader), Event::Retire(loader)),
+        Event::RetireAll(loaders) => {
+            let refusal = retirement_refusal(alloc, world, loaders.as_slice());
+            unless(refusal, Event::RetireAll(loaders))
+        }
     }
 }
 
@@ -129,15 +137,61 @@ fn delegation_refusal(
     }
 }
 
-/// Why the loader can't go: its classes come before the targets of call sites.
+/// Why the loader can't go.
 fn retire_refusal(world: &World, loader: LoaderId) -> Option<Refusal>
-    ensures { result ≡ option_map refusal.Retire (retire_fault world.now loader) }
+    ensures { result ≡ option_map refusal.Retire (retire_fault world.now (loader ∷ []) loader) }
 {
-    if let Some(fault) = world.classes.retire_fault(loader) {
-        return Some(Refusal::Retire(fault));
+    let fault = loader_fault(world, from_ref(&loader), loader)?;
+    Some(Refusal::Retire(fault))
+}
+
+/// Why the loader can't go where all of these go at once: the classes come before the targets of call sites.
+fn loader_fault(world: &World, loaders: &[LoaderId], loader: LoaderId) -> Option<RetireFault>
+    ensures { result ≡ retire_fault world.now loaders.now loader }
+{
+    if let Some(fault) = world.classes.retire_fault(loaders, loader) {
+        return Some(fault);
     }
     let site = world.sites.targeted(&world.classes, loader)?;
-    Some(Refusal::Retire(RetireFault::Targeted(site)))
+    Some(RetireFault::Targeted(site))
+}
+
+/// Why the loaders can't go at once. Where they can, the classes and the call sites are walked once. Where one can't, or memory is
+/// short, they are walked once more for each loader up to the first that can't.
+fn retirement_refusal(alloc: Global, world: &World, loaders: &[LoaderId]) -> Option<Refusal>
+    ensures { result ≡ retire_all_fault world.now loaders.now }
+{
+    if may_all_go(alloc, world, loaders) {
+        return None;
+    }
+    first_held(world, loaders)
+}
+
+/// Whether it shows by one walk that the loaders can go at once. It doesn't where memory is short.
+fn may_all_go(alloc: Global, world: &World, loaders: &[LoaderId]) -> bool
+    ensures { result ≡ true → retire_all_fault world.now loaders.now ≡ None }
+{
+    match Leaving::new(alloc, loaders) {
+        Ok(leaving) => {
+            world.classes.spares(&leaving) && world.sites.spares(&world.classes, &leaving)
+        }
+        Err(_) => false,
+    }
+}
+
+/// The refusal of the first of the loaders that can't go with the others.
+fn first_held(world: &World, loaders: &[LoaderId]) -> Option<Refusal>
+    ensures { result ≡ retire_all_fault world.now loaders.now }
+{
+    for loader in loaders {
+        if let Some(fault) = loader_fault(world, loaders, *loader) {
+            return Some(Refusal::RetireAll {
+                loader: *loader,
+                fault,
+            });
+        }
+    }
+    None
 }
 
 /// The refusal that is this fault.

@@ -8,7 +8,7 @@ ghost use Rattle.jl_events.specs.Changes.{IsAcceptable, IsStepped};
 use crate::accepted::Accepted;
 use crate::changes::{
     add_binding, add_call_site, add_class, add_delegation, add_loader, add_place, add_switch,
-    put_invalid, put_target, retire_loader,
+    put_invalid, put_target, retire_all, retire_loader,
 };
 use jl_cache::kept_rows;
 use jl_class::ClassFile;
@@ -86,6 +86,7 @@ fn step_owned(
         Event::Bind(site, call_site) => bind(world, site, call_site),
         Event::Install(rows) => install(alloc, rows.as_slice()),
         Event::Retire(loader) => retire(world, alloc, loader),
+        Event::RetireAll(loaders) => retire_each(world, alloc, loaders),
     }
 }
 
@@ -201,4 +202,17 @@ fn retire(
 {
     retire_loader(world, alloc, loader)?;
     Ok((Accepted::Retire(loader), Made::Nothing))
+}
+
+/// The same for a retirement of several loaders at once.
+fn retire_each(
+    world: &mut World,
+    alloc: Global,
+    loaders: Seq<LoaderId>,
+) -> Result<(Accepted, Made), AllocError>
+    requires { IsAcceptable world.old (events.RetireAll loaders) }
+    ensures { IfOk result (λ told. IsStepped world.old world.new (events.RetireAll loaders) told.0 told.1) }
+{
+    retire_all(world, alloc, loaders.as_slice())?;
+    Ok((Accepted::RetireAll(loaders), Made::Nothing))
 }

@@ -15,13 +15,12 @@ use Rattle.jl_types.specs.declared.ids.Place.{Place}
 use Rattle.jl_types.specs.declared.refusal.DelegateFault.TheVariants.{UnknownLoader}
 use Rattle.jl_types.specs.declared.refusal.Refusal.{Refusal}
 use Rattle.jl_types.specs.declared.refusal.Refusal.TheVariants.{Delegate, Retire}
-use Rattle.jl_types.specs.declared.refusal.RetireFault.TheVariants.{Targeted}
 use Rattle.jl_types.specs.Values.World.{World, Classes}
 use Rattle.jl_types.specs.Values.Members.{is_retired, is_present, is_concrete, lookup, numbers}
 use Rattle.jl_types.specs.Values.Ancestry.{AreOrdered, is_ancestor, receivers}
 use Rattle.jl_types.specs.Events.Definitions.{is_unknown, with_record, delegate_fault, delegated}
-use Rattle.jl_types.specs.Events.Retirement.{is_of, classes_fault, targeted, retire_fault, retired, losing_receivers}
-use Rattle.jl_types.specs.Events.Verdict.{unless, verdict, step}
+use Rattle.jl_types.specs.Events.Retirement.{is_of_any, retire_fault, retired, losing_receivers, retires_site}
+use Rattle.jl_types.specs.Events.Verdict.{retire_all_fault, unless, verdict, step}
 use Rattle.jl_types.specs.declared.key.Key.TheVariants as key
 use Rattle.jl_types.specs.Events.Footprints.{same_key, has_key, retires}
 use Rattle.jl_types.proofs.Ancestors.{ancestor_decides}
@@ -29,7 +28,7 @@ use Rattle.jl_types.proofs.Bools.{any-filter, any-filter-at, any-map, any-range-
 use Rattle.jl_types.proofs.Firsts.{first_none, test_none}
 use Rattle.jl_types.proofs.Grown.{above}
 use Rattle.jl_types.proofs.Orders.{IsGood, defined_good}
-use Rattle.jl_types.proofs.Retiring.{present_after, receivers_left}
+use Rattle.jl_types.proofs.Retiring.{AreFree, one_free, all_free, may_retire, present_after, receivers_left}
 use Rattle.jl_hierarchy.specs.Constancy.{AreInOrder, IsClosed}
 use Rattle.jl_hierarchy.proofs.Closed.{closed_with_record, closed_with_loader, closed_defined, closed_retired, present_still}
 use Rattle.jl_relink.proofs.Staying.{present_there}
@@ -40,9 +39,16 @@ pub no_fault : {A : Type 0} (F : A → Refusal) (o : Option A) (m : Made) → Is
 no_fault F None m h = refl
 no_fault F (Some f) m h = cc
 
--- the classes have nothing against a retirement that is accepted
-pub free_classes : (w : World) (loader : ℕ) → retire_fault w loader ≡ None → classes_fault w.classes loader ≡ None
-free_classes w loader none = (first_none (classes_fault w.classes loader) (option_map Targeted (targeted w.classes w.sites.call_sites loader) ∷ []) none).0
+pub no_refusal : (o : Option Refusal) (m : Made) → IsOk (unless o m) → o ≡ None
+no_refusal None m h = refl
+no_refusal (Some r) m h = cc
+
+-- nothing speaks against a retirement that is accepted
+pub free_loader : (limits : Limits) (w : World) (loader : ℕ) → IsOk (verdict limits w (event.Retire loader)) → AreFree w (loader ∷ [])
+free_loader limits w loader accepted = one_free w loader (no_fault Retire (retire_fault w (loader ∷ []) loader) _ accepted)
+
+pub free_loaders : (limits : Limits) (w : World) (loaders : List ℕ) → IsOk (verdict limits w (event.RetireAll loaders)) → AreFree w loaders
+free_loaders limits w loaders accepted = all_free w loaders (no_refusal (retire_all_fault w loaders) _ accepted)
 
 module _ (cs : Classes) (order : AreInOrder cs) where
   good : IsGood cs
@@ -82,6 +88,7 @@ module _ (w : World) (order : AreInOrder w.classes) where
   ordered_after (event.Bind s c) = order.ordered
   ordered_after (event.Install rows) = order.ordered
   ordered_after (event.Retire loader) = order.ordered
+  ordered_after (event.RetireAll loaders) = order.ordered
 
   pub closed_after : (limits : Limits) (e : Event) → IsOk (verdict limits w e) → IsClosed (step w e).classes
   closed_after limits event.NewLoader accepted = closed_with_loader w.classes order.closed
@@ -96,7 +103,15 @@ module _ (w : World) (order : AreInOrder w.classes) where
   closed_after limits (event.Bind s c) accepted = order.closed
   closed_after limits (event.Install rows) accepted = order.closed
   closed_after limits (event.Retire loader) accepted =
-      closed_retired w.classes order.ordered order.closed loader (free_classes w loader (no_fault Retire (retire_fault w loader) _ accepted))
+      closed_retired w.classes order.ordered order.closed (loader ∷ []) (may_retire w (loader ∷ []) (free_loader limits w loader accepted))
+  closed_after limits (event.RetireAll loaders) accepted =
+      closed_retired w.classes order.ordered order.closed loaders (may_retire w loaders (free_loaders limits w loaders accepted))
+
+  present_of_others : (loaders : List ℕ) (s : ℕ) (place : Place) → slice_get w.places s ≡ Some place → retires_site w loaders s ≡ false
+      → is_present w.classes place.class ≡ true → is_present (retired w.classes loaders) place.class ≡ true
+  present_of_others loaders s place at left is =
+      present_after w.classes loaders place.class
+      ∙ (λ i. is i && not ((sym (ap (λ (o : Option Place). option_map_or (λ p. is_of_any w.classes loaders p.class) o false) at) ∙ left) i))
 
   -- a site that the event doesn't retire is as present as before
   pub still_present : (e : Event) (s : ℕ) (place : Place) → slice_get w.places s ≡ Some place → retires w e s ≡ false → is_present w.classes place.class ≡ true
@@ -111,9 +126,8 @@ module _ (w : World) (order : AreInOrder w.classes) where
   still_present (event.Invalidate points) s place at left is = is
   still_present (event.Bind n c) s place at left is = is
   still_present (event.Install rows) s place at left is = is
-  still_present (event.Retire loader) s place at left is =
-      present_after w.classes loader place.class
-      ∙ (λ i. is i && not ((sym (ap (λ (o : Option Place). option_map_or (λ p. is_of w.classes loader p.class) o false) at) ∙ left) i))
+  still_present (event.Retire loader) s place at left is = present_of_others (loader ∷ []) s place at left is
+  still_present (event.RetireAll loaders) s place at left is = present_of_others loaders s place at left is
 
 -- ---- receivers
 
@@ -127,27 +141,27 @@ all_stay p (x ∷ xs) none = by_test (p x) refl none (all_stay p xs)
     by_test false is none rest =
         ap (λ (b : Bool). cond (not b) (x ∷ filter (λ x. not (p x)) xs) (filter (λ x. not (p x)) xs)) is ∙ ap (λ (ys : List ℕ). x ∷ ys) (rest none)
 
-module _ (cs : Classes) (ordered : AreOrdered cs.rows) (loader c : ℕ) where
+module _ (cs : Classes) (ordered : AreOrdered cs.rows) (loaders : List ℕ) (c : ℕ) where
   -- a class with a receiver is there
-  there_with_receiver : list_any (is_of cs loader) (receivers cs c) ≡ true → c < length cs.rows
+  there_with_receiver : list_any (is_of_any cs loaders) (receivers cs c) ≡ true → c < length cs.rows
   there_with_receiver h =
-      let one = any-filter (λ x. is_concrete cs x && is_ancestor cs c x) (is_of cs loader) (numbers cs) h in
+      let one = any-filter (λ x. is_concrete cs x && is_ancestor cs c x) (is_of_any cs loaders) (numbers cs) h in
       let parts = and_parts (is_concrete cs one.item) (is_ancestor cs c one.item) one.meets in
       let le = above cs.rows ordered c ((ancestor_decides cs ordered c one.item).0 parts.1) in
       let lt = present_there cs one.item (and_parts (is_present cs one.item) _ parts.0).0 in
       omega (arith, le, lt)
 
   -- the receivers of a class that loses none stay
-  pub receivers_stay : has_key (map key.Receivers (losing_receivers cs loader)) (key.Receivers c) ≡ false → receivers (retired cs loader) c ≡ receivers cs c
-  receivers_stay none = receivers_left cs loader c ∙ all_stay (is_of cs loader) (receivers cs c) (by_test (list_any (is_of cs loader) (receivers cs c)) refl)
+  pub receivers_stay : has_key (map key.Receivers (losing_receivers cs loaders)) (key.Receivers c) ≡ false → receivers (retired cs loaders) c ≡ receivers cs c
+  receivers_stay none = receivers_left cs loaders c ∙ all_stay (is_of_any cs loaders) (receivers cs c) (by_test (list_any (is_of_any cs loaders) (receivers cs c)) refl)
     where
-      inside : list_any (is_of cs loader) (receivers cs c) ≡ true → has_key (map key.Receivers (losing_receivers cs loader)) (key.Receivers c) ≡ true
+      inside : list_any (is_of_any cs loaders) (receivers cs c) ≡ true → has_key (map key.Receivers (losing_receivers cs loaders)) (key.Receivers c) ≡ true
       inside is =
           let lt = there_with_receiver is in
-          any-map (λ other. same_key other (key.Receivers c)) key.Receivers (losing_receivers cs loader)
-          ∙ any-filter-at (λ k. list_any (is_of cs loader) (receivers cs k)) (λ k. k == c) c (numbers cs)
+          any-map (λ other. same_key other (key.Receivers c)) key.Receivers (losing_receivers cs loaders)
+          ∙ any-filter-at (λ k. list_any (is_of_any cs loaders) (receivers cs k)) (λ k. k == c) c (numbers cs)
           (any-range-from (λ k. k == c) 0 (length cs.rows) c (omega arith) (omega (arith, lt)) (nat_eq_equiv.refl c)) is (nat_eq_equiv.refl c)
 
-      by_test : (b : Bool) → list_any (is_of cs loader) (receivers cs c) ≡ b → b ≡ false
-      by_test true is = absurd (both_ways (has_key (map key.Receivers (losing_receivers cs loader)) (key.Receivers c)) none (inside is))
+      by_test : (b : Bool) → list_any (is_of_any cs loaders) (receivers cs c) ≡ b → b ≡ false
+      by_test true is = absurd (both_ways (has_key (map key.Receivers (losing_receivers cs loaders)) (key.Receivers c)) none (inside is))
       by_test false is = refl

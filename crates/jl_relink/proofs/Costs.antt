@@ -114,3 +114,4 @@ takes_one_evaluation w (event.Invalidate points) s plain h =
 takes_one_evaluation w (event.Bind n c) s plain h = absurd (no_keys (footprint w s) h)
 takes_one_evaluation w (event.Install rows) s plain h = absurd (no_keys (footprint w s) h)
 takes_one_evaluation w (event.Retire loader) s plain h = cc
+takes_one_evaluation w (event.RetireAll loaders) s plain h = cc

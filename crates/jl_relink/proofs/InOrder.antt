@@ -12,8 +12,8 @@ use Rattle.jl_types.specs.declared.refusal.Refusal.TheVariants.{Define, CallSite
 use Rattle.jl_types.specs.Values.World.{World, nothing_yet}
 use Rattle.jl_types.specs.Values.Members.{is_present, lookup}
 use Rattle.jl_types.specs.Events.Definitions.{define_fault, with_record, delegated}
-use Rattle.jl_types.specs.Events.Retirement.{retire_fault}
-use Rattle.jl_types.specs.Events.Verdict.{new_call_site_fault, set_target_fault, verdict, step}
+use Rattle.jl_types.specs.Events.Retirement.{MayRetire, retired}
+use Rattle.jl_types.specs.Events.Verdict.{new_call_site_fault, set_target_fault, verdict, step, with_classes}
 use Rattle.jl_types.specs.Events.History.{world_after}
 use Rattle.jl_types.proofs.Bools.{first_test, second_test}
 use Rattle.jl_types.proofs.Places.{world_more}
@@ -73,6 +73,18 @@ module _ (limits : Limits) (w : World) (order : IsInOrder w) where
             closed = closed;
           }
 
+  in_order_retired : (loaders : List ℕ) → MayRetire w.classes loaders → IsInOrder (with_classes w (retired w.classes loaders))
+  in_order_retired loaders may = record {
+    classes = record {
+      there = (retired_good w.classes loaders (record { there = order.classes.there; ordered = order.classes.ordered })).there;
+      ordered = order.classes.ordered;
+      extended = order.classes.extended;
+      object = first_retired w.classes loaders may order.classes.object;
+      closed = closed_retired w.classes order.classes.ordered order.classes.closed loaders may;
+    };
+    points = order.points;
+  }
+
   in_order_after : (e : Event) → IsOk (verdict limits w e) → has_read_file e ≡ true → IsInOrder (step w e)
   in_order_after event.NewLoader accepted read = record {
     classes = record {
@@ -112,16 +124,8 @@ module _ (limits : Limits) (w : World) (order : IsInOrder w) where
   }
   in_order_after (event.Bind s c) accepted read = record { classes = order.classes; points = order.points }
   in_order_after (event.Install rows) accepted read = record { classes = order.classes; points = order.points }
-  in_order_after (event.Retire loader) accepted read = record {
-    classes = record {
-      there = all_set (AreBelow (length w.classes.rows)) w.classes.loaders loader [] tt order.classes.there;
-      ordered = order.classes.ordered;
-      extended = order.classes.extended;
-      object = first_retired w.classes loader (free_classes w loader (no_fault Retire (retire_fault w loader) _ accepted)) order.classes.object;
-      closed = closed_after w order.classes limits (event.Retire loader) accepted;
-    };
-    points = order.points;
-  }
+  in_order_after (event.Retire loader) accepted read = in_order_retired (loader ∷ []) (may_retire w (loader ∷ []) (free_loader limits w loader accepted))
+  in_order_after (event.RetireAll loaders) accepted read = in_order_retired loaders (may_retire w loaders (free_loaders limits w loaders accepted))
 
 -- ---- all events
 

@@ -222,7 +222,20 @@ module _ (w : World) (order : IsInOrder w) where
           places = λ place e. e;
           bindings = λ c e. e;
           runs = λ c listed m run. (run, refl);
-        }) (λ c h. receivers_left_stay w.classes good.ordered loader c (apart (footprint w s) (keys w (event.Retire loader)) (key.Receivers c) none h)) l e in
+        }) (λ c h. receivers_left_stay w.classes good.ordered (loader ∷ []) c (apart (footprint w s) (keys w (event.Retire loader)) (key.Receivers c) none h))
+        l e in
+        record { link = one.0; rests_on = one.1 }
+    untouched m (event.RetireAll loaders) accepted left none = λ e.
+        let one = site_keeps w (step w (event.RetireAll loaders)) s (record {
+          good = good;
+          stays = step_stays w good (event.RetireAll loaders);
+          constant = constant (event.RetireAll loaders) (closed_after w order.classes m (event.RetireAll loaders) accepted);
+          present = λ place at is. still_present w order.classes (event.RetireAll loaders) s place at left is;
+          places = λ place e. e;
+          bindings = λ c e. e;
+          runs = λ c listed m run. (run, refl);
+        }) (λ c h. receivers_left_stay w.classes good.ordered loaders c (apart (footprint w s) (keys w (event.RetireAll loaders)) (key.Receivers c) none h))
+        l e in
         record { link = one.0; rests_on = one.1 }
 
 pub untouched_stays : (limits : Limits) (w : World) → IsInOrder w → (e : Event) (s : ℕ) (l : Link) → IsOk (verdict limits w e) → retires w e s ≡ false

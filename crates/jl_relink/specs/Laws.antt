@@ -63,4 +63,5 @@ pub record AreAccepted (limits : Limits) (h : List Event) : Type 0 where
 abbrev pub changes_receivers : Event → Bool
 changes_receivers (event.Define loader file) = true
 changes_receivers (event.Retire loader) = true
+changes_receivers (event.RetireAll loaders) = true
 changes_receivers _ = false

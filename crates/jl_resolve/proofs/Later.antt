@@ -36,7 +36,8 @@ step_stays w good event.NewSwitch = stays_itself w.classes
 step_stays w good (event.Invalidate points) = stays_itself w.classes
 step_stays w good (event.Bind s c) = stays_itself w.classes
 step_stays w good (event.Install rows) = stays_itself w.classes
-step_stays w good (event.Retire loader) = stays_retired w.classes good loader
+step_stays w good (event.Retire loader) = stays_retired w.classes good (loader ∷ [])
+step_stays w good (event.RetireAll loaders) = stays_retired w.classes good loaders
 
 pub later_stays : (h : List Event) (e : Event) → Stays (world_after h).classes (world_after (h ++ e ∷ [])).classes
 later_stays h e =

@@ -23,7 +23,7 @@ use Rattle.jl_types.specs.Values.Members.{is_present, methods_of, method_at}
 use Rattle.jl_types.specs.Linkage.Stages.{Waits, invocation_at, stage_at, stage_of}
 use Rattle.jl_types.specs.Linkage.Links.{scratch, link_of}
 use Rattle.jl_types.specs.Events.Verdict.{same_place}
-use Rattle.jl_types.specs.Events.Retirement.{is_of, retires_site}
+use Rattle.jl_types.specs.Events.Retirement.{is_of_any, retires_site}
 use Rattle.jl_types.proofs.Bools.{first_test, second_test}
 use Rattle.jl_hierarchy.proofs.Rising.{has}
 use Rattle.jl_settle.specs.ForProofs.Requested.{is_invoked, is_among, is_in_method, requested_where}
@@ -328,18 +328,18 @@ class_listed now next cs classes n c places s at added before =
 
 -- ---- those of a loader
 
-module _ (w : World) (loader : ℕ) (own : List ℕ) (own_are : (c : ℕ) → has c own ≡ (is_present w.classes c && is_of w.classes loader c)) (s : ℕ) where
-  pub only_retired : requested_where (is_among w.classes own) w.places s ≡ true → retires_site w loader s ≡ true
+module _ (w : World) (loaders : List ℕ) (own : List ℕ) (own_are : (c : ℕ) → has c own ≡ (is_present w.classes c && is_of_any w.classes loaders c)) (s : ℕ) where
+  pub only_retired : requested_where (is_among w.classes own) w.places s ≡ true → retires_site w loaders s ≡ true
   only_retired = by_place (slice_get w.places s)
     where
       by_place : (o : Option Place) → option_map_or (is_among w.classes own) o false ≡ true
-          → option_map_or (λ place. is_of w.classes loader place.class) o false ≡ true
+          → option_map_or (λ place. is_of_any w.classes loaders place.class) o false ≡ true
       by_place None e = cc
       by_place (Some place) e =
-          second_test (is_present w.classes place.class) (is_of w.classes loader place.class)
+          second_test (is_present w.classes place.class) (is_of_any w.classes loaders place.class)
           (sym (own_are place.class) ∙ first_test (has place.class own) (is_some (invocation_at w.classes place)) e)
 
-  pub linked_listed : (l : Link) → scratch w s ≡ Ok l → retires_site w loader s ≡ true → requested_where (is_among w.classes own) w.places s ≡ true
+  pub linked_listed : (l : Link) → scratch w s ≡ Ok l → retires_site w loaders s ≡ true → requested_where (is_among w.classes own) w.places s ≡ true
   linked_listed l = by_place (slice_get w.places s)
     where
       by_invocation : (place : Place) (o : Option Site) → invocation_at w.classes place ≡ o → link_of w.classes (stage_of w s place.class o) ≡ Ok l
@@ -349,13 +349,13 @@ module _ (w : World) (loader : ℕ) (own : List ℕ) (own_are : (c : ℕ) → ha
 
       by_presence : (place : Place) (b : Bool) → is_present w.classes place.class ≡ b
           → link_of w.classes (if b then stage_of w s place.class (invocation_at w.classes place) else Waits Gone) ≡ Ok l
-          → is_of w.classes loader place.class ≡ true → is_among w.classes own place ≡ true
+          → is_of_any w.classes loaders place.class ≡ true → is_among w.classes own place ≡ true
       by_presence place true present e is =
           (λ i. own_are place.class i && is_some (invocation_at w.classes place))
           ∙ (λ i. (present i && is i) && by_invocation place (invocation_at w.classes place) refl e i)
       by_presence place false present e is = cc
 
-      by_place : (o : Option Place) → link_of w.classes (stage_at w s o) ≡ Ok l → option_map_or (λ place. is_of w.classes loader place.class) o false ≡ true
+      by_place : (o : Option Place) → link_of w.classes (stage_at w s o) ≡ Ok l → option_map_or (λ place. is_of_any w.classes loaders place.class) o false ≡ true
           → option_map_or (is_among w.classes own) o false ≡ true
       by_place None e is = cc
       by_place (Some place) e is = by_presence place (is_present w.classes place.class) refl e is

@@ -211,6 +211,7 @@ told_kept l (Ok now) = same_turned now l ∙ by_test (same_link l now)
 -- the event retires a loader
 abbrev pub is_retirement : Event → Bool
 is_retirement (event.Retire loader) = true
+is_retirement (event.RetireAll loaders) = true
 is_retirement _ = false
 
 not_defined : (w : World) (e : Event) → None ≡ defined_by w e → is_retirement e ≡ false → changes_receivers e ≡ false
@@ -225,6 +226,7 @@ not_defined w (event.Invalidate points) is other = refl
 not_defined w (event.Bind s c) is other = refl
 not_defined w (event.Install rows) is other = refl
 not_defined w (event.Retire loader) is other = cc
+not_defined w (event.RetireAll loaders) is other = cc
 
 -- the event is the definition of this class
 pub record IsDefinition (w : World) (e : Event) (x : ℕ) : Type 0 where
@@ -245,6 +247,7 @@ definition w (event.Invalidate points) x is = cc
 definition w (event.Bind s c) x is = cc
 definition w (event.Install rows) x is = cc
 definition w (event.Retire loader) x is = cc
+definition w (event.RetireAll loaders) x is = cc
 
 module _ (world : World) (keys : List Key) (links : ℕ → Option Link) (index : List (ℕ × List Key)) (rising : AreRising index) where
   -- each touched site takes one evaluation, where no loader goes

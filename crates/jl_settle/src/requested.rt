@@ -1,4 +1,4 @@
-//! The requested sites in a loader's classes.
+//! The requested sites in the classes of loaders.
 
 ghost use Rattle.std.specs.Prelude.{◌≡◌, ◌<◌, ◌^◌, ◌==◌, ◌||◌, ℕ, true, Ok, length, IfOk, OnOk};
 ghost use Rattle.std.specs.List.{list_any};
@@ -15,15 +15,19 @@ use jl_relink::World;
 use jl_types::{ClassId, LoaderId, Place, SiteNo};
 use std::alloc::{AllocError, Global};
 
-/// Sites in the classes that the loader has defined, each that has a link from scratch among them; none of a retired loader. It looks
-/// at the invocations of these classes alone. Want of memory is an error.
-pub fn sites_of(alloc: Global, world: &World, loader: LoaderId) -> Result<Vec<SiteNo>, AllocError>
+/// Sites in the classes that the loaders have defined, each that has a link from scratch among them; none of a retired loader. It
+/// looks at the invocations of these classes alone. Want of memory is an error.
+pub fn sites_of(
+    alloc: Global,
+    world: &World,
+    loaders: &[LoaderId],
+) -> Result<Vec<SiteNo>, AllocError>
     requires few { length world.now.places < 2 ^ 32 }
-    ensures only { IfOk result (λ sites. (s : ℕ) → list_any (λ t. t == s) sites.items ≡ true → retires_site world.now loader s ≡ true) }
-    ensures linked { IfOk result (λ sites. (s : ℕ) (l : Link) → scratch world.now s ≡ Ok l → retires_site world.now loader s ≡ true
+    ensures only { IfOk result (λ sites. (s : ℕ) → list_any (λ t. t == s) sites.items ≡ true → retires_site world.now loaders.now s ≡ true) }
+    ensures linked { IfOk result (λ sites. (s : ℕ) (l : Link) → scratch world.now s ≡ Ok l → retires_site world.now loaders.now s ≡ true
         → list_any (λ t. t == s) sites.items ≡ true) }
 {
-    let own = world.classes.own_classes(alloc, loader)?;
+    let own = world.classes.classes_of_all(alloc, loaders)?;
     let sites = sites_in(alloc, world, own.as_slice())?;
     Ok(sites)
 }

@@ -1,5 +1,5 @@
 -- What one accepted event does to the links and the log. A means of proof.
-use Rattle.std.specs.Prelude.{◌≡◌, ◌==◌, ℕ, Bool, false, ◌&&◌, List, length, filter, Some, Ok, is_some, is_none}
+use Rattle.std.specs.Prelude.{◌≡◌, ◌==◌, ℕ, Bool, false, ◌&&◌, List, [], ◌∷◌, length, filter, Some, Ok, is_some, is_none}
 use Rattle.std.specs.List.{list_any, range_with_len}
 use Rattle.jl_types.specs.declared.link.Link.{Link}
 use Rattle.jl_types.specs.Events.Event.{Event}
@@ -31,7 +31,8 @@ lost n before after = filter (λ s. is_some (link_at before s) && is_none (link_
 
 -- the accepted event retires site s
 abbrev pub retires_at : World → Accepted → ℕ → Bool
-retires_at w (event.Retire loader) s = retires_site w loader s
+retires_at w (event.Retire loader) s = retires_site w (loader ∷ []) s
+retires_at w (event.RetireAll loaders) s = retires_site w loaders s
 retires_at w _ s = false
 
 -- ---- all of it

@@ -1,5 +1,5 @@
 -- What one accepted event does to the world, the links, their index and the log, and how many evaluations it takes. A means of proof.
-use Rattle.std.specs.Prelude.{◌≡◌, ◌<◌, ◌≤◌, ◌+◌, ◌^◌, ℕ, true, not, List, filter, sum_by, length, Some, Ok}
+use Rattle.std.specs.Prelude.{◌≡◌, ◌<◌, ◌≤◌, ◌+◌, ◌^◌, ℕ, true, not, List, [], ◌∷◌, filter, sum_by, length, Some, Ok}
 use Rattle.jl_types.specs.declared.link.Link.{Link}
 use Rattle.jl_types.specs.Events.Event.{Event}
 use Rattle.jl_types.specs.declared.event.EventOf.TheVariants as variant
@@ -49,16 +49,26 @@ pub record AreGone (w : World) (told : Accepted) (links : List (ℕ × Link)) (s
   pub only : (s : ℕ) → has s sites ≡ true → retires_at w told s ≡ true
   pub linked : (s : ℕ) (l : Link) → link_at links s ≡ Some l → retires_at w told s ≡ true → has s sites ≡ true
 
+-- The event retires these loaders, and no others.
+pub data IsRetirement : Accepted → List ℕ → Type 0 where
+  one : (loader : ℕ) → IsRetirement (variant.Retire loader) (loader ∷ [])
+  all : (loaders : List ℕ) → IsRetirement (variant.RetireAll loaders) loaders
+
+-- what the index says of how many evaluations the event takes that retires the loaders: those of the sites that are left
+abbrev pub most_left : World → List (ℕ × List Key) → Event → List ℕ → ℕ
+most_left w index e loaders =
+    sum_by (most_for (events.step w e)) (filter (λ s. not (retires_site w loaders s)) (touched_by index (footprints.keys w e)))
+
 -- what the index says of how many evaluations the event takes once it was judged
 abbrev pub most_to_settle : World → List (ℕ × List Key) → Event → ℕ
-most_to_settle w index (variant.Retire loader) =
-    sum_by (most_for (events.step w (variant.Retire loader)))
-    (filter (λ s. not (retires_site w loader s)) (touched_by index (footprints.keys w (variant.Retire loader))))
+most_to_settle w index (variant.Retire loader) = most_left w index (variant.Retire loader) (loader ∷ [])
+most_to_settle w index (variant.RetireAll loaders) = most_left w index (variant.RetireAll loaders) loaders
 most_to_settle w index e = length (touched_by index (footprints.keys w e))
 
 -- the same by what the log keeps of the event, which has led to the world
 abbrev pub most_told : World → Accepted → List (ℕ × List Key) → List Key → ℕ
-most_told w (variant.Retire loader) index keys = sum_by (most_for w) (filter (λ s. not (retires_site w loader s)) (touched_by index keys))
+most_told w (variant.Retire loader) index keys = sum_by (most_for w) (filter (λ s. not (retires_site w (loader ∷ []) s)) (touched_by index keys))
+most_told w (variant.RetireAll loaders) index keys = sum_by (most_for w) (filter (λ s. not (retires_site w loaders s)) (touched_by index keys))
 most_told w _ index keys = length (touched_by index keys)
 
 pub record IsStep (old new : World) (before after : List (ℕ × Link)) (index further : List (ℕ × List Key))

@@ -1,12 +1,12 @@
-use Rattle.std.specs.Prelude.{◌+◌, ◌≤◌}
+use Rattle.std.specs.Prelude.{[], ◌∷◌}
 use Rattle.std.proofs.Common.{ap, sym, subst, ◌∙◌}
 use Rattle.jl_types.specs.declared.event.EventOf.TheVariants as events
 use Rattle.jl_cache.specs.Links.{link_at}
 use Rattle.jl_settle.specs.Settling.{AreUpToDate}
 use Rattle.jl_events.specs.Accepted.{Accepted}
 use Rattle.jl_core.specs.ForProofs.Changes.{installs_at}
-use Rattle.jl_core.specs.ForProofs.Steps.{HasStepped, most_told}
-use Rattle.jl_core.proofs.StepLaws.{has_changed, fits_so, ticks_so, up_to_date_so}
+use Rattle.jl_core.specs.ForProofs.Steps.{IsRetirement, one, all, HasStepped}
+use Rattle.jl_core.proofs.StepLaws.{no_retirement, has_changed, fits_so, ticks_so, up_to_date_so}
 use Rattle.jl_core.proofs.perform.relink.Goals as goal
 
 pub install_links-requires : goal.install_links-requires
@@ -24,16 +24,16 @@ returns-in_ok-lost-in-Install-clause-up_to_date c =
 
 pub settle-requires-clause-changed : goal.settle-requires-clause-changed
 settle-requires-clause-changed c =
-    has_changed _ _ _ _ _ c.requires.led c.in_default.not-Retire c.defined_class-defined.result (sym c.defined_class-defined.ensures)
+    has_changed _ _ _ _ _ c.requires.led (no_retirement _ c.in_default.not-Retire c.in_default.not-RetireAll) c.defined_class-defined.result (sym c.defined_class-defined.ensures)
 
 pub settle-requires-clause-fits : goal.settle-requires-clause-fits
 settle-requires-clause-fits c =
-    fits_so _ _ _ _ _ c.requires.led c.in_default.not-Retire c.defined_class-defined.result (sym c.defined_class-defined.ensures)
+    fits_so _ _ _ _ _ c.requires.led (no_retirement _ c.in_default.not-Retire c.in_default.not-RetireAll) c.defined_class-defined.result (sym c.defined_class-defined.ensures)
     c.args.work.now c.requires.small
 
 pub returns-in_ok-lost-in_default-clause-ticks : goal.returns-in_ok-lost-in_default-clause-ticks
 returns-in_ok-lost-in_default-clause-ticks c =
-    ticks_so _ _ _ _ _ c.requires.led c.in_default.not-Retire c.defined_class-defined.result (sym c.defined_class-defined.ensures)
+    ticks_so _ _ _ _ _ c.requires.led (no_retirement _ c.in_default.not-Retire c.in_default.not-RetireAll) c.defined_class-defined.result (sym c.defined_class-defined.ensures)
     c.args.work.now c.settle.new.work c.in_ok-lost-in_default.ensures.ticks
 
 pub returns-in_ok-lost-in_default-clause-up_to_date : goal.returns-in_ok-lost-in_default-clause-up_to_date
@@ -41,17 +41,14 @@ returns-in_ok-lost-in_default-clause-up_to_date c =
     up_to_date_so _ _ _ _ _ c.requires.led c.in_default.not-Install (link_at c.settle.new.links) c.settle.new.index c.in_ok-lost-in_default.lost.items
     c.in_ok-lost-in_default.ensures.up_to_date
 
-pub retire_links-requires-clause-led : goal.retire_links-requires-clause-led
-retire_links-requires-clause-led c =
-    subst (λ (told : Accepted). HasStepped c.args.world.now c.args.keys.now told c.args.links.now c.args.index.now) c.in-Retire.is c.requires.led
+pub retire_links-requires-clause-is : goal.retire_links-requires-clause-is
+retire_links-requires-clause-is c = (
+  c.in-Retire.field-0 ∷ [],
+  subst (λ (told : Accepted). IsRetirement told (c.in-Retire.field-0 ∷ [])) (sym c.in-Retire.is) (one c.in-Retire.field-0),
+)
 
-pub returns-in_ok-lost-in-Retire-clause-up_to_date : goal.returns-in_ok-lost-in-Retire-clause-up_to_date
-returns-in_ok-lost-in-Retire-clause-up_to_date c =
-    subst (λ (told : Accepted). AreUpToDate c.args.world.now (λ s. installs_at s told) (link_at c.args.links.now) (link_at c.retire_links.new.links)
-    c.retire_links.new.index c.in_ok-lost-in-Retire.lost.items)
-    (sym c.in-Retire.is) c.in_ok-lost-in-Retire.ensures.up_to_date
-
-pub returns-in_ok-lost-in-Retire-clause-ticks : goal.returns-in_ok-lost-in-Retire-clause-ticks
-returns-in_ok-lost-in-Retire-clause-ticks c =
-    subst (λ (told : Accepted). c.retire_links.new.work ≤ c.args.work.now + most_told c.args.world.now told c.args.index.now c.args.keys.now)
-    (sym c.in-Retire.is) c.in_ok-lost-in-Retire.ensures.ticks
+pub retire_links-in-RetireAll-requires-clause-is : goal.retire_links-in-RetireAll-requires-clause-is
+retire_links-in-RetireAll-requires-clause-is c = (
+  c.in-RetireAll.field-0,
+  subst (λ (told : Accepted). IsRetirement told c.in-RetireAll.field-0) (sym c.in-RetireAll.is) (all c.in-RetireAll.field-0),
+)

@@ -58,3 +58,8 @@ pub returns-in-Retire-clause-judged : goal.returns-in-Retire-clause-judged
 returns-in-Retire-clause-judged c =
     as_judged c.args.limits c.args.world.now c.args.event (event.Retire c.in-Retire.loader) c.retire_refusal.result _ made.Nothing
     c.unless-in-Retire.result c.in-Retire.is refl c.retire_refusal.ensures (c.unless-in-Retire.ensures made.Nothing)
+
+pub returns-in-RetireAll-clause-judged : goal.returns-in-RetireAll-clause-judged
+returns-in-RetireAll-clause-judged c =
+    as_judged c.args.limits c.args.world.now c.args.event (event.RetireAll c.in-RetireAll.loaders) c.retirement_refusal-refusal.result _ made.Nothing
+    c.unless-in-RetireAll.result c.in-RetireAll.is refl (search rules) (c.unless-in-RetireAll.ensures made.Nothing)
