@@ -49,12 +49,13 @@ impl Input {
     /// Adds what the line is. Want of memory is an error.
     fn add_line(&mut self, alloc: Global, line: String) -> Result<(), AllocError> {
         if let Some(place) = place(line.as_str()) {
-            self.places.push(place)
+            self.places.push(place)?;
         } else if let Ok(bytes) = hex::decode(alloc, line.as_str()) {
-            self.files.push(bytes)
+            self.files.push(bytes)?;
         } else {
-            self.commands.push(line)
+            self.commands.push(line)?;
         }
+        Ok(())
     }
 }
 
