@@ -324,7 +324,8 @@ class Draws:
         loaders, there = [], self.world.loaders()[1:]
         for _ in range(self.one_of([1, 2, 2, 3, 3, 4])):
             held = [other for loader in loaders for other in self.holders(loader) if other not in loaders]
-            drawn = self.loader() if self.is_one_in(8) else self.one_of([] if self.is_one_in(8) else held, there, [1])
+            others = [loader for loader in there if loader not in loaders]
+            drawn = self.loader() if self.is_one_in(8) else self.one_of([] if self.is_one_in(8) else held, others, there, [1])
             loaders.insert(self.below(len(loaders) + 1), drawn)
         return {"do": "retire_all", "loaders": loaders}
 
