@@ -3,6 +3,8 @@
 
     bench/drawn.py PROGRAM          draws 20,000 lines, starts the program anew for each 2,000 of them, and compares all answers
     bench/drawn.py --script FILE    writes 2,000 lines to FILE and the model's answers to FILE.answers; it needs no program
+    bench/drawn.py --together BENCH the same of a core, by the program of crates/bench: among the commands are retirements of several loaders at
+                                    once, which no line of linkd has, and lines that are no commands aren't
 
     --events N, --seed S            so many lines; the number with which the generator begins, one more at each start
     --after FILE                    what is drawn comes after the commands of this file
@@ -22,7 +24,7 @@ from collections import Counter
 
 from drawn_world import (
     ABSTRACT, A_HEX, CUT, FINAL, HANDLES, INTERFACE, LARGE, LOADERS, MANY, OBJECT, OTHER, PRIVATE, PROTECTED, PUBLIC,
-    START, STATIC, VOID, World, invoke, method, sketch, superclasses, text_of,
+    START, STATIC, VOID, World, ancestors, invoke, method, sketch, superclasses, text_of,
 )
 
 # ---- draws
@@ -100,8 +102,8 @@ BAD_LINES = [text_of({"do": "target", "callsite": 0, "target": target}) for targ
 class Draws:
     """The lines that are drawn, by a fixed generator of numbers (Knuth's MMIX)."""
 
-    def __init__(self, seed, world, without):
-        self.state, self.world, self.without = seed, world, without
+    def __init__(self, seed, world, without, together=False):
+        self.state, self.world, self.without, self.together = seed, world, without, together
         self.queue = [{"do": "define", "loader": 0, "sketch": self.object()}]
 
     def below(self, bound):
@@ -306,11 +308,50 @@ class Draws:
         draw = self.below(4)
         if draw == 0 and "retire" not in self.without:
             return {"do": "retire", "loader": self.below(len(self.world.records)) if self.is_one_in(2) else self.loader()}
+        if draw == 3 and self.together:
+            return self.retire_all()
         return {"do": "loader"} if draw < 2 else {"do": "links"} if draw == 2 else self.one_of(BAD_LINES)
 
+    def holders(self, loader):
+        """The other loaders that record a class of this one, or have a class below one."""
+        world = self.world
+        recorders = [other for other in world.loaders() if loader in {one.loader for one in world.records[other].values()}]
+        heirs = [one.loader for one in world.classes if world.present(one.number) and loader in {each.loader for each in ancestors(one)}]
+        return sorted({*recorders, *heirs} - {loader})
+
+    def retire_all(self):
+        """One to four loaders, often with those that hold one of them, in any order."""
+        loaders, there = [], self.world.loaders()[1:]
+        for _ in range(self.one_of([1, 2, 2, 3, 3, 4])):
+            held = [other for loader in loaders for other in self.holders(loader) if other not in loaders]
+            others = [loader for loader in there if loader not in loaders]
+            drawn = self.loader() if self.is_one_in(8) else self.one_of([] if self.is_one_in(8) else held, others, there, [1])
+            loaders.insert(self.below(len(loaders) + 1), drawn)
+        return {"do": "retire_all", "loaders": loaders}
+
+    def family(self):
+        """Two new loaders that find classes in loader 0 and in each other, with classes of their own, some of them below the other one's."""
+        world = self.world
+        pair = [len(world.records), len(world.records) + 1]
+        lines, known, own = [{"do": "loader"}] * 2, {loader: {OBJECT} for loader in pair}, {0: list(world.records[0]), pair[0]: [], pair[1]: []}
+        lines += [{"do": "delegate", "loader": loader, "name": OBJECT, "to": 0} for loader in pair]
+        for loader, others in ((pair[0], [0]), (pair[1], [0, pair[0]]), (pair[0], [pair[1]])):
+            for other in others:
+                for name in [name for name in own[other] if name not in known[loader] and not self.is_one_in(3)]:
+                    lines.append({"do": "delegate", "loader": loader, "name": name, "to": other})
+                    known[loader].add(name)
+            for shape in [shape for shape in SHAPES if not self.is_one_in(3)]:
+                if shape[0] not in known[loader] and known[loader].issuperset([shape[2], *shape[3]]) and len(own[loader]) < 4:
+                    lines.append({"do": "define", "loader": loader, "sketch": self.shaped(shape)})
+                    known[loader].add(shape[0])
+                    own[loader].append(shape[0])
+        self.queue += lines[1:]
+        return lines[0]
+
     def lines(self, count):
+        events = EVENTS + [Draws.retire_all, Draws.retire_all, Draws.family] * self.together
         for _ in range(count):
-            yield self.queue.pop(0) if self.queue else self.one_of(EVENTS)(self)
+            yield self.queue.pop(0) if self.queue else self.one_of(events)(self)
 
 
 WEIGHTS = {
@@ -371,10 +412,17 @@ mega: ok
 """
 OF_RETIREMENT, OF_INVOKERS = ("retire: ", "call: Gone", "install: NotReady"), ("InvokerOrder",)
 
+# Of loaders that go at once: `bound` are those of which none may go alone, `later` a list in which another one than the first may not go.
+WANTED_TOGETHER = """
+retire_all: ok drops bound later Retire.UnknownLoader Retire.FirstLoader Retire.Inherited Retire.Recorded Retire.Targeted
+"""
+OF_LINES = ("line: ",)
 
-def wanted(without):
-    kinds = [f"{do}: {kind}" for do, rest in (row.split(": ") for row in WANTED.strip().split("\n")) for kind in rest.split()]
-    words = OF_RETIREMENT * ("retire" in without) + OF_INVOKERS * ("invokers" in without)
+
+def wanted(without, together):
+    rows = (WANTED + (WANTED_TOGETHER.strip() if together else "")).strip().split("\n")
+    kinds = [f"{do}: {kind}" for do, rest in (row.split(": ") for row in rows) for kind in rest.split()]
+    words = OF_RETIREMENT * ("retire" in without) + OF_INVOKERS * ("invokers" in without) + OF_LINES * together
     return [kind for kind in kinds if not any(word in kind for word in words)]
 
 
@@ -395,7 +443,32 @@ def kinds_of(line, answer):
     return [f"{do}: ok"] + [f"{do}: drops"] * (answer.get("dropped", []) != []) + links
 
 
+def is_together(line):
+    return not isinstance(line, str) and line["do"] == "retire_all"
+
+
+def any_alone(world, line):
+    """Whether one of the loaders that are to go at once may go alone."""
+    return is_together(line) and any(map(world.may_go, line["loaders"]))
+
+
+def kinds_together(line, alone, answer):
+    """What else there is to say of loaders that are to go at once."""
+    if not is_together(line) or not line["loaders"]:
+        return []
+    if "refused" in answer:
+        return ["retire_all: later"] * (answer["retire"] != line["loaders"][0])
+    return ["retire_all: bound"] * (not alone)
+
+
 # ---- lines with their answers, and the program's
+
+
+def line_text(line):
+    """What the program reads: a line of linkd, or the loaders that go at once."""
+    if is_together(line):
+        return " ".join(["retire", *map(str, line["loaders"])])
+    return line if isinstance(line, str) else text_of(line)
 
 
 class Tally:
@@ -405,19 +478,20 @@ class Tally:
     def row(self, world, line):
         """The line's text and its answer's, which are counted."""
         before = dict(world.links)
+        alone = any_alone(world, line)
         answer = world.answer(line)
-        self.kinds.update(kinds_of(line, answer))
+        self.kinds.update(kinds_of(line, answer) + kinds_together(line, alone, answer))
         self.lines += 1
         self.changes += world.links != before
-        return line if isinstance(line, str) else text_of(line), text_of(answer)
+        return line_text(line), text_of(answer)
 
     def rows(self, world, lines):
         return [self.row(world, line) for line in lines]
 
-    def drawn_rows(self, seed, events, without, first=()):
+    def drawn_rows(self, seed, events, without, together, first=()):
         world = World()
         begun = [(line, text_of(world.answer(json.loads(line)))) for line in first]
-        return begun + self.rows(world, Draws(seed, world, without).lines(events))
+        return begun + self.rows(world, Draws(seed, world, without, together).lines(events))
 
     def tell(self, missing):
         print(f"{self.lines} lines, of which {self.changes} changed what is installed")
@@ -427,9 +501,9 @@ class Tally:
             print(f"    none {kind}")
 
 
-def compare(program, rows, what):
-    """Ends with status 1 at the first answer of the program that isn't the model's."""
-    ran = subprocess.run([program, "run"], input="".join(line + "\n" for line, _ in rows), stdout=subprocess.PIPE, text=True)
+def compare(program, word, rows, what):
+    """Ends with status 1 at the first answer of the program, with this word, that isn't the model's."""
+    ran = subprocess.run([program, word], input="".join(line + "\n" for line, _ in rows), stdout=subprocess.PIPE, text=True)
     answers = ran.stdout.split("\n")[:-1] + [f"none, and status {ran.returncode}"] * len(rows)
     for number, (line, answer) in enumerate(rows):
         if answers[number] != answer:
@@ -449,19 +523,21 @@ def main():
     parser.add_argument("program", nargs="?")
     for word, kind, default in (("script", str, None), ("after", str, None), ("events", int, 20000), ("seed", int, 1), ("without", str, "")):
         parser.add_argument("--" + word, type=kind, default=default)
+    parser.add_argument("--together", action="store_true")
     given = parser.parse_args()
-    without, tally = given.without.split(","), Tally()
+    without, together, tally = given.without.split(","), given.together, Tally()
     if given.script:
         first = open(given.after).read().splitlines() if given.after else ()
-        return write(given.script, tally.drawn_rows(given.seed, min(given.events, START), without, first))
+        return write(given.script, tally.drawn_rows(given.seed, min(given.events, START), without, together, first))
     if not given.program:
         parser.error("name the program, or a file for --script")
+    word = "drawn" if together else "run"
     for number in range(0, given.events, START):
         seed = given.seed + number // START
-        compare(given.program, tally.drawn_rows(seed, min(START, given.events - number), without), f"seed {seed}")
+        compare(given.program, word, tally.drawn_rows(seed, min(START, given.events - number), without, together), f"seed {seed}")
     if given.events >= 20000:
-        compare(given.program, tally.rows(World(), limit_lines()), "limits")
-    missing = [kind for kind in wanted(without) if given.events >= 20000 and not tally.kinds[kind]]
+        compare(given.program, word, tally.rows(World(), limit_lines()), "limits")
+    missing = [kind for kind in wanted(without, together) if given.events >= 20000 and not tally.kinds[kind]]
     tally.tell(missing)
     sys.exit(1 if missing else 0)
 

@@ -1,4 +1,8 @@
-"""The plain model of `linkd run` with which bench/drawn.py compares a program: what each line is answered, by the documented rules."""
+"""The plain model of `linkd run` with which bench/drawn.py compares a program: what each line is answered, by the documented rules. It knows
+one command more, `retire_all`, which a host has and no line: several loaders go at once.
+
+    bench/drawn_world.py            works out small worlds in which loaders need each other, and compares them with what is known by hand
+"""
 import functools
 import json
 
@@ -405,21 +409,43 @@ class World:
         self.records[loader][name] = self.records[to][name]
         return {}
 
-    def retire(self, loader):
-        refuse_if(not self.is_loader(loader), "Retire.UnknownLoader")
-        refuse_if(loader == 0, "Retire.FirstLoader")
+    def test_retirement(self, loader, going, **told):
+        """Refuses that the loader goes, where all of these go at once."""
+        refuse_if(not self.is_loader(loader), "Retire.UnknownLoader", **told)
+        refuse_if(loader == 0, "Retire.FirstLoader", **told)
+        staying = [other for other in self.loaders() if other not in going]
         for one in self.classes:
-            is_other, above = one.loader not in (loader, *self.retired), [each.loader for each in ancestors(one)]
-            refuse_if(is_other and loader in above, "Retire.Inherited", **{"class": one.number})
-        for other in self.loaders():
+            above = [each.loader for each in ancestors(one)]
+            refuse_if(one.loader in staying and loader in above, "Retire.Inherited", **{"class": one.number}, **told)
+        for other in staying:
             found = [one.loader for one in self.records[other].values()]
-            refuse_if(other != loader and loader in found, "Retire.Recorded", loader=other)
+            refuse_if(loader in found, "Retire.Recorded", loader=other, **told)
         for number, each in enumerate(self.call_sites):
             named = [self.classes[part["method"][0]].loader for part, _ in parts_of(each["target"]) if "method" in part]
-            refuse_if(loader in named, "Retire.Targeted", callsite=number)
-        self.retired.add(loader)
-        self.records[loader] = {}
+            refuse_if(loader in named, "Retire.Targeted", callsite=number, **told)
+
+    def may_go(self, loader):
+        """Whether it may be retired alone."""
+        try:
+            self.test_retirement(loader, [loader])
+        except Refused:
+            return False
+        return True
+
+    def go(self, loaders):
+        for loader in loaders:
+            self.retired.add(loader)
+            self.records[loader] = {}
         return {}
+
+    def retire(self, loader):
+        self.test_retirement(loader, [loader])
+        return self.go([loader])
+
+    def retire_all(self, loaders):
+        for loader in loaders:
+            self.test_retirement(loader, loaders, retire=loader)
+        return self.go(loaders)
 
     def request(self, method, pc, **keys):
         one = self.present(keys["class"])
@@ -509,3 +535,113 @@ class World:
         except Refused as why:
             return why.args[0]
         return made if line["do"] in ("prepare", "call") else {**made, "dropped": self.settle()}
+
+
+# ---- worlds that are known by hand
+
+
+def define(loader, name, superclass=OBJECT, methods=()):
+    return {"do": "define", "loader": loader, "sketch": sketch(name, PUBLIC | 32, superclass, methods)}
+
+
+def find(loader, name, of):
+    return {"do": "delegate", "loader": loader, "name": name, "to": of}
+
+
+def together(*loaders):
+    return {"do": "retire_all", "loaders": list(loaders)}
+
+
+def calling(name):
+    return [method("run", PUBLIC | STATIC, [invoke("virtual", name, "f")])]
+
+
+# Loaders 1 and 2 find Object and A in loader 0, C 2 stands in loader 1, and E 3 below C in loader 2.
+BELOW = [
+    define(0, OBJECT, None), define(0, "A", methods=[method("f", PUBLIC)]), {"do": "loader"}, {"do": "loader"},
+    *(find(loader, name, 0) for loader in (1, 2) for name in (OBJECT, "A")),
+    define(1, "C", "A", [method("f", PUBLIC), method("s", PUBLIC | STATIC), *calling("A")]), find(2, "C", 1),
+    define(2, "E", "C", calling("A")),
+]
+# Loader 1 finds E, too.
+OF_EACH_OTHER = [*BELOW, find(1, "E", 2)]
+# M 4 of loader 0 calls A.f at site 0, C at site 1, E at site 2.
+CALLED = [
+    *OF_EACH_OTHER, define(0, "M", methods=calling("A")),
+    *({"do": "request", "class": one, "method": place, "pc": 0} for one, place in ((4, 0), (2, 2), (3, 0))),
+    {"do": "prepare", "sites": [0, 1, 2]}, {"do": "install", "prepared": 0},
+]
+# Loader 3 finds C, too.
+HELD = [*OF_EACH_OTHER, {"do": "loader"}, find(3, "C", 1)]
+# A call site runs C.s on a side that isn't taken.
+TARGETED = [
+    *OF_EACH_OTHER, define(0, "T", methods=[method("s", PUBLIC | STATIC)]), {"do": "switch"},
+    {"do": "callsite", "kind": "mutable", "type": VOID, "target": {"guard": 0, "target": {"method": [4, 0]}, "fallback": {"method": [2, 1]}}},
+]
+UNKNOWN, FIRST = {"refused": "Retire.UnknownLoader"}, {"refused": "Retire.FirstLoader"}
+INHERITED, RECORDED = {"refused": "Retire.Inherited", "class": 3}, {"refused": "Retire.Recorded", "loader": 3}
+GOES = {"dropped": []}
+WORKED = [
+    (BELOW, together(), GOES),
+    (BELOW, together(1), {**INHERITED, "retire": 1}),
+    (BELOW, together(2), GOES),
+    (BELOW, together(1, 2), GOES),
+    (OF_EACH_OTHER, {"do": "retire", "loader": 1}, INHERITED),
+    (OF_EACH_OTHER, {"do": "retire", "loader": 2}, {**RECORDED, "loader": 1}),
+    (OF_EACH_OTHER, together(1), {**INHERITED, "retire": 1}),
+    (OF_EACH_OTHER, together(2, 2), {**RECORDED, "loader": 1, "retire": 2}),
+    (OF_EACH_OTHER, together(1, 2), GOES),
+    (OF_EACH_OTHER, together(2, 1), GOES),
+    (OF_EACH_OTHER, together(2, 1, 2), GOES),
+    (OF_EACH_OTHER, together(1, 2, 3), {**UNKNOWN, "retire": 3}),
+    (OF_EACH_OTHER, together(3, 0), {**UNKNOWN, "retire": 3}),
+    (OF_EACH_OTHER, together(0, 3), {**FIRST, "retire": 0}),
+    (OF_EACH_OTHER, together(1, 0), {**INHERITED, "retire": 1}),
+    (HELD, together(1, 2), {**RECORDED, "retire": 1}),
+    (HELD, together(2, 1), {**RECORDED, "retire": 1}),
+    (HELD, together(3, 1), {**INHERITED, "retire": 1}),
+    (HELD, together(1, 2, 3), GOES),
+    (CALLED, together(1, 2), {"dropped": [0, 1, 2]}),
+    (CALLED, together(2, 1), {"dropped": [0, 1, 2]}),
+    (TARGETED, together(2, 1), {"refused": "Retire.Targeted", "callsite": 0, "retire": 1}),
+]
+# What is left of the pair.
+LEFT = [
+    (find(2, "A", 0), {"refused": "Delegate.UnknownLoader"}),
+    (together(2), {**UNKNOWN, "retire": 2}),
+    (together(2, 1), {**UNKNOWN, "retire": 2}),
+    ({"do": "links"}, {"links": []}),
+    *(({"do": "call", "site": site, "recv": 1}, {"unlinked": "Gone"}) for site in (1, 2)),
+    ({"do": "call", "site": 0, "recv": 1}, {"run": [1, 0]}),
+    ({"do": "call", "site": 0, "recv": 3}, {"refused": "BadReceiver"}),
+    ({"do": "prepare", "sites": [0]}, {"prepared": 1, "rows": [[0, {"direct": {"run": [1, 0]}}]]}),
+    ({"do": "loader"}, {"dropped": [], "loader": 3}),
+]
+
+
+def world_after(lines):
+    world = World()
+    for line in lines:
+        answer = world.answer(line)
+        assert "refused" not in answer and "error" not in answer, (line, answer)
+    return world
+
+
+def seen(world):
+    return [world.list_links(), world.loaders(), [sorted(each) for each in world.records], len(world.classes), len(world.places)]
+
+
+def main():
+    for lines, line, answer in WORKED:
+        world = world_after(lines)
+        before, came = seen(world), world.answer(line)
+        assert came == answer, (line, came, answer)
+        assert "refused" not in answer or seen(world) == before, line
+    world = world_after([*CALLED, together(2, 1)])
+    for line, answer in LEFT:
+        assert world.answer(line) == answer, (line, answer)
+    print(f"{len(WORKED) + len(LEFT)} answers are as known by hand")
+
+
+if __name__ == "__main__":
+    main()

@@ -1,4 +1,4 @@
-//! Class files, a line of hexadecimal each, and places, a line of class, method and pc each.
+//! Class files, a line of hexadecimal each, places, a line of class, method and pc each, and commands, which are all other lines.
 
 ghost use Rattle.std.specs.Prelude.{◌≤◌};
 
@@ -6,10 +6,11 @@ use jl_types::{ClassId, Place};
 use std::alloc::{AllocError, Global};
 use std::io::{self, BufRead, BufReader};
 
-/// The class files and the places, in order. A line that is neither is left out.
+/// The class files, the places and the commands, in order.
 pub(crate) struct Input {
     pub(crate) files: Vec<Vec<u8>>,
     pub(crate) places: Vec<Place>,
+    pub(crate) commands: Vec<String>,
 }
 
 /// Written out, so that what drops one makes one call of it and doesn't take apart what it holds.
@@ -18,6 +19,7 @@ impl Drop for Input {
         let Input {
             files: _files,
             places: _places,
+            commands: _commands,
         } = self;
     }
 }
@@ -29,9 +31,10 @@ impl Input {
         let mut input = Input {
             files: Vec::new(alloc),
             places: Vec::new(alloc),
+            commands: Vec::new(alloc),
         };
         for line in BufReader::new(alloc, rt.reader())?.lines(alloc) {
-            input.add_line(alloc, line?.as_str())?;
+            input.add_line(alloc, line?)?;
         }
         Ok(input)
     }
@@ -44,11 +47,13 @@ impl Input {
     }
 
     /// Adds what the line is. Want of memory is an error.
-    fn add_line(&mut self, alloc: Global, line: &str) -> Result<(), AllocError> {
-        if let Some(place) = place(line) {
+    fn add_line(&mut self, alloc: Global, line: String) -> Result<(), AllocError> {
+        if let Some(place) = place(line.as_str()) {
             self.places.push(place)?;
-        } else if let Ok(bytes) = hex::decode(alloc, line) {
+        } else if let Ok(bytes) = hex::decode(alloc, line.as_str()) {
             self.files.push(bytes)?;
+        } else {
+            self.commands.push(line)?;
         }
         Ok(())
     }

@@ -1,6 +1,7 @@
 //! Measures parts of the product, by itself or from outside, and makes the calls whose growths bench/growths.sh refuses. The first word
-//! names the part: `read`, `keep`, `hierarchy`, `link`, `renew`, `year`, `snapshot`, `wide`, `farm`, `call` or `growths`; what the others are,
-//! and what is done, stands at each module. The word `then` stands between two parts. All have the classes and places of the standard input.
+//! names the part: `read`, `keep`, `hierarchy`, `link`, `renew`, `year`, `snapshot`, `wide`, `farm`, `call`, `growths` or `drawn`; what the
+//! others are, and what is done, stands at each module. The word `then` stands between two parts. All have the classes, places and commands of
+//! the standard input.
 //! What was done is printed, and, on the standard error, the microseconds that it took. Nothing is proved of it but that it is safe.
 //!
 //! The exit status is 0, 4 where memory lacked, and 1 where it ended otherwise.
@@ -10,6 +11,7 @@ mod answers;
 mod call;
 mod cores;
 mod deeds;
+mod drawn;
 mod farm;
 mod files;
 mod fill;
@@ -57,6 +59,7 @@ fn measure(
         Some("wide") => wide::measure(rt, handle, input, words),
         Some("farm" | "call") => serve::measure(rt, handle, input, words),
         Some("growths") => growths::call_all(rt, handle),
+        Some("drawn") => drawn::answer_all(rt, input.commands.as_slice()),
         _ => Ok(()),
     }
 }

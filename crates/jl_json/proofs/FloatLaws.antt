@@ -26,7 +26,8 @@ use Rattle.jl_types.specs.declared.refusal.RetireFault.{RetireFault}
 use Rattle.jl_types.specs.declared.refusal.RetireFault.TheVariants as retire
 use Rattle.jl_json.specs.CallAnswers.{unlinked_data, answer_data}
 use Rattle.jl_json.specs.ClassAnswers.{number_data}
-use Rattle.jl_json.specs.EventRefusals.{call_site_refusal_data, define_refusal_data, event_refusal_data, prepare_refusal_data, retire_refusal_data}
+use Rattle.jl_json.specs.EventRefusals.{call_site_refusal_data, define_refusal_data, event_refusal_data, prepare_refusal_data}
+use Rattle.jl_json.specs.EventRefusals.{retire_members, retire_refusal_data, retire_all_refusal_data}
 use Rattle.jl_json.specs.LinkAnswers.{outcome_data, table_row_data, link_data}
 use Rattle.jl_json.specs.LinkAnswers.{site_link_data, site_links_data, links_data, prepared_data}
 use Rattle.jl_json.specs.Refusals as plain
@@ -144,12 +145,20 @@ module _ (text_of : List ℕ → List ℕ) where
   define_floats define.Full = refl
 
   retire_floats : (fault : RetireFault) → has_float (retire_refusal_data fault) ≡ false
-  unfolding retire_refusal_data
+  unfolding retire_members
   retire_floats retire.UnknownLoader = refl
   retire_floats retire.FirstLoader = refl
   retire_floats (retire.Inherited class) = refl
   retire_floats (retire.Recorded loader) = refl
   retire_floats (retire.Targeted call_site) = refl
+
+  retire_all_floats : (loader : ℕ) (fault : RetireFault) → has_float (retire_all_refusal_data loader fault) ≡ false
+  unfolding retire_members
+  retire_all_floats loader retire.UnknownLoader = refl
+  retire_all_floats loader retire.FirstLoader = refl
+  retire_all_floats loader (retire.Inherited class) = refl
+  retire_all_floats loader (retire.Recorded recorder) = refl
+  retire_all_floats loader (retire.Targeted call_site) = refl
 
   pub event_refusal_floats : (r : Refusal) → has_float (event_refusal_data text_of r) ≡ false
   unfolding event_refusal_data
@@ -171,6 +180,7 @@ module _ (text_of : List ℕ → List ℕ) where
   event_refusal_floats (refusal.Delegate fault) = refl
   event_refusal_floats refusal.LoadersFull = refl
   event_refusal_floats (refusal.Retire fault) = retire_floats fault
+  event_refusal_floats (refusal.RetireAll loader fault) = retire_all_floats loader fault
 
 pub prepare_refusal_floats : (fault : PrepareFault) → has_float (prepare_refusal_data fault) ≡ false
 unfolding prepare_refusal_data

@@ -1,13 +1,14 @@
 -- The JSON of each command, in one form: keys in byte order, digits in lower case, the receiver named. A value that
 -- is a command has no keys but those of its form. A sketch may be written in several ways, and so may a name: the form of a
--- definition by a sketch, that of a delegation and that of a call site with its type has the JSON that is given for it.
+-- definition by a sketch, that of a delegation and that of a call site with its type has the JSON that is given for it. That several
+-- loaders go at once is no command, and has no form.
 use Rattle.std.specs.Prelude.{◌≡◌, ◌^◌, ◌<◌, ℕ, List, codes, Some, ⊤}
 use Rattle.std.specs.List.{AllByRecursion}
 use Rattle.hex.specs.Hex.{encode_lower, IsBytes}
 use Rattle.serde_json.specs.Data.{Data, null, string, object, no_members, member}
 use Rattle.jl_types.specs.declared.answer.Recv.{Recv}
 use Rattle.jl_types.specs.declared.answer.Recv.TheVariants.{Null, Of}
-use Rattle.jl_types.specs.declared.event.EventOf.TheVariants.{NewLoader, Define, Delegate, Request, Install, Retire}
+use Rattle.jl_types.specs.declared.event.EventOf.TheVariants.{NewLoader, Define, Delegate, Request, Install, Retire, RetireAll}
 use Rattle.jl_types.specs.declared.event.EventOf.TheVariants.{NewCallSite, SetTarget, NewSwitch, Invalidate, Bind}
 use Rattle.jl_types.specs.declared.ids.MethodId.{MethodId}
 use Rattle.jl_types.specs.declared.ids.Place.{Place}
@@ -67,6 +68,7 @@ event_data written (Install batch) =
 event_data written (Retire loader) =
     object (member (codes "do") (string (codes "retire"))
     (member (codes "loader") (number_data loader) no_members))
+event_data written (RetireAll loaders) = null
 event_data written (NewCallSite kind ty target) =
     object (member (codes "do") (string (codes "callsite"))
     (member (codes "kind") (string (kind_name kind))
@@ -122,6 +124,7 @@ IsEvent written (Delegate loader name to) = (loader < 2 ^ 32) × (to < 2 ^ 32) �
 IsEvent written (Request place) = IsPlace place
 IsEvent written (Install batch) = batch < 2 ^ 32
 IsEvent written (Retire loader) = loader < 2 ^ 32
+IsEvent written (RetireAll loaders) = ⊥
 IsEvent written (NewCallSite kind ty target) =
     (name_in written ≡ Some ty) × IsMethodDescriptor ty × IsTarget target
 IsEvent written (SetTarget call_site target) = (call_site < 2 ^ 32) × IsTarget target

@@ -1,6 +1,6 @@
 -- What an event or a preparation is answered that is refused, as JSON: the name of the fault, and what it is about.
 use Rattle.std.specs.Prelude.{◌≡◌, ℕ, List, codes}
-use Rattle.serde_json.specs.Data.{Data, string, object, no_members, member}
+use Rattle.serde_json.specs.Data.{Data, Members, string, object, no_members, member, put}
 use Rattle.jl_types.specs.declared.link.Link.{Link}
 use Rattle.jl_types.specs.declared.refusal.CallSiteFault.{CallSiteFault}
 use Rattle.jl_types.specs.declared.refusal.CallSiteFault.TheVariants as call_site
@@ -42,24 +42,27 @@ refused_bound fault call_site =
     object (member (codes "callsite") (number_data call_site)
     (member (codes "refused") (string fault) no_members))
 
-abbrev pub refused_class : List ℕ → ℕ → Data
-refused_class fault class =
-    object (member (codes "class") (number_data class)
-    (member (codes "refused") (string fault) no_members))
-
-abbrev pub refused_loader : List ℕ → ℕ → Data
-refused_loader fault loader =
-    object (member (codes "loader") (number_data loader)
-    (member (codes "refused") (string fault) no_members))
-
 -- ---- faults within events
 
-unfoldable pub retire_refusal_data : RetireFault → Data
-retire_refusal_data retire.UnknownLoader = refused (codes "Retire.UnknownLoader")
-retire_refusal_data retire.FirstLoader = refused (codes "Retire.FirstLoader")
-retire_refusal_data (retire.Inherited class) = refused_class (codes "Retire.Inherited") class
-retire_refusal_data (retire.Recorded loader) = refused_loader (codes "Retire.Recorded") loader
-retire_refusal_data (retire.Targeted call_site) = refused_bound (codes "Retire.Targeted") call_site
+unfoldable pub retire_members : RetireFault → Members
+retire_members retire.UnknownLoader = member (codes "refused") (string (codes "Retire.UnknownLoader")) no_members
+retire_members retire.FirstLoader = member (codes "refused") (string (codes "Retire.FirstLoader")) no_members
+retire_members (retire.Inherited class) =
+    member (codes "class") (number_data class)
+    (member (codes "refused") (string (codes "Retire.Inherited")) no_members)
+retire_members (retire.Recorded loader) =
+    member (codes "loader") (number_data loader)
+    (member (codes "refused") (string (codes "Retire.Recorded")) no_members)
+retire_members (retire.Targeted call_site) =
+    member (codes "callsite") (number_data call_site)
+    (member (codes "refused") (string (codes "Retire.Targeted")) no_members)
+
+abbrev pub retire_refusal_data : RetireFault → Data
+retire_refusal_data fault = object (retire_members fault)
+
+-- of several loaders that were to go at once, the one that can't is told, too
+abbrev pub retire_all_refusal_data : ℕ → RetireFault → Data
+retire_all_refusal_data loader fault = object (put (codes "retire") (number_data loader) (retire_members fault))
 
 abbrev pub delegate_name : DelegateFault → List ℕ
 delegate_name delegate.UnknownLoader = codes "Delegate.UnknownLoader"
@@ -122,6 +125,7 @@ module _ (text_of : List ℕ → List ℕ) where
   event_refusal_data (refusal.Delegate fault) = refused (delegate_name fault)
   event_refusal_data refusal.LoadersFull = refused (codes "LoadersFull")
   event_refusal_data (refusal.Retire fault) = retire_refusal_data fault
+  event_refusal_data (refusal.RetireAll loader fault) = retire_all_refusal_data loader fault
 
 -- the answer, with each name spelled
 abbrev pub IsRefusalData : Refusal → Data → Type 0

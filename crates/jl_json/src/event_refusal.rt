@@ -5,7 +5,7 @@ ghost use Rattle.serde_json.specs.Data.{member, no_members, object, string, put 
 ghost use Rattle.serde_json.specs.View.{view, members_view};
 ghost use Rattle.jl_json.specs.ForProofs.NameReading.{name_text};
 ghost use Rattle.jl_json.specs.EventRefusals.{refused, refused_at, refused_bound, refused_for, refused_name, delegate_name, call_site_refusal_data};
-ghost use Rattle.jl_json.specs.EventRefusals.{not_linkable_name, define_refusal_data, retire_refusal_data};
+ghost use Rattle.jl_json.specs.EventRefusals.{not_linkable_name, define_refusal_data, retire_members, retire_refusal_data, retire_all_refusal_data};
 ghost use Rattle.jl_json.specs.EventRefusals.{event_refusal_data, IsRefusalData};
 ghost use Rattle.jl_json.specs.EventRefusals.{prepare_refusal_data};
 
@@ -14,8 +14,8 @@ use crate::object::single_text;
 use crate::text::text_of;
 use jl_names::Name;
 use jl_types::{
-    CallSiteFault, CallSiteId, DefineFault, DelegateFault, Link, NotLinkable, PrepareFault,
-    Refusal, RetireFault, SiteNo,
+    CallSiteFault, CallSiteId, DefineFault, DelegateFault, Link, LoaderId, NotLinkable,
+    PrepareFault, Refusal, RetireFault, SiteNo,
 };
 use serde_json::{Map, Value, put};
 use std::alloc::{AllocError, Global};
@@ -25,6 +25,17 @@ fn refused_value(alloc: Global, fault: &str) -> Result<Value, AllocError>
     ensures { IfOk result (λ v. view v ≡ refused fault.now) }
 {
     single_text(alloc, "refused", fault)
+}
+
+/// The member of a fault alone.
+fn fault_members(alloc: Global, fault: &str) -> Result<Map<String, Value>, AllocError>
+    ensures { IfOk result (λ members. members_view members.entries
+        ≡ member (codes "refused") (string fault.now) no_members) }
+{
+    let mut members = Map::new(alloc);
+    let fault = Value::try_from_str(alloc, fault)?;
+    put(&mut members, alloc, "refused", fault)?;
+    Ok(members)
 }
 
 /// The members of a fault, and of what it is about.
@@ -37,9 +48,7 @@ fn refused_members(
     ensures { IfOk result (λ members. members_view members.entries
         ≡ with_member key.now (view about) (member (codes "refused") (string fault.now) no_members)) }
 {
-    let mut members = Map::new(alloc);
-    let fault = Value::try_from_str(alloc, fault)?;
-    put(&mut members, alloc, "refused", fault)?;
+    let mut members = fault_members(alloc, fault)?;
     put(&mut members, alloc, key, about)?;
     Ok(members)
 }
@@ -160,28 +169,52 @@ fn define_refusal_value(alloc: Global, fault: &DefineFault) -> Result<Value, All
     }
 }
 
-/// The answer that a loader isn't retired.
-#[tactic(auto, unfolding(crate::specs::EventRefusals::retire_refusal_data))]
-fn retire_refusal_value(alloc: Global, fault: RetireFault) -> Result<Value, AllocError>
-    ensures { IfOk result (λ v. view v ≡ retire_refusal_data fault) }
+/// The members of the answer that a loader isn't retired.
+#[tactic(auto, unfolding(crate::specs::EventRefusals::retire_members))]
+fn retire_members(alloc: Global, fault: RetireFault) -> Result<Map<String, Value>, AllocError>
+    ensures { IfOk result (λ members. members_view members.entries ≡ retire_members fault) }
 {
     match fault {
-        RetireFault::UnknownLoader => refused_value(alloc, "Retire.UnknownLoader"),
-        RetireFault::FirstLoader => refused_value(alloc, "Retire.FirstLoader"),
+        RetireFault::UnknownLoader => fault_members(alloc, "Retire.UnknownLoader"),
+        RetireFault::FirstLoader => fault_members(alloc, "Retire.FirstLoader"),
         RetireFault::Inherited(class) => {
             let number = Value::from(class.number());
-            refused_about_value(alloc, "Retire.Inherited", "class", number)
+            refused_members(alloc, "Retire.Inherited", "class", number)
         }
         RetireFault::Recorded(loader) => {
             let number = Value::from(loader.number());
-            refused_about_value(alloc, "Retire.Recorded", "loader", number)
+            refused_members(alloc, "Retire.Recorded", "loader", number)
         }
-        RetireFault::Targeted(site) => refused_bound_value(alloc, "Retire.Targeted", site),
+        RetireFault::Targeted(site) => {
+            let number = Value::from(site.number());
+            refused_members(alloc, "Retire.Targeted", "callsite", number)
+        }
     }
 }
 
-/// The answer that an event is refused: the name of the fault, behind the name of the fault that it
-/// is within, and the name, class, loader, call site, site or link that it is about.
+/// The answer that a loader isn't retired.
+fn retire_refusal_value(alloc: Global, fault: RetireFault) -> Result<Value, AllocError>
+    ensures { IfOk result (λ v. view v ≡ retire_refusal_data fault) }
+{
+    Ok(Value::Object(retire_members(alloc, fault)?))
+}
+
+/// The answer that of several loaders none is retired, since this one can't be.
+fn retire_all_refusal_value(
+    alloc: Global,
+    loader: LoaderId,
+    fault: RetireFault,
+) -> Result<Value, AllocError>
+    ensures { IfOk result (λ v. view v ≡ retire_all_refusal_data loader fault) }
+{
+    let mut members = retire_members(alloc, fault)?;
+    put(&mut members, alloc, "retire", Value::from(loader.number()))?;
+    Ok(Value::Object(members))
+}
+
+/// The answer that an event is refused: the name of the fault, after the name of the fault that it
+/// is within, and the name, class, loader, call site, site or link that it is about; where several
+/// loaders were to go at once, the one that can't, too.
 ///
 /// # Errors
 ///
@@ -216,10 +249,11 @@ fn refusal_value(alloc: Global, refusal: &Refusal) -> Result<Value, AllocError>
         Refusal::Delegate(fault) => refused_value(alloc, delegate_fault(*fault)),
         Refusal::LoadersFull => refused_value(alloc, "LoadersFull"),
         Refusal::Retire(fault) => retire_refusal_value(alloc, *fault),
+        Refusal::RetireAll { loader, fault } => retire_all_refusal_value(alloc, *loader, *fault),
     }
 }
 
-/// The answer that links aren't prepared: the name of the fault, behind `Prepare`, and the site that
+/// The answer that links aren't prepared: the name of the fault, after `Prepare`, and the site that
 /// it is about.
 ///
 /// # Errors

@@ -8,11 +8,10 @@ use Rattle.jl_types.specs.declared.event.EventOf.TheVariants as event
 use Rattle.jl_types.specs.declared.event.Made.{Made}
 use Rattle.jl_types.specs.declared.refusal.DelegateFault.TheVariants.{UnknownLoader}
 use Rattle.jl_types.specs.declared.refusal.Refusal.{Refusal}
-use Rattle.jl_types.specs.declared.refusal.Refusal.TheVariants.{Delegate, Retire}
+use Rattle.jl_types.specs.declared.refusal.Refusal.TheVariants.{Delegate}
 use Rattle.jl_types.specs.Values.World.{World, Classes, nothing_yet}
 use Rattle.jl_types.specs.Values.Members.{is_retired, is_present, lookup}
 use Rattle.jl_types.specs.Events.Definitions.{is_unknown, with_record, delegate_fault, delegated}
-use Rattle.jl_types.specs.Events.Retirement.{retire_fault}
 use Rattle.jl_types.specs.Events.Event.{Event}
 use Rattle.jl_types.specs.Events.Verdict.{verdict, step}
 use Rattle.jl_types.specs.Events.History.{world_after, dropped}
@@ -21,9 +20,10 @@ use Rattle.jl_types.proofs.Firsts.{first_none, test_none}
 use Rattle.jl_types.proofs.Legal.{events_more, by_entries}
 use Rattle.jl_types.proofs.Orders.{IsGood, world_good}
 use Rattle.jl_types.proofs.Places.{accepted_of, world_more}
+use Rattle.jl_types.proofs.Retiring.{may_retire}
 use Rattle.jl_hierarchy.specs.Constancy.{IsClosed}
 use Rattle.jl_hierarchy.proofs.Closed.{closed_with_record, closed_with_loader, closed_defined, closed_retired}
-use Rattle.jl_relink.proofs.Closing.{no_fault, free_classes}
+use Rattle.jl_relink.proofs.Closing.{no_fault, free_loader, free_loaders}
 
 module _ (cs : Classes) (closed : IsClosed cs) (loader : ℕ) (name : List ℕ) (to : ℕ) (none : delegate_fault cs loader name to ≡ None) where
   -- who is asked isn't retired
@@ -59,7 +59,9 @@ module _ (limits : Limits) (w : World) (good : IsGood w.classes) (closed : IsClo
   closed_after (event.Bind s c) accepted = closed
   closed_after (event.Install rows) accepted = closed
   closed_after (event.Retire loader) accepted =
-      closed_retired w.classes good.ordered closed loader (free_classes w loader (no_fault Retire (retire_fault w loader) _ accepted))
+      closed_retired w.classes good.ordered closed (loader ∷ []) (may_retire w (loader ∷ []) (free_loader limits w loader accepted))
+  closed_after (event.RetireAll loaders) accepted =
+      closed_retired w.classes good.ordered closed loaders (may_retire w loaders (free_loaders limits w loaders accepted))
 
 at_first : IsClosed nothing_yet.classes
 at_first = record {

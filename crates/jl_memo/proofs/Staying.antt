@@ -25,6 +25,7 @@ use Rattle.jl_types.specs.Linkage.Stages.{Selector, ByVirtual, ByInterface, BySp
 use Rattle.jl_types.specs.Linkage.Stages.{stage, stage_at, stage_of, by_operand, by_method, bound_to, bound_method, invocation_at}
 use Rattle.jl_types.specs.Linkage.Calls.{answered, fits_named, answer_of, dispatch}
 use Rattle.jl_types.specs.Events.Event.{Event}
+use Rattle.jl_types.specs.Events.Retirement.{is_listed, retired}
 use Rattle.jl_types.specs.Events.Verdict.{step}
 use Rattle.jl_types.specs.Events.History.{world_after}
 use Rattle.jl_types.specs.Events.Footprints.{has_key, of_selector, of_stage, of_operand, of_invocation, of_place, footprint}
@@ -98,6 +99,7 @@ places_stay w (event.Invalidate points) s place is = is
 places_stay w (event.Bind n c) s place is = is
 places_stay w (event.Install rows) s place is = is
 places_stay w (event.Retire loader) s place is = is
+places_stay w (event.RetireAll loaders) s place is = is
 
 bindings_stay : (w : World) (e : Event) (s c : ℕ) → bound_to w s ≡ Some c → bound_to (step w e) s ≡ Some c
 bindings_stay w event.NewLoader s c is = is
@@ -111,6 +113,14 @@ bindings_stay w (event.Invalidate points) s c is = is
 bindings_stay w (event.Bind n d) s c is = bound_before w.bindings (n, d) s c is
 bindings_stay w (event.Install rows) s c is = is
 bindings_stay w (event.Retire loader) s c is = is
+bindings_stay w (event.RetireAll loaders) s c is = is
+
+not_gone : (w : World) (loaders : List ℕ) (loader : ℕ) → is_retired (retired w.classes loaders) loader ≡ false → is_retired w.classes loader ≡ false
+not_gone w loaders loader is = first (is_retired w.classes loader) (is_listed loaders loader) (sym (retired_after w.classes loaders loader) ∙ is)
+  where
+    first : (a b : Bool) → (a || b) ≡ false → a ≡ false
+    first true b e = cc
+    first false b e = refl
 
 alive_before : (w : World) (e : Event) (loader : ℕ) → is_retired (step w e).classes loader ≡ false → is_retired w.classes loader ≡ false
 alive_before w event.NewLoader loader is = is
@@ -123,11 +133,8 @@ alive_before w event.NewSwitch loader is = is
 alive_before w (event.Invalidate points) loader is = is
 alive_before w (event.Bind s c) loader is = is
 alive_before w (event.Install rows) loader is = is
-alive_before w (event.Retire l) loader is = first (is_retired w.classes loader) (l == loader) (sym (retired_after w.classes l loader) ∙ is)
-  where
-    first : (a b : Bool) → (a || b) ≡ false → a ≡ false
-    first true b e = cc
-    first false b e = refl
+alive_before w (event.Retire l) loader is = not_gone w (l ∷ []) loader is
+alive_before w (event.RetireAll loaders) loader is = not_gone w loaders loader is
 
 itself : (w : World) → StaysOn w w
 itself w = record {

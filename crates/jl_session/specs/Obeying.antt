@@ -59,6 +59,7 @@ IsObeyed IsEvent IsInstall old (event.Invalidate switches) answer new = IsEvent 
 IsObeyed IsEvent IsInstall old (event.Bind site call_site) answer new = IsEvent old (event.Bind site call_site) answer new
 IsObeyed IsEvent IsInstall old (event.Install batch) answer new = IsInstall old batch answer new
 IsObeyed IsEvent IsInstall old (event.Retire loader) answer new = IsEvent old (event.Retire loader) answer new
+IsObeyed IsEvent IsInstall old (event.RetireAll loaders) answer new = IsEvent old (event.RetireAll loaders) answer new
 
 -- ---- what a line is answered
 

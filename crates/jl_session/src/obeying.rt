@@ -75,6 +75,7 @@ pub fn obey_event<S, O: Obey<S>>(
         AskedEvent::Bind(site, call_site) => by.apply(alloc, on, Event::Bind(site, call_site)),
         AskedEvent::Install(batch) => by.install(alloc, on, batch),
         AskedEvent::Retire(loader) => by.apply(alloc, on, Event::Retire(loader)),
+        AskedEvent::RetireAll(loaders) => by.apply(alloc, on, Event::RetireAll(loaders)),
     }
 }
 

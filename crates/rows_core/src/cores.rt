@@ -217,14 +217,14 @@ const ROWS: &[&Row] = &[
 ];
 
 /// How what the step is answered prints.
-fn printed(alloc: Global, core: &mut Core, step: &Step) -> Result<String, AllocError> {
+pub(crate) fn printed(alloc: Global, core: &mut Core, step: &Step) -> Result<String, AllocError> {
     let event = event(alloc, core, step)?;
     let answer = core.apply(alloc, event);
     format!(in alloc; "{answer:?}")
 }
 
 /// How the installed links print.
-fn links_printed(alloc: Global, core: &Core) -> Result<String, AllocError> {
+pub(crate) fn links_printed(alloc: Global, core: &Core) -> Result<String, AllocError> {
     let links = core.list_links(alloc)?;
     format!(in alloc; "{:?}", links.as_slice())
 }

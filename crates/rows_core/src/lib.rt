@@ -20,4 +20,6 @@ mod snapshots;
 #[cfg(test)]
 mod steps;
 #[cfg(test)]
+mod together;
+#[cfg(test)]
 mod work;

@@ -55,6 +55,8 @@ pub(crate) enum Step {
     Bind(u32, u32),
     /// The loader finds the class of this name that loader 0 finds.
     Delegate(u32, &'static str),
+    /// The first loader finds the class of this name that the other one finds.
+    Find(u32, &'static str, u32),
     /// The install of the links that these sites have now.
     Install(&'static [u32]),
     /// The same of one site.
@@ -67,6 +69,8 @@ pub(crate) enum Step {
     ByHand,
     /// The loader goes.
     Retire(u32),
+    /// The loaders go at once.
+    RetireAll(&'static [u32]),
 }
 
 /// What is read of the row's class file, with these calls.
@@ -171,6 +175,21 @@ fn invalidation(alloc: Global, numbers: &[u32]) -> Result<Event, AllocError> {
     Ok(Event::Invalidate(Seq::of(points)))
 }
 
+/// The retirement of these loaders at once.
+fn retirement(alloc: Global, numbers: &[u32]) -> Result<Event, AllocError> {
+    let mut loaders = Vec::new(alloc);
+    for number in numbers {
+        loaders.push(LoaderId::new(*number))?;
+    }
+    Ok(Event::RetireAll(Seq::of(loaders)))
+}
+
+/// The delegation of this name.
+fn delegation(alloc: Global, loader: u32, name: &str, to: u32) -> Result<Event, AllocError> {
+    let name = named(alloc, name)?;
+    Ok(Event::Delegate(LoaderId::new(loader), name, LoaderId::new(to)))
+}
+
 /// These sites, each with the value.
 fn with_each<T: Copy + Drop>(
     alloc: Global,
@@ -235,10 +254,8 @@ pub(crate) fn event(alloc: Global, core: &Core, step: &Step) -> Result<Event, Al
         Step::Bind(site, call_site) => {
             Ok(Event::Bind(SiteNo::new(*site), CallSiteId::new(*call_site)))
         }
-        Step::Delegate(loader, name) => {
-            let name = named(alloc, name)?;
-            Ok(Event::Delegate(LoaderId::new(*loader), name, LoaderId::new(0)))
-        }
+        Step::Delegate(loader, name) => delegation(alloc, *loader, name, 0),
+        Step::Find(loader, name, to) => delegation(alloc, *loader, name, *to),
         Step::Install(sites) => install(alloc, core, sites),
         Step::InstallOne(site) => install(alloc, core, &[*site]),
         Step::Wrong(sites) => install_each(alloc, sites, Link::Mega),
@@ -248,6 +265,7 @@ pub(crate) fn event(alloc: Global, core: &Core, step: &Step) -> Result<Event, Al
         }
         Step::ByHand => install_each(alloc, &[0], runs_first()),
         Step::Retire(loader) => Ok(Event::Retire(LoaderId::new(*loader))),
+        Step::RetireAll(loaders) => retirement(alloc, loaders),
     }
 }
 

@@ -10,6 +10,7 @@ use jl_types::{
     Answer, CallSiteFault, DefineFault, Fast, Link, Made, Outcome, Recv, Refusal, SiteNo, SwitchId,
     Throwable, Unlinked,
 };
+use std::alloc::Global;
 use std::sync::Wait;
 
 /// The answer at once.
@@ -107,6 +108,32 @@ fn is_told<K: Name, R: Wait, S: Wait + Drop>(
     }
 }
 
+/// Whether the entry prints so.
+fn prints(alloc: Global, entry: Option<&Entry>, text: &str) -> bool {
+    let Some(entry) = entry else {
+        return false;
+    };
+    match format!(in alloc; "{entry:?}") {
+        Ok(printed) => printed.as_str() == text,
+        Err(_) => false,
+    }
+}
+
+/// Whether the caller is told one entry after the first so many, which prints so.
+fn is_told_as<K: Name, R: Wait, S: Wait + Drop>(
+    shared: &Shared<'_, K, R, S>,
+    caller: &mut Caller<K>,
+    from: u64,
+    text: &str,
+) -> bool {
+    match &caller.entries(shared.rt, shared.alloc, shared.server, from) {
+        Ok(since) => {
+            since.entries.len() == 1 && prints(shared.alloc, since.entries.as_slice().last(), text)
+        }
+        Err(_) => false,
+    }
+}
+
 /// Whether the caller is told the whole log, with so many entries.
 fn has_log<K: Name, R: Wait, S: Wait + Drop>(
     shared: &Shared<'_, K, R, S>,
@@ -168,6 +195,7 @@ pub(crate) fn acts<K: Name, R: Wait, S: Wait + Drop>(
         Act::IsForgotten(from) => is_forgotten(shared, &mut worker.caller, *from),
         Act::HasLog(count) => has_log(shared, &mut worker.caller, *count),
         Act::IsTold(from, numbers) => is_told(shared, &mut worker.caller, *from, numbers),
+        Act::IsToldAs(from, text) => is_told_as(shared, &mut worker.caller, *from, text),
         Act::Tells => {
             *shared.told.lock(shared.rt) = Some(worker.caller.seen().again());
             true

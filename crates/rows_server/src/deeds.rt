@@ -118,6 +118,8 @@ pub(crate) enum Deed {
     Loader,
     /// The loader finds this class of loader 0 by its name.
     Delegate(u32, Class),
+    /// The first loader finds this class of the other one by its name.
+    Find(u32, Class, u32),
     /// The request of the instruction at this pc of the class's first method.
     Request(u32, u32),
     /// A mutable call site more, of the class's method 1.
@@ -138,6 +140,8 @@ pub(crate) enum Deed {
     Invalidate(u32),
     /// The loader goes.
     Retire(u32),
+    /// The loaders go at once.
+    RetireAll(&'static [u32]),
 }
 
 /// A class A 1 with a method, B 2 below it, and an installed site 0 of M 3, which calls that method: 6 events.
@@ -227,16 +231,31 @@ fn call_site(alloc: Global, target: Result<Target, AllocError>) -> Option<Event>
     }
 }
 
+/// The first loader finds this class of the other one by its name.
+fn delegation(alloc: Global, loader: u32, class: Class, to: u32) -> Option<Event> {
+    match named(alloc, row_of(class).0) {
+        Ok(name) => Some(Event::Delegate(LoaderId::new(loader), name, LoaderId::new(to))),
+        Err(_) => None,
+    }
+}
+
+/// The loaders of these numbers.
+fn loaders_of(alloc: Global, numbers: &[u32]) -> Result<Vec<LoaderId>, AllocError> {
+    let mut loaders = Vec::new(alloc);
+    for number in numbers {
+        loaders.push(LoaderId::new(*number))?;
+    }
+    Ok(loaders)
+}
+
 /// The event, but for installs.
 pub(crate) fn event(alloc: Global, deed: &Deed) -> Option<Event> {
     match deed {
         Define(loader, class) => definition(*loader, file(alloc, *class)),
         Below(number, overrides) => definition(0, below(alloc, *number, *overrides)),
         Loader => Some(Event::NewLoader),
-        Delegate(loader, class) => match named(alloc, row_of(*class).0) {
-            Ok(name) => Some(Event::Delegate(LoaderId::new(*loader), name, LoaderId::new(0))),
-            Err(_) => None,
-        },
+        Delegate(loader, class) => delegation(alloc, *loader, *class, 0),
+        Find(loader, class, to) => delegation(alloc, *loader, *class, *to),
         Request(class, pc) => Some(Event::Request(Place {
             class: ClassId::new(*class),
             method: 0,
@@ -260,6 +279,10 @@ pub(crate) fn event(alloc: Global, deed: &Deed) -> Option<Event> {
             Err(_) => None,
         },
         Retire(loader) => Some(Event::Retire(LoaderId::new(*loader))),
+        RetireAll(numbers) => match loaders_of(alloc, numbers) {
+            Ok(loaders) => Some(Event::RetireAll(Seq::of(loaders))),
+            Err(_) => None,
+        },
     }
 }
 

@@ -187,6 +187,97 @@ const RETIRED: &[Line] = &[
     IsRemembered(false, 4, 4),
 ];
 
+/// Loaders 1 and 2 each find a class of the other one: R 5 and C 7. M 4 of the first one has site 1, and M 6 of the second one site 2, which
+/// have the table of A, B, R and C, as site 0 has.
+const OF_EACH_OTHER: &[Deed] = &[
+    Loader,
+    Loader,
+    Delegate(1, Object),
+    Delegate(1, A),
+    Define(1, M),
+    Define(1, R),
+    Delegate(2, Object),
+    Delegate(2, A),
+    Define(2, M),
+    Define(2, C),
+    Find(1, C, 2),
+    Find(2, R, 1),
+    Request(4, 0),
+    Request(6, 0),
+    Install(7),
+];
+
+/// Both go at once. Their sites are misses, and so is the site that had their classes in its table; a caller that nobody told learns it by a
+/// call. The entry is the event.
+const BOTH: &[Line] = &[
+    First(DoesAll(ONE_SITE)),
+    First(DoesAll(OF_EACH_OTHER)),
+    Second(Calls(0, Some(5), Runs(5))),
+    Second(Calls(1, Some(7), Runs(7))),
+    Second(Calls(2, Some(1), Runs(1))),
+    Second(HasSeen(21)),
+    First(Does(RetireAll(&[2, 1]))),
+    Second(Calls(0, Some(1), Misses)),
+    Second(Calls(1, Some(1), Misses)),
+    Second(Calls(2, Some(1), Misses)),
+    Second(HasSeen(22)),
+    Second(IsToldAs(
+        21,
+        "Entry { event: RetireAll(Seq { items: [LoaderId(2), LoaderId(1)] }), reply: Reply { made: Nothing, dropped: Seq { items: [SiteNo(0), SiteNo(1), SiteNo(2)] } } }",
+    )),
+    Asks(0, 1, Runs(1)),
+    Asks(0, 5, IsNoReceiver),
+    Asks(0, 7, IsNoReceiver),
+    Asks(1, 1, IsGone),
+    Asks(2, 1, IsGone),
+    Second(Lists(&[])),
+    First(Does(Install(1))),
+    Second(Lists(&[0])),
+    Second(Calls(0, Some(2), Runs(1))),
+];
+
+/// The same of M 12 and R 13 by loader 1, M 14 and C 15 by loader 2, beside megamorphic links.
+const BESIDE_EACH_OTHER: &[Deed] = &[
+    Loader,
+    Loader,
+    Delegate(1, Object),
+    Delegate(1, A),
+    Define(1, M),
+    Define(1, R),
+    Delegate(2, Object),
+    Delegate(2, A),
+    Define(2, M),
+    Define(2, C),
+    Find(1, C, 2),
+    Find(2, R, 1),
+    Request(12, 0),
+    Request(14, 0),
+    Install(6),
+];
+
+/// Once both are gone, their sites are misses, and their classes no receivers, though the memo has what it remembered.
+const BOTH_REMEMBERED: &[Line] = &[
+    First(DoesAll(MEGAMORPHIC)),
+    First(DoesAll(BESIDE_EACH_OTHER)),
+    IsLearned(13, 13),
+    IsLearned(15, 15),
+    AsksWith(1, 4, Runs(4)),
+    AsksWith(2, 5, Runs(5)),
+    CallsWith(1, Some(4), Runs(4)),
+    CallsWith(2, Some(5), Runs(5)),
+    First(Does(RetireAll(&[1, 2]))),
+    CallsWith(1, Some(4), Misses),
+    CallsWith(2, Some(5), Misses),
+    Has(1, 4, 4),
+    Has(2, 5, 5),
+    Asks(1, 4, IsGone),
+    Asks(2, 5, IsGone),
+    CallsWith(0, Some(13), Runs(13)),
+    CallsWith(0, Some(15), Runs(15)),
+    Asks(0, 13, IsNoReceiver),
+    Asks(0, 15, IsNoReceiver),
+];
+
 /// A server that has no entries forgets, then one whose last entry made switch point 0, and then one that has two more switch points, of
 /// which the last one is 2. All but the last entry are forgotten each time. Links, calls, snapshots and receipts are as if it had forgotten
 /// nothing. The definition of C 4 drops the link, and the site is installed again.
@@ -266,6 +357,8 @@ pub(crate) const ROWS: &[Row] = &[
     Row(4, LISTED),
     Row(4, REMEMBERED),
     Row(64, RETIRED),
+    Row(4, BOTH),
+    Row(64, BOTH_REMEMBERED),
     Row(4, FORGOTTEN),
     Row(4, GONE),
 ];

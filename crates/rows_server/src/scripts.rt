@@ -47,6 +47,8 @@ pub(crate) enum Act {
     HasLog(u64),
     /// It is told the entries after the first so many, which made the switch points of these numbers.
     IsTold(u64, &'static [u32]),
+    /// It is told one entry after the first so many, which prints so.
+    IsToldAs(u64, &'static str),
     /// It tells what it has seen.
     Tells,
     /// It learns what is told, and waits until there is something.
