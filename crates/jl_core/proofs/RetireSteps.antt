@@ -17,9 +17,10 @@ use Rattle.jl_cache.specs.Links.{link_at}
 use Rattle.jl_deps.specs.Indexes.{footprint_at, touched_by, AreRising}
 use Rattle.jl_settle.specs.Settling.{AreUpToDate, HasChanged, most_asked}
 use Rattle.jl_events.specs.Accepted.{Accepted, event_of}
+use Rattle.jl_events.specs.Changes.{class_of}
 use Rattle.jl_events.proofs.InstallCounts.{no_more, few_by}
 use Rattle.jl_core.specs.ForProofs.Changes.{AreScratch, retires_at}
-use Rattle.jl_core.specs.ForProofs.Steps.{IsRetirement, one, all, AreGone, AreRetired, HasStepped, most_told}
+use Rattle.jl_core.specs.ForProofs.Steps.{IsRetirement, of_one, of_several, AreGone, AreRetired, HasStepped, most_told}
 use Rattle.jl_core.specs.ForProofs.Touched.{has}
 use Rattle.jl_core.proofs.RetireLaws.{retires_so, retired_then, dropped_all, taken_all, lost_all, links_left, index_left}
 use Rattle.jl_core.proofs.RetireLaws.{kept_left, touched_left, few_in_sum, lost_or_gone}
@@ -36,25 +37,29 @@ has_both s (x ∷ xs) ys = ap (λ (b : Bool). (x == s) || b) (has_both s xs ys) 
 -- ---- what is retired, by what the log keeps
 
 retires_same : (told : Accepted) (loaders : List ℕ) → IsRetirement told loaders → (v : World) (s : ℕ) → retires_at v told s ≡ retires_site v loaders s
-retires_same told loaders (one loader) v s = refl
-retires_same told loaders (all ls) v s = refl
+retires_same told loaders (of_one loader) v s = refl
+retires_same told loaders (of_several ls) v s = refl
+
+no_class : (told : Accepted) (loaders : List ℕ) → IsRetirement told loaders → None ≡ class_of told
+no_class told loaders (of_one loader) = refl
+no_class told loaders (of_several ls) = refl
 
 retires_before : (told : Accepted) (loaders : List ℕ) → IsRetirement told loaders → (rows : List Class) (e : Event) → event_of rows told ≡ Some e
     → (v : World) (s : ℕ) → retires_site (step v e) loaders s ≡ retires_at v told s
-retires_before told loaders (one loader) rows e tells v s =
+retires_before told loaders (of_one loader) rows e tells v s =
     ap (λ (e : Event). retires_site (step v e) (loader ∷ []) s) (sym (same_Some (event.Retire loader) e tells))
-retires_before told loaders (all ls) rows e tells v s =
+retires_before told loaders (of_several ls) rows e tells v s =
     ap (λ (e : Event). retires_site (step v e) ls s) (sym (same_Some (event.RetireAll ls) e tells))
 
 installs_none : (told : Accepted) (loaders : List ℕ) → IsRetirement told loaders → (rows : List Class) (e : Event) → event_of rows told ≡ Some e
     → (s : ℕ) → installs s e ≡ false
-installs_none told loaders (one loader) rows e tells s = ap (installs s) (sym (same_Some (event.Retire loader) e tells))
-installs_none told loaders (all ls) rows e tells s = ap (installs s) (sym (same_Some (event.RetireAll ls) e tells))
+installs_none told loaders (of_one loader) rows e tells s = ap (installs s) (sym (same_Some (event.Retire loader) e tells))
+installs_none told loaders (of_several ls) rows e tells s = ap (installs s) (sym (same_Some (event.RetireAll ls) e tells))
 
 told_of_left : (told : Accepted) (loaders : List ℕ) → IsRetirement told loaders → (w : World) (index : List (ℕ × List Key)) (ks : List Key)
     → most_told w told index ks ≡ sum_by (most_for w) (filter (λ s. not (retires_site w loaders s)) (touched_by index ks))
-told_of_left told loaders (one loader) w index ks = refl
-told_of_left told loaders (all ls) w index ks = refl
+told_of_left told loaders (of_one loader) w index ks = refl
+told_of_left told loaders (of_several ls) w index ks = refl
 
 module _ (w : World) (ks : List Key) (told : Accepted) (loaders : List ℕ) (is : IsRetirement told loaders) (links : List (ℕ × Link))
     (index : List (ℕ × List Key))
@@ -70,11 +75,17 @@ module _ (w : World) (ks : List Key) (told : Accepted) (loaders : List ℕ) (is 
       (left : List (ℕ × Link)) (near : List (ℕ × List Key)) (rising : AreRising near)
       (dropped : (s : ℕ) → link_at left s ≡ (if has s sites then None else link_at links s))
       (taken : (s : ℕ) → footprint_at near s ≡ (if has s sites then None else footprint_at index s)) where
+    only : (s : ℕ) → has s sites ≡ true → retires_site w loaders s ≡ true
+    only s listed = sym (retires_same told loaders is w s) ∙ gone.only s listed
+
+    linked : (s : ℕ) (l : Link) → link_at links s ≡ Some l → retires_site w loaders s ≡ true → has s sites ≡ true
+    linked s l at goes = gone.linked s l at (retires_same told loaders is w s ∙ goes)
+
     dropped_so : (s : ℕ) → link_at left s ≡ (if retires_site w loaders s then None else link_at links s)
-    dropped_so s = dropped s ∙ dropped_all links (retires_site w loaders) sites gone.only gone.linked s
+    dropped_so s = dropped s ∙ dropped_all links (retires_site w loaders) sites only linked s
 
     taken_so : (s : ℕ) → footprint_at near s ≡ (if retires_site w loaders s then None else footprint_at index s)
-    taken_so s = taken s ∙ taken_all links (retires_site w loaders) sites gone.only gone.linked s led.before index led.sound.indexed
+    taken_so s = taken s ∙ taken_all links (retires_site w loaders) sites only linked s led.before index led.sound.indexed
 
     dropped_then : (s : ℕ) → link_at left s ≡ (if retires_at led.before told s then None else link_at links s)
     dropped_then s = dropped_so s ∙ ap (λ (b : Bool). if b then None else link_at links s) (same_site s)
@@ -93,7 +104,7 @@ module _ (w : World) (ks : List Key) (told : Accepted) (loaders : List ℕ) (is 
           retires_so led.before w.classes.rows led.event s told led.tells
           ∙ (links_left led.before told links left index near dropped_then taken_then s l linked).0;
       keys_are = led.keys_are;
-      defined_is = led.class_is ∙ defined_so led.before led.event;
+      defined_is = no_class told loaders is ∙ led.class_is ∙ defined_so led.before led.event;
       scratch = λ s l linked. led.sound.scratch s l (links_left led.before told links left index near dropped_then taken_then s l linked).1;
       index_is = index_left led.before told links left index near dropped_then taken_then led.sound.indexed;
     }
@@ -133,7 +144,7 @@ module _ (w : World) (ks : List Key) (told : Accepted) (loaders : List ℕ) (is 
       index = settled.index;
       lost = λ s.
           has_both s first lost
-          ∙ (λ i. (first_are s ∙ lost_all links (retires_site w loaders) sites gone.only gone.linked s) i || settled.lost s i)
+          ∙ (λ i. (first_are s ∙ lost_all links (retires_site w loaders) sites only linked s) i || settled.lost s i)
           ∙ lost_or_gone (retires_site w loaders s) (link_at links s) (link_at left s) (after s) (scratch w s) (dropped_so s) (settled.links s);
     }
 

@@ -31,7 +31,7 @@ use Rattle.jl_events.specs.Changes as changes
 use Rattle.jl_events.proofs.ChangeLaws.{rows_free}
 use Rattle.jl_events.proofs.InstallCounts.{few_of_range}
 use Rattle.jl_core.specs.ForProofs.Changes.{installs_at, retires_at, lost}
-use Rattle.jl_core.specs.ForProofs.Steps.{IsRetirement, one, all, IsSound, HasStepped, most_to_settle, most_told}
+use Rattle.jl_core.specs.ForProofs.Steps.{IsRetirement, of_one, of_several, IsSound, HasStepped, most_to_settle, most_told}
 use Rattle.jl_core.specs.ForProofs.Touched.{has, AreTouched}
 use Rattle.jl_core.proofs.KeptLaws.{kept_once}
 use Rattle.jl_core.proofs.InstallLaws.{install_keeps}
@@ -130,8 +130,8 @@ no_retired w s event.NewSwitch other = refl
 no_retired w s (event.Invalidate points) other = refl
 no_retired w s (event.Bind site c) other = refl
 no_retired w s (event.Install rows) other = refl
-no_retired w s (event.Retire loader) other = absurd (other (loader ∷ []) (one loader))
-no_retired w s (event.RetireAll loaders) other = absurd (other loaders (all loaders))
+no_retired w s (event.Retire loader) other = absurd (other (loader ∷ []) (of_one loader))
+no_retired w s (event.RetireAll loaders) other = absurd (other loaders (of_several loaders))
 
 -- the event is no retirement where the log keeps none
 module _ (rows : List Class) (e : Event) where
@@ -153,8 +153,8 @@ module _ (rows : List Class) (e : Event) where
   not_retirement (event.Invalidate points) is other = as_no (event.Invalidate points) is refl
   not_retirement (event.Bind site c) is other = as_no (event.Bind site c) is refl
   not_retirement (event.Install links) is other = as_no (event.Install links) is refl
-  not_retirement (event.Retire loader) is other = absurd (other (loader ∷ []) (one loader))
-  not_retirement (event.RetireAll loaders) is other = absurd (other loaders (all loaders))
+  not_retirement (event.Retire loader) is other = absurd (other (loader ∷ []) (of_one loader))
+  not_retirement (event.RetireAll loaders) is other = absurd (other loaders (of_several loaders))
 
 -- how many evaluations it takes is told by the event
 module _ (old new : World) (index : List (ℕ × List Key)) (e : Event) (ks : List Key) (step_is : new ≡ events.step old e) (keys_are : ks ≡ keys old e) where
@@ -237,8 +237,8 @@ module _ (w : World) (ks : List Key) (told : Accepted) (links : List (ℕ × Lin
       by_told (event.Invalidate points) other = refl
       by_told (event.Bind site c) other = refl
       by_told (event.Install rows) other = refl
-      by_told (event.Retire loader) other = absurd (other (loader ∷ []) (one loader))
-      by_told (event.RetireAll loaders) other = absurd (other loaders (all loaders))
+      by_told (event.Retire loader) other = absurd (other (loader ∷ []) (of_one loader))
+      by_told (event.RetireAll loaders) other = absurd (other loaders (of_several loaders))
 
   pub fits : (work : ℕ) → work ≤ 268435456 → work + length (touched_by index ks) < 2 ^ 64
   fits work small =
@@ -315,5 +315,5 @@ module _ (w : World) (ks : List Key) (told : Accepted) (links : List (ℕ × Lin
 -- neither of the events that retire loaders is none that does
 pub no_retirement : (told : Accepted) → ((loader : ℕ) → told ≡ event.Retire loader → ⊥) → ((loaders : List ℕ) → told ≡ event.RetireAll loaders → ⊥)
     → (loaders : List ℕ) → IsRetirement told loaders → ⊥
-no_retirement told not_one not_all loaders (one loader) = not_one loader refl
-no_retirement told not_one not_all loaders (all ls) = not_all ls refl
+no_retirement told not_one not_all loaders (of_one loader) = not_one loader refl
+no_retirement told not_one not_all loaders (of_several ls) = not_all ls refl

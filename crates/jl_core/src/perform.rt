@@ -1,6 +1,6 @@
 //! What an accepted event changes: the world, the installed links, their index and the log. Nothing is judged here.
 
-ghost use Rattle.std.specs.Prelude.{◌≡◌, ◌<◌, ◌^◌, ◌+◌, ◌≤◌, ◌++◌, ◌∷◌, [], List, false, length, IfOk, OnOk};
+ghost use Rattle.std.specs.Prelude.{◌≡◌, ◌<◌, ◌^◌, ◌+◌, ◌≤◌, ◌++◌, ◌∷◌, [], List, false, length, IfOk, OnOk, ℕ};
 ghost use Rattle.jl_types.specs.declared.event.EventOf.TheVariants as events;
 ghost use Rattle.jl_types.specs.declared.key.Key as keys;
 ghost use Rattle.jl_cache.specs.Links.{link_at};

@@ -51,8 +51,8 @@ pub record AreGone (w : World) (told : Accepted) (links : List (ℕ × Link)) (s
 
 -- The event retires these loaders, and no others.
 pub data IsRetirement : Accepted → List ℕ → Type 0 where
-  one : (loader : ℕ) → IsRetirement (variant.Retire loader) (loader ∷ [])
-  all : (loaders : List ℕ) → IsRetirement (variant.RetireAll loaders) loaders
+  of_one : (loader : ℕ) → IsRetirement (variant.Retire loader) (loader ∷ [])
+  of_several : (loaders : List ℕ) → IsRetirement (variant.RetireAll loaders) loaders
 
 -- what the index says of how many evaluations the event takes that retires the loaders: those of the sites that are left
 abbrev pub most_left : World → List (ℕ × List Key) → Event → List ℕ → ℕ

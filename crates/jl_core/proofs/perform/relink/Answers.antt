@@ -5,7 +5,7 @@ use Rattle.jl_cache.specs.Links.{link_at}
 use Rattle.jl_settle.specs.Settling.{AreUpToDate}
 use Rattle.jl_events.specs.Accepted.{Accepted}
 use Rattle.jl_core.specs.ForProofs.Changes.{installs_at}
-use Rattle.jl_core.specs.ForProofs.Steps.{IsRetirement, one, all, HasStepped}
+use Rattle.jl_core.specs.ForProofs.Steps.{IsRetirement, of_one, of_several, HasStepped}
 use Rattle.jl_core.proofs.StepLaws.{no_retirement, has_changed, fits_so, ticks_so, up_to_date_so}
 use Rattle.jl_core.proofs.perform.relink.Goals as goal
 
@@ -47,11 +47,23 @@ returns-in_ok-lost-in_default-clause-up_to_date c =
 pub retire_links-requires-clause-is : goal.retire_links-requires-clause-is
 retire_links-requires-clause-is c = (
   c.in-Retire.field-0 ∷ [],
-  subst (λ (told : Accepted). IsRetirement told (c.in-Retire.field-0 ∷ [])) (sym c.in-Retire.is) (one c.in-Retire.field-0),
+  subst (λ (told : Accepted). IsRetirement told (c.in-Retire.field-0 ∷ [])) (sym c.in-Retire.is) (of_one c.in-Retire.field-0),
 )
 
-pub retire_links-in-RetireAll-requires-clause-is : goal.retire_links-in-RetireAll-requires-clause-is
-retire_links-in-RetireAll-requires-clause-is c = (
+pub retire_links-requires-in-RetireAll-clause-is : goal.retire_links-requires-in-RetireAll-clause-is
+retire_links-requires-in-RetireAll-clause-is c = (
   c.in-RetireAll.field-0,
-  subst (λ (told : Accepted). IsRetirement told c.in-RetireAll.field-0) (sym c.in-RetireAll.is) (all c.in-RetireAll.field-0),
+  subst (λ (told : Accepted). IsRetirement told c.in-RetireAll.field-0) (sym c.in-RetireAll.is) (of_several c.in-RetireAll.field-0),
 )
+
+pub returns-in_ok-lost-in-Retire-clause-up_to_date : goal.returns-in_ok-lost-in-Retire-clause-up_to_date
+returns-in_ok-lost-in-Retire-clause-up_to_date c =
+    subst (λ (told : Accepted). AreUpToDate c.args.world.now (λ s. installs_at s told) (link_at c.args.links.now) (link_at c.retire_links.new.links)
+    c.retire_links.new.index c.in_ok-lost-in-Retire.lost.items)
+    (sym c.in-Retire.is) c.in_ok-lost-in-Retire.ensures.up_to_date
+
+pub returns-in_ok-lost-in-RetireAll-clause-up_to_date : goal.returns-in_ok-lost-in-RetireAll-clause-up_to_date
+returns-in_ok-lost-in-RetireAll-clause-up_to_date c =
+    subst (λ (told : Accepted). AreUpToDate c.args.world.now (λ s. installs_at s told) (link_at c.args.links.now) (link_at c.retire_links-in-RetireAll.new.links)
+    c.retire_links-in-RetireAll.new.index c.in_ok-lost-in-RetireAll.lost.items)
+    (sym c.in-RetireAll.is) c.in_ok-lost-in-RetireAll.ensures.up_to_date
