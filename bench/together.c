@@ -67,7 +67,7 @@ static void write_caller(const char *name) {
     put_text(name), put(7, 1), put(1, 2), put_text("java/lang/Object"), put(7, 1), put(3, 2), put_text("m"), put_text("()V");
     put_text("Code"), put(12, 1), put(5, 2), put(6, 2), put(10, 1), put(4, 2), put(8, 2);
     for (int method = 0; method < METHODS; method++) {
-        char text[3] = {'r', (char)('A' + method), 0};
+        char text[3] = {(char)('a' + method / 16), (char)('a' + method % 16), 0};
         put_text(text);
     }
     put(0x21, 2), put(2, 2), put(4, 2), put(0, 2), put(0, 2), put(METHODS, 2);
@@ -81,10 +81,9 @@ static void write_caller(const char *name) {
 
 /* ---- the linker */
 
+/* The milliseconds that this process has had a processor. */
 static double milliseconds(void) {
-    struct timespec time;
-    clock_gettime(CLOCK_MONOTONIC, &time);
-    return (double)time.tv_sec * 1e3 + (double)time.tv_nsec / 1e6;
+    return (double)clock() * 1e3 / CLOCKS_PER_SEC;
 }
 
 static void install_all(linkd *at, uint32_t count) {
