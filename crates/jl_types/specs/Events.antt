@@ -2,6 +2,7 @@
 pub mod Limits
 pub mod Definitions
 pub mod Retirement
+pub mod Release
 pub mod Batches
 pub mod Event
 pub mod Verdict

@@ -51,7 +51,7 @@ pub enum Unlinked {
     NotReady(Missing),
     /// An invokedynamic to which no call site is bound.
     Unbound,
-    /// The site's class is retired.
+    /// The site's class is retired, or the call site to which it is bound is released.
     Gone,
     /// No place was requested under this number.
     NoSite,

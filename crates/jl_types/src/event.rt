@@ -39,6 +39,9 @@ pub enum EventOf<D, I> {
     /// The loaders go at once, with the classes that they have defined and the sites in them. What only one of them needs of
     /// another holds none back. One that comes twice goes once; where there are none, nothing changes.
     RetireAll(Seq<LoaderId>),
+    /// The call sites and the switch points go at once, and what the targets of these call sites name is theirs no more. Sites that are
+    /// bound to one of them have no link any more. One that comes twice goes once; where there are none, nothing changes.
+    Release(Seq<CallSiteId>, Seq<SwitchId>),
 }
 
 /// What changes the classes, sites and links: a definition carries the file of the class, an install the sites with their

@@ -56,7 +56,7 @@ pub use loader_id::LoaderId;
 pub use never_linked::{is_polymorphic, names_array};
 pub use refusal::{
     CallSiteFault, DefineFault, DelegateFault, NotLinkable, OrMemory, PrepareFault, Refusal,
-    RetireFault, SitesFault,
+    ReleaseFault, RetireFault, SitesFault,
 };
 pub use site_no::SiteNo;
 pub use switch_id::SwitchId;

@@ -9,6 +9,7 @@ use crate::class_id::ClassId;
 use crate::link::Link;
 use crate::loader_id::LoaderId;
 use crate::site_no::SiteNo;
+use crate::switch_id::SwitchId;
 use jl_names::Name;
 use std::alloc::{AllocError, AllocFailed};
 use std::fmt::Display;
@@ -83,10 +84,27 @@ pub enum RetireFault {
     Targeted(CallSiteId),
 }
 
+/// Why call sites and switch points aren't let go.
+#[derive(Clone, Copy, Debug, PartialEq, Eq, Error)]
+pub enum ReleaseFault {
+    /// There is no such call site, or it is released. It is the first one of the list.
+    #[error("Release.UnknownCallSite")]
+    UnknownCallSite(CallSiteId),
+    /// There is no such switch point, or it is released. It is the first one of the list.
+    #[error("Release.UnknownSwitch")]
+    UnknownSwitch(SwitchId),
+    /// The target of this call site, which stays, invokes one of the call sites, be it on a side that isn't taken. It is the least such.
+    #[error("Release.Invoked")]
+    Invoked(CallSiteId),
+    /// The target of this call site, which stays, guards by one of the switch points, be it on a side that isn't taken. It is the least such.
+    #[error("Release.Guarded")]
+    Guarded(CallSiteId),
+}
+
 /// Why a call site or a switch point isn't made or changed (java.lang.invoke).
 #[derive(Clone, Copy, Debug, PartialEq, Eq, Error)]
 pub enum CallSiteFault {
-    /// There is no such call site.
+    /// There is no such call site, or it is released.
     #[error("CallSite.UnknownCallSite")]
     UnknownCallSite,
     /// A constant call site keeps its target (UnsupportedOperationException).
@@ -101,7 +119,7 @@ pub enum CallSiteFault {
     /// The method isn't static.
     #[error("CallSite.NotStatic")]
     NotStatic,
-    /// There is no such switch point.
+    /// There is no such switch point, or it is released.
     #[error("CallSite.UnknownSwitch")]
     UnknownSwitch,
     /// The target is deeper than 64, or has more than 255 parts.
@@ -212,6 +230,9 @@ pub enum Refusal {
         /// Why it can't.
         fault: RetireFault,
     },
+    /// Call sites and switch points aren't let go.
+    #[error("{0}")]
+    Release(ReleaseFault),
 }
 
 /// Why the sites of a batch aren't taken, be they prepared or installed.

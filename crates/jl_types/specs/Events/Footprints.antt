@@ -16,7 +16,7 @@ use Rattle.jl_types.specs.declared.answer.Outcome.TheVariants.{Run, Throws}
 use Rattle.jl_types.specs.declared.link.Link.{Link}
 use Rattle.jl_types.specs.declared.link.Link.TheVariants.{Fault, Plain, Direct, Table, Mega}
 use Rattle.jl_types.specs.Linkage.Links.{runs}
-use Rattle.jl_types.specs.Values.World.{World, Classes, Sites}
+use Rattle.jl_types.specs.Values.World.{World, Classes, Sites, unreleased}
 use Rattle.jl_types.specs.Values.Target.{Target, Method, Guard, Invoker}
 use Rattle.jl_types.specs.Values.Members.{is_concrete, is_private, is_present}
 use Rattle.jl_types.specs.Values.Ancestry.{ancestors, receivers}
@@ -70,13 +70,13 @@ way_by sites ways (Invoker c) = ways c
 abbrev pub way_below : Sites → ℕ → ℕ → List Key
 way_below sites zero c = []
 way_below sites (suc n) c =
-    if n == c then key.Target c ∷ option_map_or (λ site. way_by sites (way_below sites n) site.target) (slice_get sites.call_sites c) []
+    if n == c then key.Target c ∷ option_map_or (λ site. way_by sites (way_below sites n) site.target) (unreleased sites.call_sites c) []
     else way_below sites n c
 
 -- what an evaluation of call site c comes by, in order: call sites and valid points
 abbrev pub path : Sites → ℕ → List Key
 path sites c =
-    key.Target c ∷ option_map_or (λ site. way_by sites (way_below sites c) site.target) (slice_get sites.call_sites c) []
+    key.Target c ∷ option_map_or (λ site. way_by sites (way_below sites c) site.target) (unreleased sites.call_sites c) []
 
 abbrev pub call_site_in : Key → Option ℕ
 call_site_in (key.Target c) = Some c
@@ -134,6 +134,7 @@ keys w (event.SetTarget c t) = key.Target c ∷ []
 keys w (event.Invalidate points) = map key.Valid (still_valid w.sites points)
 keys w (event.Retire loader) = map key.Receivers (losing_receivers w.classes (loader ∷ []))
 keys w (event.RetireAll loaders) = map key.Receivers (losing_receivers w.classes loaders)
+keys w (event.Release call_sites points) = map key.Target call_sites
 keys w _ = []
 
 -- the event changes something of what the link of site s rests on

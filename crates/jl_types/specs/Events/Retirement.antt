@@ -38,6 +38,10 @@ abbrev pub records_from : Classes → List ℕ → ℕ → ℕ → Bool
 records_from cs loaders loader k =
     not (is_listed loaders k) && option_map_or (list_any (λ r. is_of cs loader r.1)) (slice_get cs.loaders k) false
 
+-- the call site isn't released, and its target is such a one
+abbrev pub has_target : (Target → Bool) → Option CallSite → Bool
+has_target test row = option_map_or (λ site. test site.target) row false
+
 -- the target names a method of a class of the loader, be it on a side that isn't taken
 abbrev pub names_from : Classes → ℕ → Target → Bool
 names_from cs loader (Method m) = is_of cs loader m.class
@@ -54,8 +58,8 @@ classes_fault cs loaders loader = first_of (
     ∷ [])
 
 -- the least call site with such a target
-abbrev pub targeted : Classes → List CallSite → ℕ → Option ℕ
-targeted cs call_sites loader = position (λ site. names_from cs loader site.target) call_sites
+abbrev pub targeted : Classes → List (Option CallSite) → ℕ → Option ℕ
+targeted cs call_sites loader = position (has_target (names_from cs loader)) call_sites
 
 -- the first fault
 abbrev pub retire_fault : World → List ℕ → ℕ → Option RetireFault

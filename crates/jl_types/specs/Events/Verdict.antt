@@ -26,9 +26,9 @@ use Rattle.jl_types.specs.declared.refusal.SitesFault.TheVariants as sites
 use Rattle.jl_types.specs.declared.refusal.Refusal.{Refusal}
 use Rattle.jl_types.specs.declared.refusal.Refusal.TheVariants.{Define, UnknownClass, NoSuchPlace, NotLinkable, SitesFull, CallSite, NotDynamic}
 use Rattle.jl_types.specs.declared.refusal.Refusal.TheVariants.{AlreadyBound, TypeMismatch, Stale, NotReady, UnknownSite, Repeated, BatchSize}
-use Rattle.jl_types.specs.declared.refusal.Refusal.TheVariants.{Delegate, LoadersFull, Retire, RetireAll}
+use Rattle.jl_types.specs.declared.refusal.Refusal.TheVariants.{Delegate, LoadersFull, Retire, RetireAll, Release}
 use Rattle.jl_types.specs.Linkage.Links.{same_link}
-use Rattle.jl_types.specs.Values.World.{World, Classes, CallSite as CallSiteRow}
+use Rattle.jl_types.specs.Values.World.{World, Classes, CallSite as CallSiteRow, unreleased, is_missing}
 use Rattle.jl_types.specs.Values.Target.{Target}
 use Rattle.jl_types.specs.Linkage.Resolution.{first_of}
 use Rattle.jl_types.specs.Linkage.Targets.{target_fault}
@@ -38,6 +38,7 @@ use Rattle.jl_types.specs.Linkage.Links.{scratch}
 use Rattle.jl_types.specs.Events.Batches.{is_bad_size, sites_fault}
 use Rattle.jl_types.specs.Events.Definitions.{define_fault, defined, delegate_fault, delegated}
 use Rattle.jl_types.specs.Events.Retirement.{retire_fault, retired}
+use Rattle.jl_types.specs.Events.Release.{release_fault, released_from}
 
 -- the first refusal, else what the event gives a number to
 abbrev pub unless : Option Refusal → Made → Result Made Refusal
@@ -103,14 +104,14 @@ set_target_fault w c None t = Some fault.UnknownCallSite
 set_target_fault w c (Some site) t = if is_constant site.kind then Some fault.Constant else target_fault w c site.ty t
 
 abbrev pub invalidate_fault : World → List ℕ → Option CallSiteFault
-invalidate_fault w points = then_some (list_any (nat_le (length w.sites.switches)) points) fault.UnknownSwitch
+invalidate_fault w points = then_some (list_any (is_missing w.sites.switches) points) fault.UnknownSwitch
 
-abbrev pub retargeted : List CallSiteRow → ℕ → Target → List CallSiteRow
+abbrev pub retargeted : List (Option CallSiteRow) → ℕ → Target → List (Option CallSiteRow)
 retargeted sites c t =
-    option_map_or (λ site. slice_set sites c (record site { target = t })) (slice_get sites c) sites
+    option_map_or (λ site. slice_set sites c (Some (record site { target = t }))) (unreleased sites c) sites
 
-abbrev pub invalidated : List Bool → List ℕ → List Bool
-invalidated switches points = fold (λ left p. slice_set left p false) switches points
+abbrev pub invalidated : List (Option Bool) → List ℕ → List (Option Bool)
+invalidated switches points = fold (λ left p. slice_set left p (Some false)) switches points
 
 -- ---- a binding
 
@@ -122,7 +123,7 @@ abbrev pub operand_fault : World → ℕ → ℕ → Operand (List ℕ) → Opti
 operand_fault w s c (operand.Method ref) = Some NotDynamic
 operand_fault w s c (operand.CallSite specifier) = first_of (
     option_map AlreadyBound (bound_to w s)
-    ∷ type_fault specifier.ty (slice_get w.sites.call_sites c)
+    ∷ type_fault specifier.ty (unreleased w.sites.call_sites c)
     ∷ [])
 
 abbrev pub bind_at : World → ℕ → ℕ → Option Site → Option Refusal
@@ -179,7 +180,7 @@ verdict limits w (event.Request place) = request_at limits w place
 verdict limits w (event.NewCallSite kind ty t) =
     unless (option_map CallSite (new_call_site_fault limits.call_sites w ty t)) (made.CallSite (length w.sites.call_sites))
 verdict limits w (event.SetTarget c t) =
-    unless (option_map CallSite (set_target_fault w c (slice_get w.sites.call_sites c) t)) made.Nothing
+    unless (option_map CallSite (set_target_fault w c (unreleased w.sites.call_sites c) t)) made.Nothing
 verdict limits w event.NewSwitch =
     unless (then_some (nat_le limits.switches (length w.sites.switches)) (CallSite fault.Full))
     (made.Switch (length w.sites.switches))
@@ -188,16 +189,17 @@ verdict limits w (event.Bind s c) = unless (bind_fault w s c (slice_get w.places
 verdict limits w (event.Install rows) = unless (install_fault w rows) made.Nothing
 verdict limits w (event.Retire loader) = unless (option_map Retire (retire_fault w (loader ∷ []) loader)) made.Nothing
 verdict limits w (event.RetireAll loaders) = unless (retire_all_fault w loaders) made.Nothing
+verdict limits w (event.Release call_sites points) = unless (option_map Release (release_fault w.sites call_sites points)) made.Nothing
 
 -- ---- the world after an event
 
 abbrev pub with_classes : World → Classes → World
 with_classes w cs = record w { classes = cs }
 
-abbrev pub with_call_sites : World → List CallSiteRow → World
+abbrev pub with_call_sites : World → List (Option CallSiteRow) → World
 with_call_sites w call_sites = record w { sites = record w.sites { call_sites = call_sites } }
 
-abbrev pub with_switches : World → List Bool → World
+abbrev pub with_switches : World → List (Option Bool) → World
 with_switches w switches = record w { sites = record w.sites { switches = switches } }
 
 abbrev pub step : World → Event → World
@@ -206,11 +208,12 @@ step w (event.Define loader file) = with_classes w (defined w.classes loader fil
 step w (event.Delegate loader name to) = with_classes w (delegated w.classes loader name to)
 step w (event.Request place) = record w { places = requested w.places place }
 step w (event.NewCallSite kind ty t) =
-    with_call_sites w (w.sites.call_sites ++ record { kind = kind; ty = ty; target = t } ∷ [])
+    with_call_sites w (w.sites.call_sites ++ Some (record { kind = kind; ty = ty; target = t }) ∷ [])
 step w (event.SetTarget c t) = with_call_sites w (retargeted w.sites.call_sites c t)
-step w event.NewSwitch = with_switches w (w.sites.switches ++ true ∷ [])
+step w event.NewSwitch = with_switches w (w.sites.switches ++ Some true ∷ [])
 step w (event.Invalidate points) = with_switches w (invalidated w.sites.switches points)
 step w (event.Bind s c) = record w { bindings = w.bindings ++ (s, c) ∷ [] }
 step w (event.Install rows) = w
 step w (event.Retire loader) = with_classes w (retired w.classes (loader ∷ []))
 step w (event.RetireAll loaders) = with_classes w (retired w.classes loaders)
+step w (event.Release call_sites points) = record w { sites = released_from w.sites call_sites points }

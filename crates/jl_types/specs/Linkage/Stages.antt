@@ -14,7 +14,7 @@ use Rattle.jl_types.specs.declared.answer.ResolveAnswer.{ResolveAnswer}
 use Rattle.jl_types.specs.declared.answer.ResolveAnswer.TheVariants as resolve
 use Rattle.jl_types.specs.declared.answer.Unlinked.{Unlinked}
 use Rattle.jl_types.specs.declared.answer.Unlinked.TheVariants.{NotReady, Unbound, Gone, NoSite}
-use Rattle.jl_types.specs.Values.World.{World, Classes}
+use Rattle.jl_types.specs.Values.World.{World, Classes, Sites}
 use Rattle.jl_types.specs.Values.Members.{is_present, method_at, is_static}
 use Rattle.jl_types.specs.Linkage.Resolution.{Resolved, resolved}
 use Rattle.jl_types.specs.Linkage.Selection.{is_init}
@@ -67,17 +67,18 @@ by_resolution cs kind d ref (Err (resolve.NotReady missing)) = Waits (NotReady m
 by_resolution cs kind d ref (Err (resolve.Fault throwable)) = Fails throwable
 by_resolution cs kind d ref (Ok r) = by_kind cs kind d ref r
 
--- invokedynamic runs what the call site runs to which it is bound
+-- a call site that is released runs nothing
 abbrev pub by_method : Option MethodId → Stage
-by_method None = Waits Unbound
+by_method None = Waits Gone
 by_method (Some m) = Calls m
+
+-- invokedynamic runs what the call site runs to which it is bound
+abbrev pub by_binding : Sites → Option ℕ → Stage
+by_binding sites None = Waits Unbound
+by_binding sites (Some c) = by_method (method_of sites c)
 
 abbrev pub bound_to : World → ℕ → Option ℕ
 bound_to w s = option_map (λ b. b.1) (find (λ b. b.0 == s) w.bindings)
-
--- the method that the call site runs now to which s is bound
-abbrev pub bound_method : World → ℕ → Option MethodId
-bound_method w s = option_and_then (method_of w.sites) (bound_to w s)
 
 -- ---- a site
 
@@ -89,7 +90,7 @@ invocation_at cs place =
 
 abbrev pub by_operand : World → ℕ → ℕ → Kind → Operand (List ℕ) → Stage
 by_operand w s d kind (operand.Method ref) = by_resolution w.classes kind d ref (resolved w.classes d ref)
-by_operand w s d kind (operand.CallSite specifier) = by_method (bound_method w s)
+by_operand w s d kind (operand.CallSite specifier) = by_binding w.sites (bound_to w s)
 
 abbrev pub stage_of : World → ℕ → ℕ → Option Site → Stage
 stage_of w s d None = Waits NoSite

@@ -1,5 +1,5 @@
 -- What call sites run (java.lang.invoke: CallSite, SwitchPoint), and why a target isn't taken.
-use Rattle.std.specs.Prelude.{ℕ, zero, suc, ◌+◌, Bool, false, not, ◌&&◌, ◌||◌, ◌==◌, nat_lt, nat_le, List, [], ◌∷◌, length, slice_get, Option, Some}
+use Rattle.std.specs.Prelude.{ℕ, zero, suc, ◌+◌, Bool, false, not, ◌&&◌, ◌||◌, ◌==◌, nat_lt, nat_le, List, [], ◌∷◌, Option, Some}
 use Rattle.std.specs.Prelude.{None, option_and_then, if◌then◌else◌}
 use Rattle.std.specs.Bool.{then_some}
 use Rattle.std.specs.Option.{option_map_or}
@@ -7,14 +7,14 @@ use Rattle.std.specs.Str.{bytes_eq}
 use Rattle.jl_class.specs.Special.{begins_special}
 use Rattle.jl_types.specs.declared.ids.MethodId.{MethodId}
 use Rattle.jl_types.specs.declared.refusal.CallSiteFault.{CallSiteFault}
-use Rattle.jl_types.specs.declared.refusal.CallSiteFault.TheVariants.{UnknownMethod, NotStatic, WrongType, UnknownSwitch, TooDeep, InvokerOrder}
+use Rattle.jl_types.specs.declared.refusal.CallSiteFault.TheVariants.{UnknownCallSite, UnknownMethod, NotStatic, WrongType, UnknownSwitch, TooDeep, InvokerOrder}
 use Rattle.jl_types.specs.Values.Target.{Target, Method, Guard, Invoker, depth}
-use Rattle.jl_types.specs.Values.World.{World, Classes, Sites}
+use Rattle.jl_types.specs.Values.World.{World, Classes, Sites, unreleased, is_missing}
 use Rattle.jl_types.specs.Values.Members.{is_present, method_test, is_static}
 use Rattle.jl_types.specs.Linkage.Resolution.{first_of}
 
 abbrev pub is_valid : Sites → ℕ → Bool
-is_valid sites p = option_map_or (λ valid. valid) (slice_get sites.switches p) false
+is_valid sites p = option_map_or (λ valid. valid) (unreleased sites.switches p) false
 
 -- the method that a target stands for now, where these are what call sites run
 abbrev pub run_by : Sites → (ℕ → Option MethodId) → Target → Option MethodId
@@ -26,7 +26,7 @@ run_by sites runs (Invoker c) = runs c
 abbrev pub run_below : Sites → ℕ → ℕ → Option MethodId
 run_below sites zero c = None
 run_below sites (suc n) c =
-    if n == c then option_and_then (λ site. run_by sites (run_below sites n) site.target) (slice_get sites.call_sites c)
+    if n == c then option_and_then (λ site. run_by sites (run_below sites n) site.target) (unreleased sites.call_sites c)
     else run_below sites n c
 
 -- the method that a target of call site c stands for now, where an invoker stands for what an earlier call site runs
@@ -35,7 +35,7 @@ evaluated sites c t = run_by sites (run_below sites c) t
 
 -- the method that call site c runs now, if there is such a call site
 abbrev pub method_of : Sites → ℕ → Option MethodId
-method_of sites c = option_and_then (λ site. evaluated sites c site.target) (slice_get sites.call_sites c)
+method_of sites c = option_and_then (λ site. evaluated sites c site.target) (unreleased sites.call_sites c)
 
 -- ---- why a target isn't taken
 
@@ -53,7 +53,7 @@ is_of_type cs ty m = method_test (λ method. bytes_eq method.ty ty) cs m
 
 -- there is such a call site, and it is of this type
 abbrev pub invokes_type : Sites → List ℕ → ℕ → Bool
-invokes_type sites ty c = option_map_or (λ site. bytes_eq site.ty ty) (slice_get sites.call_sites c) false
+invokes_type sites ty c = option_map_or (λ site. bytes_eq site.ty ty) (unreleased sites.call_sites c) false
 
 -- of a target of call site c, of this type: a guard before its parts, the first part before the second; an invoker's call site comes
 -- before c
@@ -64,12 +64,13 @@ part_fault w c ty (Method m) = first_of (
     ∷ then_some (not (is_of_type w.classes ty m)) WrongType
     ∷ [])
 part_fault w c ty (Guard p first fallback) = first_of (
-    then_some (nat_le (length w.sites.switches) p) UnknownSwitch
+    then_some (is_missing w.sites.switches p) UnknownSwitch
     ∷ part_fault w c ty first
     ∷ part_fault w c ty fallback
     ∷ [])
 part_fault w c ty (Invoker d) = first_of (
     then_some (nat_le c d) (InvokerOrder d)
+    ∷ then_some (is_missing w.sites.call_sites d) UnknownCallSite
     ∷ then_some (not (invokes_type w.sites ty d)) WrongType
     ∷ [])
 
