@@ -15,7 +15,9 @@ use jl_hierarchy::Classes;
 use jl_names::LentName;
 use jl_pool::Reference;
 use jl_select::special;
-use jl_types::{Answer, ClassId, Missing, Outcome, Recv, SiteNo, TableKind, Throwable, Unlinked};
+use jl_types::{
+    Answer, CallSiteId, ClassId, Missing, Outcome, Recv, SiteNo, TableKind, Throwable, Unlinked,
+};
 
 /// The answer to a call (JVMS SE 17 §6.5). It looks at no link. Takes no memory.
 pub fn dispatch(world: &World, site: SiteNo, recv: Recv) -> Answer
