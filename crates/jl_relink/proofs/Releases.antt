@@ -27,13 +27,13 @@ or_both false b h = (refl, h)
 
 module _ (sites : Sites) (going points : List ℕ) (may : MayRelease sites going points) where
   -- a key of a way by none that goes
-  Stays : Key → Type 0
+  abbrev Stays : Key → Type 0
   Stays (key.Receivers c) = Unit {0}
   Stays (key.Target c) = is_listed going c ≡ false
   Stays (key.Valid p) = Unit {0}
 
   -- the point stays
-  IsFree : Key → Type 0
+  abbrev IsFree : Key → Type 0
   IsFree (key.Receivers c) = Unit {0}
   IsFree (key.Target c) = Unit {0}
   IsFree (key.Valid p) = is_listed points p ≡ false
@@ -71,7 +71,7 @@ module _ (sites : Sites) (going points : List ℕ) (may : MayRelease sites going
       by_row (Some site) at stay = free_part n earlier site.target (may.unguarded c site at stays) stay
 
   free_way : (n c : ℕ) → AllByRecursion Stays (way_below sites n c) → AllByRecursion IsFree (way_below sites n c)
-  free_way zero c stay = tt
+  free_way zero c = λ stay. tt
   free_way (suc n) c = by_number (n == c) (free_way n)
     where
       by_number : (b : Bool) → ((d : ℕ) → AllByRecursion Stays (way_below sites n d) → AllByRecursion IsFree (way_below sites n d))
