@@ -1,4 +1,4 @@
--- Marks for the call sites and switch points that are to go, and which call sites need a marked one.
+-- Marks for the call sites and switch points that are to go, and which call sites need a marked one. A means of proof.
 use Rattle.std.specs.Prelude.{ℕ, Bool, true, false, not, ◌&&◌, ◌||◌, List, find, fold, length, replicate, slice_get, slice_set, Option}
 use Rattle.std.specs.List.{range_with_len}
 use Rattle.std.specs.Option.{option_map_or}
