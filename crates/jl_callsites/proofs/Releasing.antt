@@ -12,9 +12,10 @@ use Rattle.jl_types.specs.Values.Target.{Target, Method, Guard, Invoker}
 use Rattle.jl_types.specs.Values.World.{Sites, CallSite, unreleased, is_missing}
 use Rattle.jl_types.specs.Events.Retirement.{is_listed, has_target}
 use Rattle.jl_types.specs.Events.Release.{invokes_one, guards_by_one, stays_with, first_with, release_fault}
+use Rattle.jl_types.proofs.Retiring.{none_found}
 use Rattle.jl_types.proofs.Bools.{first_test, second_test, or_none}
 use Rattle.jl_callsites.specs.Marks.{with_marks, marked, is_marked, needs_marked, stays_needing, first_marked}
-use Rattle.jl_callsites.proofs.Rows.{set_same, set_other, all_made, none_passes, none_else}
+use Rattle.jl_callsites.proofs.Rows.{set_same, set_other, all_made, none_else}
 
 -- ---- what is marked is what is listed
 
@@ -114,10 +115,10 @@ module _ (sites : Sites) (going points : List ℕ) (marks switches : List Bool) 
 module _ (sites : Sites) (going points : List ℕ) (there : find (is_missing sites.call_sites) going ≡ None)
     (there_points : find (is_missing sites.switches) points ≡ None) where
   pub made : list_any (nat_le (length sites.call_sites)) going ≡ false
-  made = all_made sites.call_sites going (none_passes (is_missing sites.call_sites) going there)
+  made = all_made sites.call_sites going (none_found (is_missing sites.call_sites) going there)
 
   pub points_made : list_any (nat_le (length sites.switches)) points ≡ false
-  points_made = all_made sites.switches points (none_passes (is_missing sites.switches) points there_points)
+  points_made = all_made sites.switches points (none_found (is_missing sites.switches) points there_points)
 
   abbrev pub marks : List Bool
   marks = marked (length sites.call_sites) going
