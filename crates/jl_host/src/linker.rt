@@ -7,7 +7,7 @@ ghost use Rattle.jl_core.specs.State.{events, world_of};
 ghost use Rattle.jl_host.specs.Showing.{recv_of};
 ghost use Rattle.jl_host.specs.Seats.{seen_of};
 ghost use Rattle.jl_host.specs.Linkers.{IsOpen, IsOpenWith, limits_of, IsNewLoader, IsDefine, IsDefineUpTo, IsDelegate, IsRequest, IsNewCallSite, IsSetTarget, IsNewSwitch, IsInvalidate};
-ghost use Rattle.jl_host.specs.Linkers.{IsBind, IsRetire, IsRetireAll, IsInstall, IsDropped, IsTake, IsCall, IsLinkOf, IsAnswer, kind_of, IfOpen, IsAsked};
+ghost use Rattle.jl_host.specs.Linkers.{IsBind, IsRetire, IsRetireAll, IsRelease, IsInstall, IsDropped, IsTake, IsCall, IsLinkOf, IsAnswer, kind_of, IfOpen, IsAsked};
 ghost use Rattle.jl_session.specs.Sessions.{snapshot_of};
 ghost use Rattle.jl_host.specs.Targets.{IsNewCallSiteOf, IsSetTargetOf};
 ghost use Rattle.jl_host.specs.Views.{IsInstallLinks};
@@ -16,7 +16,9 @@ ghost use Rattle.jl_host.specs.Renewals.{IsCounts, IsRenew, arrays_of, released_
 ghost use Rattle.jl_host.specs.Renewing.{IsBegunOf};
 ghost use Rattle.jl_host.specs.Linkers.{Opened as OpenedValue};
 
-use crate::arrays::{copy_sites, copy_text, loaders_of, sites_of, switches_of};
+use crate::arrays::{
+    call_sites_of, copy_sites, copy_text, loaders_of, sites_of, switches_of,
+};
 use crate::asked::{
     copy_awaited, copy_class_name, copy_invocations_of, copy_method_name, copy_method_type,
     copy_name, find_class,
@@ -351,6 +353,31 @@ impl Linker {
             return unasked(MEMORY, told);
         };
         opened.ask(alloc, Event::RetireAll(Seq::of(loaders)), told)
+    }
+
+    /// The call sites and the switch points go at once: all or none. The first one that isn't there is told, or the least call site that
+    /// stays and whose target names one of them. A site that is bound to one of these call sites is gone. Where there are none nothing
+    /// changes.
+    pub fn release(
+        &mut self,
+        alloc: Global,
+        call_sites: &[u32],
+        points: &[u32],
+        told: &mut Told,
+    ) -> u32
+        ensures { IsRelease call_sites.now points.now self.old result told.new self.new }
+    {
+        let Some(opened) = &mut self.opened else {
+            return unasked(CLOSED, told);
+        };
+        let Ok(call_sites) = call_sites_of(alloc, call_sites) else {
+            return unasked(MEMORY, told);
+        };
+        let Ok(points) = switches_of(alloc, points) else {
+            return unasked(MEMORY, told);
+        };
+        let event = Event::Release(Seq::of(call_sites), Seq::of(points));
+        opened.ask(alloc, event, told)
     }
 
     /// The sites are linked from scratch, 1 to 256 of them, and their links installed: all or none.
