@@ -32,7 +32,7 @@ extern "C" {
 #endif
 
 /* Grows with each change of this header; linkd_version() tells it of the library. */
-#define LINKD_VERSION 7
+#define LINKD_VERSION 8
 
 typedef struct linkd linkd;
 typedef struct linkd_seat linkd_seat;
@@ -63,6 +63,7 @@ enum linkd_status {
     LINKD_DELEGATE = 16,       /* fault is a linkd_delegate_fault */
     LINKD_LOADERS_FULL = 17,   /* there are as many as the linker may have */
     LINKD_RETIRE = 19,         /* fault is a linkd_retire_fault */
+    LINKD_RELEASE = 20,        /* fault is a linkd_release_fault */
     LINKD_NO_CLASS_FILE = 32,  /* the bytes are no class file: fault is a linkd_class_fault */
     LINKD_MALFORMED = 33,      /* a kind, type, target or link that is none, a number that is too large, or another linker than a renewal's */
     LINKD_CLOSED = 34,         /* the linker or the memo isn't open, the seat was never refreshed, the view never taken, or no renewal begun */
@@ -106,12 +107,12 @@ enum linkd_delegate_fault {
 };
 
 enum linkd_call_site_fault {
-    LINKD_UNKNOWN_CALL_SITE = 1,
+    LINKD_UNKNOWN_CALL_SITE = 1, /* never made, or released */
     LINKD_CONSTANT = 2,
     LINKD_WRONG_TYPE = 3,
     LINKD_UNKNOWN_METHOD = 4,
     LINKD_NOT_STATIC = 5,
-    LINKD_UNKNOWN_SWITCH = 6,
+    LINKD_UNKNOWN_SWITCH = 6,  /* never made, or released */
     LINKD_TOO_DEEP = 7,
     LINKD_CALL_SITES_FULL = 8, /* there are as many as the linker may have; of a new switch point, as many of these */
     LINKD_INVOKER_ORDER = 9 /* place is the call site that the target invokes */
@@ -123,6 +124,14 @@ enum linkd_retire_fault {
     LINKD_INHERITED = 3,    /* place is the least class of a loader that stays that has an ancestor in this one */
     LINKD_RECORDED = 4,     /* place is the least loader that stays and records a class of this one */
     LINKD_TARGETED = 5      /* place is the least call site whose target names a method of one of its classes */
+};
+
+/* Why call sites and switch points aren't let go. A target names what stands on a side that isn't taken, too. */
+enum linkd_release_fault {
+    LINKD_NO_CALL_SITE = 1, /* place is the first call site in the array that was never made, or is released */
+    LINKD_NO_SWITCH = 2,    /* place is the first switch point in the array that was never made, or is released */
+    LINKD_INVOKED = 3,      /* place is the least call site that stays and whose target invokes one of the call sites */
+    LINKD_GUARDED = 4       /* place is the least call site that stays and whose target guards by one of the switch points */
 };
 
 /* Why bytes are no class file (chapter 4). */
@@ -183,7 +192,7 @@ enum linkd_unlinked {
     LINKD_WANTS_CALLER_HOST = 2, /* the nest host of the caller's class isn't */
     LINKD_WANTS_METHOD_HOST = 3, /* the nest host of the method's class isn't */
     LINKD_UNBOUND = 4,           /* an invokedynamic without a call site */
-    LINKD_GONE = 5,
+    LINKD_GONE = 5,              /* the site's class is retired, or the call site to which it is bound is released */
     LINKD_NO_SITE = 6
 };
 
@@ -241,7 +250,8 @@ typedef struct linkd_invocation {
     uint32_t opcode; /* 182 invokevirtual, 183 invokespecial, 184 invokestatic, 185 invokeinterface, 186 invokedynamic (6.5) */
 } linkd_invocation;
 
-/* How many of each a linker has ever had, retired ones among them: the numbers below are theirs. */
+/* How many of each a linker has ever had, retired and released ones among them: the numbers below are theirs. Or how many of them are present:
+ * see at linkd_counts_present. */
 typedef struct linkd_count {
     uint32_t loaders;
     uint32_t classes;
@@ -348,6 +358,13 @@ uint32_t linkd_retire(linkd *at, uint32_t loader, linkd_told *told);
  * at each link that rests on a class which loses a receiver. Where it is refused it looks no link up, but looks at the classes, the records and
  * the targets once more for each loader up to the one that is told. */
 uint32_t linkd_retire_all(linkd *at, const uint32_t *loaders, size_t count, linkd_told *told);
+/* The call sites and the switch points go at once: all of them or none. What the target of a call site names is its own no more, so that
+ * holds no loader. A site that is bound to a call site that went is LINKD_GONE; after a renewal it is LINKD_UNBOUND. No number is given again.
+ * Only what stays holds one: call sites that invoke each other go, and so does a switch point with the call sites that guard by it. One that
+ * comes twice goes once; where there are none nothing changes. LINKD_RELEASE, of which linkd_release_fault says the place.
+ * It takes one look at each call site's target that there is, and one evaluation for each site that was bound to a call site that went. */
+uint32_t linkd_release(linkd *at, const uint32_t *call_sites, size_t call_site_count, const uint32_t *switches, size_t switch_count,
+                       linkd_told *told);
 /* Links the sites from scratch, 1 to 256 of them, and installs their links: all of them or none. In this order: LINKD_BATCH_SIZE;
  * LINKD_UNKNOWN_SITE or LINKD_REPEATED, whose place is the first site that wasn't requested or comes a second time; LINKD_NOT_READY,
  * whose place is the first site that has no link now: a linkd_call there is LINKD_UNLINKED. */
@@ -613,6 +630,7 @@ static inline const char *linkd_status_name(uint32_t status) {
         LINKD_NAMED(LINKD_DELEGATE);
         LINKD_NAMED(LINKD_LOADERS_FULL);
         LINKD_NAMED(LINKD_RETIRE);
+        LINKD_NAMED(LINKD_RELEASE);
         LINKD_NAMED(LINKD_NO_CLASS_FILE);
         LINKD_NAMED(LINKD_MALFORMED);
         LINKD_NAMED(LINKD_CLOSED);
@@ -661,6 +679,16 @@ static inline const char *linkd_retire_fault_name(uint32_t fault) {
         LINKD_NAMED(LINKD_INHERITED);
         LINKD_NAMED(LINKD_RECORDED);
         LINKD_NAMED(LINKD_TARGETED);
+        default: return NULL;
+    }
+}
+
+static inline const char *linkd_release_fault_name(uint32_t fault) {
+    switch (fault) {
+        LINKD_NAMED(LINKD_NO_CALL_SITE);
+        LINKD_NAMED(LINKD_NO_SWITCH);
+        LINKD_NAMED(LINKD_INVOKED);
+        LINKD_NAMED(LINKD_GUARDED);
         default: return NULL;
     }
 }
