@@ -16,9 +16,7 @@ ghost use Rattle.jl_host.specs.Renewals.{IsCounts, IsRenew, arrays_of, released_
 ghost use Rattle.jl_host.specs.Renewing.{IsBegunOf};
 ghost use Rattle.jl_host.specs.Linkers.{Opened as OpenedValue};
 
-use crate::arrays::{
-    call_sites_of, copy_sites, copy_text, loaders_of, sites_of, switches_of,
-};
+use crate::arrays::{call_sites_of, copy_sites, copy_text, loaders_of, sites_of, switches_of};
 use crate::asked::{
     copy_awaited, copy_class_name, copy_invocations_of, copy_method_name, copy_method_type,
     copy_name, find_class,

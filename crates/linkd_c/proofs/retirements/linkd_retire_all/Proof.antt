@@ -1,5 +1,5 @@
 -- What lies at the handle is lent for the time of the call, and lies there again after it.
-use Rattle.linkd_c.proofs.Steps.{ℕ, [], ◌∷◌, refl, Option, w32, proved, leaves, full_share, id⊢, flft, named, vptr, tables, ‵, raw, ◌⊛◌, prop, ◌$◌, ◌∵◌, !}
+use Rattle.linkd_c.proofs.Steps.{ℕ, [], ◌∷◌, refl, Option, w32, proved, leaves, full_share, id⊢, flft, named, vptr, tables, ‵, raw, ◌⊛◌, prop, ◌$◌, ◌∵◌, ! }
 use Rattle.linkd_c.proofs.Steps.{qed, done, move, keep, drop, use1, use2, split, join, fsplit, fjoin, regoal, suffices, enter, of_opd, addr, stop, no_more}
 use Rattle.linkd_c.proofs.Steps.{and_then, returns, alloc_all, pass_all, free_all, look_at, get, through, sets, lands_as, WpFn, u32, shows, Is, valss, Spells}
 use Rattle.linkd_c.proofs.Steps.{uint_Lawful, Ptr, block_ptr, in_a_block, rawptr_vals, rawptr_Tells, mut_vals, mut_Tells, types_at, nothing, peeks, calls_at}
@@ -28,16 +28,24 @@ linkd_retire_all_spec 𝓤 𝓛 𝓜 𝓡 wired =
     in_a_block ! a.1.0 (λ p. linker_at p x) (id⊢ 𝓤 _) (λ b o e.
     regoal ! (λ p. prop (WpFn 𝓤 𝓛.H 𝓣.C 𝓣.Λ code.function (W.args (y p)) (W.post (y p)))) e refl $
     enter ! _ _ _ _ _ $ alloc_all !
-        (λ l. pass_all ! refl ((tt, ((tt, tt), tt)), ((tt, tt), ((tt, (tt, (record { fits = are.1.1.0.0.1.0 }, tt))), ((tt, tt), tt)))) $
+    (λ l. pass_all ! refl ((tt, ((tt, tt), tt)), ((tt, tt), ((tt, (tt, (record { fits = are.1.1.0.0.1.0 }, tt))), ((tt, tt), tt)))) $
     sets ! (of_opd ! (get ! refl)) refl (tt, tt) $ lends ! tt R (named 0) x b o (λ α δ.
     sets ! (addr ! (through ! refl (stop !))) refl (tt, tt) $
     sets ! (addr ! (through ! refl (stop !))) refl (tt, tt) $
-    let z : G.Ghost = (((α ∷ [], κs), (full_share, qs), tt, (record { ref_ptr = (b, o); ghost_name = δ; now = x }, (a.0, a.1.1)),
-        (vptr b o ∷ [], (heap_val ∷ [], (y a.1.0).0.4.1.1))), tt) in
+    let z : G.Ghost = (
+      (
+        (α ∷ [], κs),
+        (full_share, qs),
+        tt,
+        (record { ref_ptr = (b, o); ghost_name = δ; now = x }, (a.0, a.1.1)),
+        (vptr b o ∷ [], (heap_val ∷ [], (y a.1.0).0.4.1.1)),
+      ),
+      tt,
+    ) in
     move ! (4 ∷ 3 ∷ []) $ fjoin ! $ move ! (1 ∷ 0 ∷ []) $ fjoin ! $ move ! (2 ∷ 3 ∷ []) $ join ! $ join ! $ nothing ! $ move ! (1 ∷ 0 ∷ []) $ use2 𝓛
-        (raw (G.pre z)) (id⊢ 𝓤 _) $
+    (raw (G.pre z)) (id⊢ 𝓤 _) $
     calls_at ! (framed 𝓤 𝓛.H 𝓜 𝓣) G (met 𝓤 𝓛 𝓜 𝓡 (code.calls-jl_host::linker::Linker::retire_all 𝓡.env wired)) z
-        (and_then ! (get ! refl) (and_then ! (get ! refl) (and_then ! (get ! refl) (and_then ! (get ! refl) (no_more !))))) (λ v.
+    (and_then ! (get ! refl) (and_then ! (get ! refl) (and_then ! (get ! refl) (and_then ! (get ! refl) (no_more !))))) (λ v.
     let P : ℕ → Lasts g.ended z.0.0 z.0.3 → Option Opened → Type 0 = λ u ws new. IsRetireAll a.1.1.0.now x u ws.1.1.1.0 new in
     answers ! tt g.signature (g.spec 𝓛 𝓜.mem 𝓡.returns) z v (lasts g.ended z.0.0 z.0.3) (λ u ws. P u ws ws.0) (λ u. id⊢ 𝓤 _) (λ u ws told.
     use1 𝓛 (‵ (flft (α ∷ []) full_share) ⊛ raw (alive 𝓛 S κs qs)) (id⊢ 𝓤 _) $ split ! $
