@@ -415,9 +415,13 @@ uint32_t linkd_awaited(linkd *at, uint32_t site, uint8_t *out, size_t capacity, 
  * it dropped. */
 uint32_t linkd_last_work(linkd *at, uint64_t *work);
 
-/* How many loaders, classes, sites, call sites and switch points there ever were, retired ones among them. Where it is LINKD_CLOSED each
- * count is written as 0. */
+/* How many loaders, classes, sites, call sites and switch points there ever were, retired and released ones among them. Where it is
+ * LINKD_CLOSED each count is written as 0. */
 uint32_t linkd_counts(linkd *at, linkd_count *counts);
+/* How many of these are present: those that a renewal would take over now, if nothing were handed to it as released. So a host knows whether a
+ * renewal is worth it. This call takes memory, and looks at each that there ever was. Where it isn't done each count is written as 0.
+ * LINKD_MEMORY. */
+uint32_t linkd_counts_present(linkd *at, linkd_count *counts);
 
 /* Any command of docs/FORMATS.md, as text. The answer is kept until the next one, and its length written; linkd_take copies it.
  * LINKD_CLOSED; LINKD_MEMORY: the command was obeyed, or nothing has changed. What the command prepare prepares is kept until the linker

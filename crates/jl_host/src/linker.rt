@@ -12,7 +12,7 @@ ghost use Rattle.jl_session.specs.Sessions.{snapshot_of};
 ghost use Rattle.jl_host.specs.Targets.{IsNewCallSiteOf, IsSetTargetOf};
 ghost use Rattle.jl_host.specs.Views.{IsInstallLinks};
 ghost use Rattle.jl_host.specs.Asking.{IsLookup, IsClassName, IsMethodName, IsMethodType, IsInvocations, IsNamed, IsAwaited, IsLastWork};
-ghost use Rattle.jl_host.specs.Renewals.{IsCounts, IsRenew, arrays_of, released_of};
+ghost use Rattle.jl_host.specs.Renewals.{IsCounts, IsCountsPresent, IsRenew, arrays_of, released_of};
 ghost use Rattle.jl_host.specs.Renewing.{IsBegunOf};
 ghost use Rattle.jl_host.specs.Linkers.{Opened as OpenedValue};
 
@@ -569,7 +569,7 @@ impl Linker {
         }
     }
 
-    /// How many loaders, classes, sites, call sites and switch points there ever were, retired ones among them. Takes no memory.
+    /// How many loaders, classes, sites, call sites and switch points there ever were, retired and released ones among them. Takes no memory.
     pub fn counts(&mut self, counts: &mut Counts) -> u32
         ensures { IsCounts self.old result counts.new self.new }
     {
@@ -579,6 +579,26 @@ impl Linker {
         };
         *counts = opened.counts();
         DONE
+    }
+
+    /// How many of these are present: those that a renewal would take over now, if the host let none go.
+    pub fn counts_present(&mut self, alloc: Global, counts: &mut Counts) -> u32
+        ensures { IsCountsPresent self.old result counts.new self.new }
+    {
+        let Some(opened) = &self.opened else {
+            *counts = Counts::none();
+            return CLOSED;
+        };
+        match Counts::present(alloc, opened.core()) {
+            Ok(present) => {
+                *counts = present;
+                DONE
+            }
+            Err(_) => {
+                *counts = Counts::none();
+                MEMORY
+            }
+        }
     }
 
     /// Opens the other linker over a fresh core that has what stays of this one's, but for the call sites and switch points that are

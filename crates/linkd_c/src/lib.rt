@@ -13,7 +13,7 @@ ghost use Rattle.jl_host.specs.Memos.{IsMemoOpen, IsMemoAsk, IsMemoCall, IsSeatC
 ghost use Rattle.jl_host.specs.Asking.{IsLookup, IsClassName, IsMethodName, IsMethodType, IsInvocations, IsNamed, IsAwaited, IsLastWork};
 ghost use Rattle.jl_host.specs.Targets.{IsNewCallSiteOf, IsSetTargetOf};
 ghost use Rattle.jl_host.specs.Views.{IsViewTake, IsViewCall, IsViewSerial, IsViewPrepare, IsInstallLinks};
-ghost use Rattle.jl_host.specs.Renewals.{IsCounts, IsRenew, arrays_of, released_of};
+ghost use Rattle.jl_host.specs.Renewals.{IsCounts, IsCountsPresent, IsRenew, arrays_of, released_of};
 ghost use Rattle.jl_relink.specs.Preparations.{Snapshot};
 ghost use Rattle.jl_memo.specs.declared.set.Set.{Set};
 ghost use Rattle.linkd_c.specs.Handle.{linker_at, linker_left, renewed_left, linker_room, linker_bytes, linker_multiple};
@@ -473,6 +473,20 @@ pub unsafe extern "C" fn linkd_counts(at: *mut Linkd, counts: &mut Counts) -> u3
     ensures* { sem 𝓛 (linker_left at (λ new. IsCounts old result counts.new new)) }
 {
     (*(at as *mut Linker)).counts(counts)
+}
+
+/// How many of each are present.
+#[unsafe(no_mangle)]
+pub unsafe extern "C" fn linkd_counts_present(
+    alloc: Global,
+    at: *mut Linkd,
+    counts: &mut Counts,
+) -> u32
+    ghost old: { Option Opened }
+    requires* { sem 𝓛 (linker_at at old) }
+    ensures* { sem 𝓛 (linker_left at (λ new. IsCountsPresent old result counts.new new)) }
+{
+    (*(at as *mut Linker)).counts_present(alloc, counts)
 }
 
 /// Opens the other linker over what stays of this one, and writes the new numbers.
