@@ -744,6 +744,7 @@ static inline const char *linkd_fault_name(uint32_t status, uint32_t fault) {
         case LINKD_CALL_SITE: return linkd_call_site_fault_name(fault);
         case LINKD_DELEGATE: return linkd_delegate_fault_name(fault);
         case LINKD_RETIRE: return linkd_retire_fault_name(fault);
+        case LINKD_RELEASE: return linkd_release_fault_name(fault);
         case LINKD_NO_CLASS_FILE: return linkd_class_fault_name(fault);
         default: return NULL;
     }
