@@ -217,6 +217,9 @@ static void renewed(linkd_seat *seat) {
     MUST(linkd_counts(fresh, &count) == LINKD_CLOSED && count.loaders == 0 && count.switches == 0);
     MUST(linkd_counts(at, &count) == LINKD_DONE && count.loaders == 2 && count.classes == 14 && count.sites == 3);
     MUST(count.call_sites == 3 && count.switches == 2);
+    MUST(linkd_counts_present(fresh, &count) == LINKD_CLOSED && count.classes == 0 && count.call_sites == 0);
+    MUST(linkd_counts_present(at, &count) == LINKD_DONE && count.loaders == 2 && count.classes == 14 && count.sites == 3);
+    MUST(count.call_sites == 3 && count.switches == 2);
     MUST(linkd_renew(fresh, at, 3, &released, &numbers) == LINKD_CLOSED);
     MUST(linkd_renew(at, fresh, 0, &released, &numbers) == LINKD_MALFORMED);
     MUST(linkd_renew(at, fresh, 1048577, &released, &numbers) == LINKD_MALFORMED);
