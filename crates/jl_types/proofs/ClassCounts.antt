@@ -25,6 +25,7 @@ class_step w (event.Bind s c) = omega arith
 class_step w (event.Install rows) = omega arith
 class_step w (event.Retire loader) = omega arith
 class_step w (event.RetireAll loaders) = omega arith
+class_step w (event.Release call_sites points) = omega arith
 
 first_counts : (b : Bool) (e : Event) (h : List Event) → length (cond b (e ∷ filter defines h) (filter defines h)) ≡ as_count b + length (filter defines h)
 first_counts true e h = omega arith

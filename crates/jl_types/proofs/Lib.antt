@@ -11,6 +11,7 @@ pub mod Grown
 -- one event more: what is there, what is installed
 pub mod Orders
 pub mod Retiring
+pub mod Releasing
 pub mod Places
 pub mod Within
 pub mod ClassCounts

@@ -156,6 +156,7 @@ step_good w (event.Bind s c) good = good
 step_good w (event.Install rows) good = good
 step_good w (event.Retire loader) good = retired_good w.classes (loader ∷ []) good
 step_good w (event.RetireAll loaders) good = retired_good w.classes loaders good
+step_good w (event.Release call_sites points) good = good
 
 fold_good : (h : List Event) (w : World) → IsGood w.classes → IsGood ((fold step w h).classes)
 fold_good [] w good = good

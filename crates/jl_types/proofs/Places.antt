@@ -50,6 +50,7 @@ places_step w (event.Bind s c) = omega arith
 places_step w (event.Install rows) = omega arith
 places_step w (event.Retire loader) = omega arith
 places_step w (event.RetireAll loaders) = omega arith
+places_step w (event.Release call_sites points) = omega arith
 
 pub places_grow : (h : List Event) (e : Event) → length (world_after h).places ≤ length (world_after (h ++ e ∷ [])).places
 places_grow h e = subst (λ (w : World). length (world_after h).places ≤ length w.places) (sym (world_more h e)) (places_step (world_after h) e)
@@ -109,6 +110,7 @@ limit_step limits w (event.Bind s c) given accepted le = le
 limit_step limits w (event.Install rows) given accepted le = le
 limit_step limits w (event.Retire loader) given accepted le = le
 limit_step limits w (event.RetireAll loaders) given accepted le = le
+limit_step limits w (event.Release call_sites points) given accepted le = le
 
 -- an event that is answered is accepted, and drops what the answer says
 pub accepted_of : (dropped : List ℕ) (r : Result Made Refusal) (said : Reply) → replied dropped r ≡ Ok said → (r ≡ Ok said.made) × (dropped ≡ said.dropped)

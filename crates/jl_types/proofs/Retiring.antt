@@ -197,7 +197,7 @@ module _ (cs : Classes) (loaders : List ℕ) where
 
 -- ---- no fault
 
-none_found : {A : Type 0} (p : A → Bool) (xs : List A) → find p xs ≡ None → list_any p xs ≡ false
+pub none_found : {A : Type 0} (p : A → Bool) (xs : List A) → find p xs ≡ None → list_any p xs ≡ false
 none_found p [] e = refl
 none_found p (x ∷ xs) e = by_test (p x) refl e (none_found p xs)
   where
@@ -205,11 +205,11 @@ none_found p (x ∷ xs) e = by_test (p x) refl e (none_found p xs)
     by_test true is e rest = cc
     by_test false is e rest = rest e
 
-no_fault : {A B : Type 0} (F : A → B) (o : Option A) → option_map F o ≡ None → o ≡ None
+pub no_fault : {A B : Type 0} (F : A → B) (o : Option A) → option_map F o ≡ None → o ≡ None
 no_fault F None e = refl
 no_fault F (Some x) e = cc
 
-at_none : (p : ℕ → Bool) (n : ℕ) → list_any p (range_with_len 0 n) ≡ false → (x : ℕ) → x < n → p x ≡ false
+pub at_none : (p : ℕ → Bool) (n : ℕ) → list_any p (range_with_len 0 n) ≡ false → (x : ℕ) → x < n → p x ≡ false
 at_none p n none x lt = by_test (p x) refl
   where
     by_test : (b : Bool) → p x ≡ b → b ≡ false

@@ -23,3 +23,4 @@ pub mod Statics
 pub mod Requests
 pub mod Fast
 pub mod Retirement
+pub mod Release

@@ -18,7 +18,7 @@ use Rattle.jl_types.specs.declared.refusal.Refusal.TheVariants as refusal
 use Rattle.jl_types.specs.declared.refusal.CallSiteFault.TheVariants as fault
 use Rattle.jl_types.specs.declared.refusal.DefineFault.TheVariants as define
 use Rattle.jl_types.specs.Values.Target.{Target}
-use Rattle.jl_types.specs.Values.World.{World, Classes, CallSite, nothing_yet}
+use Rattle.jl_types.specs.Values.World.{World, Classes, CallSite, nothing_yet, unreleased}
 use Rattle.jl_types.specs.Values.Members.{lookup, is_interface}
 use Rattle.jl_types.specs.Linkage.Targets.{target_fault}
 use Rattle.jl_types.specs.Events.Event.{Event}
@@ -30,6 +30,7 @@ use Rattle.jl_types.specs.Events.History.{world_after, dropped}
 use Rattle.jl_types.specs.Events.Entries.{Entry, IsEntry, IsLegal, events_of}
 use Rattle.jl_types.proofs.Firsts.{first_none, test_none}
 use Rattle.jl_types.proofs.Legal.{by_entries, events_more}
+use Rattle.jl_types.proofs.Releasing.{length_without}
 use Rattle.jl_types.proofs.Places.{limit_step, accepted_of, world_more}
 
 -- ---- lists of which places change
@@ -47,16 +48,16 @@ length_delegated : (loaders : List (List (List ℕ × ℕ))) (loader : ℕ) (nam
 length_delegated loaders loader name None = refl
 length_delegated loaders loader name (Some c) = length_record loaders loader name c
 
-length_retargeted : (sites : List CallSite) (c : ℕ) (t : Target) → length (retargeted sites c t) ≡ length sites
-length_retargeted sites c t = by_row (slice_get sites c)
+length_retargeted : (sites : List (Option CallSite)) (c : ℕ) (t : Target) → length (retargeted sites c t) ≡ length sites
+length_retargeted sites c t = by_row (unreleased sites c)
   where
-    by_row : (o : Option CallSite) → length (option_map_or (λ site. slice_set sites c (record site { target = t })) o sites) ≡ length sites
+    by_row : (o : Option CallSite) → length (option_map_or (λ site. slice_set sites c (Some (record site { target = t }))) o sites) ≡ length sites
     by_row None = refl
-    by_row (Some site) = length-set sites c (record site { target = t })
+    by_row (Some site) = length-set sites c (Some (record site { target = t }))
 
-length_invalidated : (points : List ℕ) (switches : List Bool) → length (invalidated switches points) ≡ length switches
+length_invalidated : (points : List ℕ) (switches : List (Option Bool)) → length (invalidated switches points) ≡ length switches
 length_invalidated [] switches = refl
-length_invalidated (p ∷ points) switches = length_invalidated points (set switches p false) ∙ length-set switches p false
+length_invalidated (p ∷ points) switches = length_invalidated points (set switches p (Some false)) ∙ length-set switches p (Some false)
 
 -- ---- what an accepted event makes has room
 
@@ -153,7 +154,7 @@ within_step limits w (event.NewCallSite kind ty t) given accepted within =
       sites = within.sites;
       loaders = within.loaders;
       classes = within.classes;
-      call_sites = omega (arith, room, length-append w.sites.call_sites (record { kind = kind; ty = ty; target = t } ∷ []));
+      call_sites = omega (arith, room, length-append w.sites.call_sites (Some (record { kind = kind; ty = ty; target = t }) ∷ []));
       switches = within.switches;
     }
 within_step limits w (event.SetTarget c t) given accepted within =
@@ -173,7 +174,7 @@ within_step limits w event.NewSwitch given accepted within =
       loaders = within.loaders;
       classes = within.classes;
       call_sites = within.call_sites;
-      switches = omega (arith, room, length-append w.sites.switches (true ∷ []));
+      switches = omega (arith, room, length-append w.sites.switches (Some true ∷ []));
     }
 within_step limits w (event.Invalidate points) given accepted within =
     let few = within.switches in
@@ -195,6 +196,16 @@ within_step limits w (event.Bind s c) given accepted within =
 within_step limits w (event.Install rows) given accepted within = within
 within_step limits w (event.Retire loader) given accepted within = within_retired limits w (loader ∷ []) within
 within_step limits w (event.RetireAll loaders) given accepted within = within_retired limits w loaders within
+within_step limits w (event.Release call_sites points) given accepted within =
+    let some = within.call_sites in
+    let few = within.switches in
+    record {
+      sites = within.sites;
+      loaders = within.loaders;
+      classes = within.classes;
+      call_sites = omega (arith, some, length_without call_sites w.sites.call_sites);
+      switches = omega (arith, few, length_without points w.sites.switches);
+    }
 
 pub within_at_first : (limits : Limits) → 1 ≤ limits.loaders → IsWithin limits nothing_yet
 within_at_first limits some = record {

@@ -1,7 +1,7 @@
 //! The laws of the definitions: each is the contract of a function that does nothing.
 
 ghost use Rattle.std.specs.Prelude.{◌≡◌, ◌↔◌, ◌<◌, ◌≤◌, ◌++◌, ◌∷◌, [], ℕ, List, Some, None, Ok, Err, true, false, take, length, slice_get, find};
-ghost use Rattle.std.specs.Prelude.{filter, not, ◌==◌, ◌&&◌, Decides, AllPairs, Contains};
+ghost use Rattle.std.specs.Prelude.{filter, not, ◌==◌, ◌&&◌, if◌then◌else◌, Decides, AllPairs, Contains};
 ghost use Rattle.std.specs.List.{list_any};
 ghost use Rattle.std.specs.Option.{option_map_or};
 ghost use Rattle.jl_types.specs.declared.limits.Limits.{Limits};
@@ -22,14 +22,19 @@ ghost use Rattle.jl_types.specs.declared.event.EventOf.TheVariants as event;
 ghost use Rattle.jl_types.specs.declared.event.Made.TheVariants as made;
 ghost use Rattle.jl_types.specs.declared.answer.Unlinked.TheVariants.{Gone};
 ghost use Rattle.jl_types.specs.Events.Verdict.{Accepts, verdict, step};
-ghost use Rattle.jl_types.specs.Values.World.{Class, Classes, World};
+ghost use Rattle.jl_types.specs.Values.World.{Class, Classes, Sites, World, unreleased};
 ghost use Rattle.jl_types.specs.Values.Members.{is_concrete, is_package_private, is_present, lookup};
 ghost use Rattle.jl_class.specs.Class.{ClassFile};
+ghost use Rattle.jl_class.specs.Site.{Site};
+ghost use Rattle.jl_class.specs.declared.site.Operand.TheVariants as operand;
+ghost use Rattle.jl_pool.specs.declared.reference.CallSiteSpecifier.{CallSiteSpecifier};
+ghost use Rattle.jl_types.specs.declared.ids.Place.{Place};
 ghost use Rattle.jl_types.specs.Events.Definitions.{defined};
-ghost use Rattle.jl_types.specs.Events.Retirement.{is_listed, is_of_any, retired, retires_site};
+ghost use Rattle.jl_types.specs.Events.Retirement.{is_listed, is_of_any, retired, retires_site, targeted};
+ghost use Rattle.jl_types.specs.Events.Release.{released_from};
 ghost use Rattle.jl_types.specs.Values.Ancestry.{AreOrdered, IsAncestor, is_ancestor, ancestors, receivers, superclasses};
 ghost use Rattle.jl_types.specs.Linkage.Overriding.{CanOverride, are_alike, can_override, is_visible, IsBridged};
-ghost use Rattle.jl_types.specs.Linkage.Stages.{ResolvedCall, Selects, stage};
+ghost use Rattle.jl_types.specs.Linkage.Stages.{ResolvedCall, Selects, stage, bound_to, invocation_at};
 ghost use Rattle.jl_types.specs.Linkage.Links.{scratch};
 ghost use Rattle.jl_types.specs.Linkage.Calls.{answered, is_receiver, dispatch};
 ghost use Rattle.jl_types.specs.Events.Fast.{entry_answer};
@@ -180,6 +185,23 @@ pub fn fewer_loaders()
     ensures one { (w : World) (loader : ℕ) → step w (event.RetireAll (loader ∷ [])) ≡ step w (event.Retire loader) }
     ensures one_may { (limits : Limits) (w : World) (loader : ℕ) → (verdict limits w (event.RetireAll (loader ∷ [])) ≡ Ok made.Nothing)
         ↔ (verdict limits w (event.Retire loader) ≡ Ok made.Nothing) }
+{}
+
+/// A release takes away call sites and switch points. Each has nothing any more, and all others have what they had. Numbers that were given
+/// count as before, so none is given again. An invokedynamic that is bound to a released call site has no link, for good. No released call
+/// site holds a loader.
+pub fn fewer_call_sites()
+    ensures call_sites { (sites : Sites) (call_sites points : List ℕ) (c : ℕ) → unreleased (released_from sites call_sites points).call_sites c
+        ≡ (if is_listed call_sites c then None else unreleased sites.call_sites c) }
+    ensures switches { (sites : Sites) (call_sites points : List ℕ) (p : ℕ) → unreleased (released_from sites call_sites points).switches p
+        ≡ (if is_listed points p then None else unreleased sites.switches p) }
+    ensures numbers { (sites : Sites) (call_sites points : List ℕ) → let new = released_from sites call_sites points in
+        (length new.call_sites ≡ length sites.call_sites) × (length new.switches ≡ length sites.switches) }
+    ensures gone { (w : World) (call_sites points : List ℕ) (s c : ℕ) (place : Place) (site : Site) (specifier : CallSiteSpecifier (List ℕ))
+        → slice_get w.places s ≡ Some place → invocation_at w.classes place ≡ Some site → site.operand ≡ operand.CallSite specifier
+        → bound_to w s ≡ Some c → is_listed call_sites c ≡ true → scratch (step w (event.Release call_sites points)) s ≡ Err Gone }
+    ensures targets { (w : World) (call_sites points : List ℕ) (loader c : ℕ) → let after = step w (event.Release call_sites points) in
+        targeted after.classes after.sites.call_sites loader ≡ Some c → is_listed call_sites c ≡ false }
 {}
 
 /// There are as many classes after a list as events of it define one.

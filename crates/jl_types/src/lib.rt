@@ -45,8 +45,8 @@ pub use ids::{MethodId, Place};
 pub use key::Key;
 pub use laws::{
     accepted_installs, ancestors_are_listed, ancestors_of_ancestors, beginnings_are_legal,
-    definitions_are_the_classes, dropped_are_the_empty_slots, each_site_once, fewer_loaders,
-    links_give_the_answers, one_class_more, one_event_more, overriding_in_one_walk,
+    definitions_are_the_classes, dropped_are_the_empty_slots, each_site_once, fewer_call_sites,
+    fewer_loaders, links_give_the_answers, one_class_more, one_event_more, overriding_in_one_walk,
     overriding_is_decided, parents_come_first, settled_links, slots_are_the_links,
     superclasses_upward, unlinked_calls,
 };

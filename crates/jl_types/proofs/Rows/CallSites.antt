@@ -1,5 +1,5 @@
 -- Call sites and switch points, over the whole history.
-use Rattle.std.specs.Prelude.{◌≡◌, ℕ, Bool, true, false, zero, suc, List, [], ◌∷◌, ◌++◌, Some, Ok, Err, codes, refl}
+use Rattle.std.specs.Prelude.{◌≡◌, ℕ, Bool, true, false, zero, suc, List, [], ◌∷◌, ◌++◌, map, length, Some, Ok, Err, codes, refl}
 use Rattle.jl_types.specs.Events.Limits.{fixed}
 use Rattle.jl_class.specs.Class.{Method}
 use Rattle.jl_class.specs.declared.site.Kind.TheVariants.{Dynamic}
@@ -17,6 +17,8 @@ use Rattle.jl_types.specs.declared.event.EventOf.TheVariants.{Define, Request, N
 use Rattle.jl_types.specs.declared.event.Made.TheVariants as made
 use Rattle.jl_types.specs.declared.refusal.Refusal.TheVariants as refusal
 use Rattle.jl_types.specs.declared.refusal.CallSiteFault.TheVariants as fault
+use Rattle.std.specs.List.{range_with_len}
+use Rattle.jl_types.specs.Linkage.Targets.{is_valid}
 use Rattle.jl_types.specs.Linkage.Links.{scratch}
 use Rattle.jl_types.specs.Linkage.Calls.{dispatch}
 use Rattle.jl_types.specs.Events.Verdict.{verdict}
@@ -168,7 +170,7 @@ abbrev three : List Event → List Event
 three more = begun ++ NewSwitch ∷ NewSwitch ∷ more
 
 abbrev left_by : List Event → List Bool
-left_by events = (world_after (three events)).sites.switches
+left_by events = let sites = (world_after (three events)).sites in map (is_valid sites) (range_with_len 0 (length sites.switches))
 
 invalidates : reply (fixed 65536) (guarded n) (Invalidate (0 ∷ [])) ≡ Ok (record { made = made.Nothing; dropped = 0 ∷ [] })
 invalidates = refl

@@ -136,11 +136,11 @@ middle_on_the_way = refl
 abbrev three : World
 three = record (world_after (begun ++ site Mutable (Of m) ∷ site Mutable (Of m) ∷ [])) {
   sites = record {
-    call_sites = record { kind = Mutable; ty = codes "()V"; target = Of m }
-        ∷ record { kind = Mutable; ty = codes "()V"; target = Of m }
-        ∷ record { kind = Mutable; ty = codes "()I"; target = Of m }
+    call_sites = Some (record { kind = Mutable; ty = codes "()V"; target = Of m })
+        ∷ Some (record { kind = Mutable; ty = codes "()V"; target = Of m })
+        ∷ Some (record { kind = Mutable; ty = codes "()I"; target = Of m })
         ∷ [];
-    switches = true ∷ [];
+    switches = Some true ∷ [];
   };
 }
 
@@ -206,8 +206,8 @@ of_a_deep_one = refl
 
 abbrev of_targets : Target → Target → Sites
 of_targets t u = record {
-  call_sites = record { kind = Mutable; ty = codes "()V"; target = t } ∷ record { kind = Mutable; ty = codes "()V"; target = u } ∷ [];
-  switches = true ∷ [];
+  call_sites = Some (record { kind = Mutable; ty = codes "()V"; target = t }) ∷ Some (record { kind = Mutable; ty = codes "()V"; target = u }) ∷ [];
+  switches = Some true ∷ [];
 }
 
 itself : method_of (of_targets (Invoker 0) (Of m)) 0 ≡ None

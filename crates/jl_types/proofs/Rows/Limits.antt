@@ -1,5 +1,5 @@
 -- What there is room for, and places that are never linked.
-use Rattle.std.specs.Prelude.{◌≡◌, ℕ, ◌+◌, List, [], ◌∷◌, ◌++◌, Some, None, Ok, Err, length, replicate, codes, refl}
+use Rattle.std.specs.Prelude.{◌≡◌, ℕ, ◌+◌, List, [], ◌∷◌, ◌++◌, Option, Some, None, Ok, Err, length, replicate, codes, refl}
 use Rattle.std.proofs.Common.{arith}
 use Rattle.jl_types.specs.declared.limits.Limits.{Limits}
 use Rattle.jl_types.specs.Events.Limits.{fixed, AreAllowed, IsWithin, AreNoFewer}
@@ -35,12 +35,12 @@ too_many_call_sites : (sites : ℕ) (w : World) (ty : List ℕ) (t : Target) →
 too_many_call_sites sites w ty t e = rw e refl
 
 -- with these call sites
-abbrev with_call_sites : List CallSite → World
+abbrev with_call_sites : List (Option CallSite) → World
 with_call_sites call_sites =
     let w = world_after begun in
     record w { sites = record w.sites { call_sites = call_sites } }
 
-last_call_site : (call_sites : List CallSite) → length call_sites ≡ 65535
+last_call_site : (call_sites : List (Option CallSite)) → length call_sites ≡ 65535
     → verdict (fixed 65536) (with_call_sites call_sites) (NewCallSite Mutable (codes "()V") (Method m)) ≡ Ok (made.CallSite 65535)
 last_call_site call_sites e = rw e refl
 
@@ -64,7 +64,7 @@ last_wide_loader w e = rw e refl
 too_many_wide_loaders : (w : World) → length w.classes.loaders ≡ 2000 → verdict wide w NewLoader ≡ Err refusal.LoadersFull
 too_many_wide_loaders w e = rw e refl
 
-last_wide_call_site : (call_sites : List CallSite) → length call_sites ≡ 79999
+last_wide_call_site : (call_sites : List (Option CallSite)) → length call_sites ≡ 79999
     → verdict wide (with_call_sites call_sites) (NewCallSite Mutable (codes "()V") (Method m)) ≡ Ok (made.CallSite 79999)
 last_wide_call_site call_sites e = rw e refl
 
