@@ -165,8 +165,8 @@ pub(crate) fn sites_that_stay(
         .collect(alloc)
 }
 
-/// Whether each call site stays: those that are held, and those that the target of a later one which stays invokes. Want of memory is
-/// an error.
+/// Whether each call site stays: those that are held, and those that the target of a later one which stays invokes. One that is released
+/// goes. Want of memory is an error.
 pub(crate) fn call_sites_that_stay(
     alloc: Global,
     old: &World,
