@@ -1,8 +1,9 @@
 /* A host in C whose loaders go at once, among sites that look at each of their classes. It tells how long the retirement of a loader takes
- * that goes alone, how long that of many takes that go at once, and how long that of pairs takes of which each holds the other one.
+ * that goes alone, how long that of many takes that go at once, how long that of pairs takes of which each holds the other one, and how long
+ * the release of every other call site takes.
  *
- *     together [LOADERS [SITES [PAIRS]]]     LOADERS (1000), SITES (32000) and PAIRS (300) are how many there are; at most 2000, 64000 and
- *                                            1000
+ *     together [LOADERS [SITES [PAIRS [CALL_SITES]]]]
+ *         LOADERS (1000), SITES (32000), PAIRS (300) and CALL_SITES (20000) are how many there are; at most 2000, 64000, 1000 and 100000
  *
  * Each loader has eight classes, and each site calls a method of java/lang/Object on what may be of any class. All sites are linked, and are
  * linked again after each line. It ends with status 0 only where each call was done, no loader of a pair goes alone, and all sites call as
@@ -15,6 +16,7 @@
 #include <time.h>
 
 enum { CLASSES = 8, BATCH = 256, MOST_LOADERS = 2000, MOST_SITES = 64000, MOST_PAIRS = 1000, METHODS = 32, CALLS = 10, ALONE = 20 };
+enum { MOST_CALL_SITES = 100000 };
 
 static linkd_told told;
 static uint8_t file[4096];
@@ -110,13 +112,30 @@ static void record(linkd *at, uint32_t loader, const char *name, uint32_t other)
     must(linkd_delegate(at, loader, (const uint8_t *)name, 1, other, &told) == LINKD_DONE, "delegate");
 }
 
+/* So many call sites that run the class's first method. Every other one goes, all of these at once; and then there is none of them. */
+static void release_every_other(linkd *at, uint32_t class_number, uint32_t count) {
+    static uint32_t going[MOST_CALL_SITES / 2 + 1];
+    linkd_target_part target = {LINKD_METHOD_TARGET, class_number, 0};
+    uint32_t places = 0;
+    for (uint32_t place = 0; place < count; place++) {
+        must(linkd_new_call_site_of(at, 2, (const uint8_t *)"()V", 3, &target, 1, &told) == LINKD_DONE, "new_call_site");
+        if (place % 2 == 0) going[places++] = told.number;
+    }
+    double before = milliseconds();
+    must(linkd_release(at, going, places, going, 0, &told) == LINKD_DONE, "release");
+    printf("%u of %u call sites at once: %.3f ms\n", (unsigned)places, (unsigned)count, milliseconds() - before);
+    must(places == 0 || linkd_release(at, going, places, going, 0, &told) == LINKD_RELEASE, "none is released twice");
+}
+
 int main(int argc, char **argv) {
     uint32_t loaders = argc > 1 ? (uint32_t)strtoul(argv[1], NULL, 10) : 1000;
     uint32_t count = argc > 2 ? (uint32_t)strtoul(argv[2], NULL, 10) : 32000;
     uint32_t pairs = argc > 3 ? (uint32_t)strtoul(argv[3], NULL, 10) : 300;
+    uint32_t call_sites = argc > 4 ? (uint32_t)strtoul(argv[4], NULL, 10) : 20000;
     static uint32_t listed[MOST_LOADERS + 2 * MOST_PAIRS];
     linkd *at = aligned_alloc(linkd_align(), (linkd_size() + linkd_align() - 1) / linkd_align() * linkd_align());
     must(at != NULL && loaders <= MOST_LOADERS && count <= MOST_SITES && pairs <= MOST_PAIRS, "LOADERS, SITES and PAIRS");
+    must(call_sites <= MOST_CALL_SITES, "CALL_SITES");
     linkd_blank(at);
     must(linkd_open(at, LINKD_MOST_OF_A_KIND) == LINKD_DONE, "open");
     write_object();
@@ -159,6 +178,7 @@ int main(int argc, char **argv) {
     printf("%u pairs at once: %.3f ms\n", (unsigned)pairs, milliseconds() - before);
 
     install_all(at, count);
+    release_every_other(at, caller, call_sites);
     linkd_call_answer answer;
     for (uint32_t site = 0; site < count; site++) {
         must(linkd_call(at, sites[site], 0, &answer) == LINKD_DONE && answer.kind == LINKD_RUN && answer.value == 0, "a call on an Object");

@@ -260,7 +260,8 @@ typedef struct linkd_count {
     uint32_t switches;
 } linkd_count;
 
-/* What the host has let go, in any order: it asks for none of them again. A number that was never given is passed over. */
+/* What the host has let go, in any order: it asks for none of them again. A number that was never given, or that linkd_release has taken, is
+ * passed over. */
 typedef struct linkd_released {
     const uint32_t *call_sites;
     size_t call_site_count;
@@ -433,10 +434,11 @@ uint32_t linkd_take(linkd *at, uint8_t *out, size_t capacity, size_t *length);
 
 /* Opens the linker `fresh`, which isn't open, over what stays of the linker `at`, which is left as it is: of what is retired or not used any
  * more something stays in a linker, so a process in which loaders come and go, or call sites and switch points are made over and over, goes
- * over to a fresh one from time to time. What stays are the loaders that aren't retired, with
- * their classes and the sites in these, and of the call sites and switch points those that aren't released, a call site also where a site
- * that stays is bound to it or the target of a later one that stays invokes it, and a switch point also where the target of a call site
- * that stays guards by it. They keep their order and get new numbers, from 0 on; a site that stays has its link there, too, if it had one.
+ * over to a fresh one from time to time. What stays are the loaders that aren't retired, with their classes and the sites in these, and the call
+ * sites and switch points that linkd_release hasn't taken and that aren't handed in as released here. Of those that are handed in a call site
+ * stays where a site that stays is bound to it or the target of a later one that stays invokes it, and a switch point where the target of a
+ * call site that stays guards by it. They keep their order and get new numbers, from 0 on; a site that stays has its link there, too, if it
+ * had one. A site that was bound to a call site that linkd_release has taken isn't bound there.
  * In each array the new number of each old one is written in its place, or LINKD_NO_NUMBER; behind as many as linkd_counts says it is as
  * before. max_sites: as linkd_open. Of each other kind `fresh` may have as many as `at`. What linkd_named, linkd_take and the command prepare
  * kept isn't taken over.
@@ -475,7 +477,7 @@ static inline uint32_t linkd_renew(linkd *at, linkd *fresh, uint32_t max_sites, 
  *  - all these calls are given one linker, which isn't closed in between (some others are refused, not all: see at linkd_renewal_take);
  *  - from the begin on the host asks the linker for nothing that it has released: no new target names it, and no site is bound to it;
  *  - after the finish events go to `fresh` alone: what the linker accepts then the fresh one never has.
- * No other event is refused for what is released, retirements and invalidations among them.
+ * No other event is refused for what is released, retirements, releases and invalidations among them.
  * Several renewals of one linker may be under way at a time, each in its own block. None sees the others, and each finish gives a linker of
  * its own, with its own numbers. */
 
