@@ -1,12 +1,12 @@
 -- What holds of a world after accepted events, of which a renewal makes use.
-use Rattle.std.specs.Prelude.{◌≡◌, ℕ, true, false, List, slice_get, Some, None, IsOk, take}
+use Rattle.std.specs.Prelude.{◌≡◌, ◌<◌, ℕ, true, false, List, length, slice_get, Some, None, IsOk, take}
 use Rattle.std.specs.Str.{bytes_eq}
 use Rattle.jl_types.specs.declared.limits.Limits.{Limits}
 use Rattle.jl_pool.specs.declared.reference.CallSiteSpecifier.{CallSiteSpecifier}
 use Rattle.jl_class.specs.Site.{Site}
 use Rattle.jl_class.specs.declared.site.Operand.TheVariants as operand
 use Rattle.jl_types.specs.declared.ids.Place.{Place}
-use Rattle.jl_types.specs.Values.World.{World, Class, CallSite}
+use Rattle.jl_types.specs.Values.World.{World, Class, CallSite, unreleased}
 use Rattle.jl_types.specs.Values.Members.{lookup, is_retired}
 use Rattle.jl_types.specs.Linkage.Stages.{invocation_at}
 use Rattle.jl_types.specs.Linkage.Targets.{target_fault}
@@ -25,17 +25,16 @@ pub record IsInvoked (w : World) (place : Place) : Type 0 where
   pub array : names_array site.operand ≡ false
   pub polymorphic : is_polymorphic site.operand ≡ false
 
--- the site is an invokedynamic of the call site's type
+-- the site is an invokedynamic of the call site's type, unless the call site is released
 pub record IsBinding (w : World) (b : ℕ × ℕ) : Type 0 where
   pub place : Place
   pub site : Site
   pub specifier : CallSiteSpecifier (List ℕ)
-  pub call_site : CallSite
   pub requested : slice_get w.places b.0 ≡ Some place
   pub at : invocation_at w.classes place ≡ Some site
   pub dynamic : site.operand ≡ operand.CallSite specifier
-  pub there : slice_get w.sites.call_sites b.1 ≡ Some call_site
-  pub type : bytes_eq call_site.ty specifier.ty ≡ true
+  pub within : b.1 < length w.sites.call_sites
+  pub type : (row : CallSite) → unreleased w.sites.call_sites b.1 ≡ Some row → bytes_eq row.ty specifier.ty ≡ true
 
 pub record IsFit (w : World) : Type 0 where
   -- what a loader finds under a name has that name
@@ -44,8 +43,8 @@ pub record IsFit (w : World) : Type 0 where
   -- a loader that isn't retired finds what it has defined
   pub found : (c : ℕ) (row : Class) → slice_get w.classes.rows c ≡ Some row → is_retired w.classes row.loader ≡ false
       → lookup w.classes row.loader row.file.name ≡ Some c
-  -- each call site's target would be taken now
-  pub targets : (c : ℕ) (site : CallSite) → slice_get w.sites.call_sites c ≡ Some site → target_fault w c site.ty site.target ≡ None
+  -- the target of each call site that isn't released would be taken now
+  pub targets : (c : ℕ) (site : CallSite) → unreleased w.sites.call_sites c ≡ Some site → target_fault w c site.ty site.target ≡ None
   pub places : (s : ℕ) (place : Place) → slice_get w.places s ≡ Some place → IsInvoked w place
   pub once : (s t : ℕ) (p q : Place) → slice_get w.places s ≡ Some p → slice_get w.places t ≡ Some q → same_place p q ≡ true → s ≡ t
   pub bindings : (i : ℕ) (b : ℕ × ℕ) → slice_get w.bindings i ≡ Some b → IsBinding w b

@@ -1,6 +1,7 @@
 -- lists, numbers, and lists of events that are accepted one after another
 pub mod ListLaws
 pub mod NumberLaws
+pub mod ReleasedRows
 pub mod AddLaws
 pub mod FollowLaws
 pub mod StopLaws
@@ -14,6 +15,7 @@ pub mod RoomLaws
 pub mod Fit
 pub mod FitParts
 pub mod FitClasses
+pub mod Releasing
 pub mod FitSites
 pub mod FitLaws
 -- the loaders and classes of the fresh core

@@ -42,31 +42,13 @@ use Rattle.jl_renewal.specs.Moved.{Flags, Rests, moved, shifted, kept, moved_rec
 use Rattle.jl_renewal.specs.Moved.{moved_target, moved_world}
 use Rattle.jl_renewal.proofs.MovedFollows.{Follows}
 use Rattle.jl_renewal.proofs.Fit.{IsFit}
-use Rattle.jl_renewal.proofs.FitParts.{none_found, none_placed, none_mapped}
+use Rattle.jl_renewal.proofs.FitParts.{find_none, none_in_range, none_placed, none_mapped}
 use Rattle.jl_renewal.proofs.PlacePhase.{position_none}
 use Rattle.jl_renewal.proofs.MovedLists.{shifted_is, same_numbers, moved_onto, among_moved, kept_unset}
 use Rattle.jl_renewal.proofs.MovedClasses.{loader_at, known, row_at, owner_stays, tested, present_same, present_stays}
 use Rattle.jl_renewal.proofs.MovedSites.{placed, allowed}
 
 -- ---- tests of all numbers
-
--- nothing is found that passes nowhere
-find_none : {A : Type 0} (p : A → Bool) (xs : List A) → ((x : A) → p x ≡ false) → find p xs ≡ None
-find_none p [] h = refl
-find_none p (x ∷ xs) h = by_test (p x) (h x) (find_none p xs h)
-  where
-    by_test : (b : Bool) → b ≡ false → find p xs ≡ None → (if b then Some x else find p xs) ≡ None
-    by_test true e rest = cc
-    by_test false e rest = rest
-
-range_at : (a n i : ℕ) → i < n → slice_get (range_with_len a n) i ≡ Some (a + i)
-range_at a zero i lt = absurd (omega (arith, lt))
-range_at a (suc n) zero lt = let same : a ≡ a + 0 = omega arith in ap Some same
-range_at a (suc n) (suc i) lt = let same : a + 1 + i ≡ a + suc i = omega arith in range_at (a + 1) n i (omega (arith, lt)) ∙ ap Some same
-
--- what no number of a range passes
-none_in_range : (p : ℕ → Bool) (n i : ℕ) → find p (range_with_len 0 n) ≡ None → i < n → p i ≡ false
-none_in_range p n i none lt = none_found p (range_with_len 0 n) none i i (let same : 0 + i ≡ i = omega arith in range_at 0 n i lt ∙ ap Some same)
 
 -- an element that passes
 pub record Among {A : Type 0} (p : A → Bool) (xs : List A) : Type 0 where

@@ -16,7 +16,7 @@ use Rattle.jl_renewal.specs.Renewed.{renewed}
 use Rattle.jl_renewal.specs.Adds.{Follow}
 use Rattle.jl_renewal.proofs.Fit.{IsFit}
 use Rattle.jl_renewal.proofs.Phases.{Leads, leads_on}
-use Rattle.jl_renewal.proofs.StayLaws.{switches_length}
+use Rattle.jl_renewal.proofs.StayLaws.{switches_length, switch_there}
 use Rattle.jl_renewal.proofs.SwitchPhase.{switches_lead}
 use Rattle.jl_renewal.proofs.CallSitePhase.{call_sites_lead}
 use Rattle.jl_renewal.proofs.PlacePhase.{places_lead}
@@ -52,7 +52,7 @@ module _ (limits : Limits) (w : World) (released : Released) (fit : IsFit w) (ro
   pub sites_lead : Leads limits (only_classes w released) (site_events w n) fresh
   sites_lead =
       let total = switches_length w released in
-      let switches = switches_lead limits fresh.classes w.sites n (staying_switches w released) refl total room.switches in
+      let switches = switches_lead limits fresh.classes w.sites n (staying_switches w released) refl total (switch_there w released) room.switches in
       let as_many = many_staying (staying_sites w.classes w.places) w.places (length-map w.places (λ (place : Place). is_present w.classes place.class)) in
       let few = room.sites in
       let at_places = leads_on limits with_call_sites with_places fresh (filter_map (request n) w.places) (filter_map (binding n) w.bindings)

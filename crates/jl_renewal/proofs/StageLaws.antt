@@ -1,10 +1,11 @@
--- What a site in a class that is present comes to is under new numbers what it came to.
+-- What a site that isn't gone comes to is under new numbers what it came to.
 use Rattle.std.specs.Prelude.{◌≡◌, ◌==◌, ◌&&◌, ℕ, zero, suc, Bool, true, false, not, ⊤, List, [], ◌∷◌, find, slice_get}
 use Rattle.std.specs.Prelude.{Option, Some, None, option_map, option_and_then, Result, Ok, Err, if◌then◌else◌}
 use Rattle.std.specs.Option.{option_map_or}
 use Rattle.std.proofs.Common.{refl, sym, ap, subst, ◌∙◌}
+use Rattle.std.proofs.lemmas.Bool.{not-true}
 use Rattle.std.proofs.lemmas.Bool.Decides.{Decides-eqb}
-use Rattle.std.proofs.lemmas.Option.{same_Some, slice_get_within}
+use Rattle.std.proofs.lemmas.Option.{same_Some}
 use Rattle.jl_pool.specs.declared.reference.Reference.{Reference}
 use Rattle.jl_class.specs.declared.site.Kind.{Kind}
 use Rattle.jl_class.specs.declared.site.Kind.TheVariants.{Virtual, Special, Static, Interface, Dynamic}
@@ -16,19 +17,22 @@ use Rattle.jl_types.specs.declared.ids.Place.{Place}
 use Rattle.jl_types.specs.declared.answer.Throwable.TheVariants.{NoSuchMethodError, IncompatibleClassChangeError}
 use Rattle.jl_types.specs.declared.answer.ResolveAnswer.{ResolveAnswer}
 use Rattle.jl_types.specs.declared.answer.ResolveAnswer.TheVariants as resolve
-use Rattle.jl_types.specs.declared.answer.Unlinked.TheVariants.{Gone}
-use Rattle.jl_types.specs.Values.World.{World, Classes}
+use Rattle.jl_types.specs.declared.answer.Unlinked.{Unlinked}
+use Rattle.jl_types.specs.declared.answer.Unlinked.TheVariants.{Gone, Unbound}
+use Rattle.jl_types.specs.Values.World.{World, Classes, CallSite, is_missing}
 use Rattle.jl_types.specs.Values.Members.{is_present, is_static}
 use Rattle.jl_types.specs.Linkage.Resolution.{Resolved, resolved}
 use Rattle.jl_types.specs.Linkage.Selection.{is_init}
-use Rattle.jl_types.specs.Linkage.Targets.{method_of}
+use Rattle.jl_types.specs.Linkage.Targets.{evaluated, method_of}
 use Rattle.jl_types.specs.Linkage.Stages.{Selector, ByVirtual, ByInterface, BySpecial, ResolvedCall, Stage, Waits, Fails, Calls, Selects}
-use Rattle.jl_types.specs.Linkage.Stages.{selecting, by_kind, by_resolution, by_method, bound_method, invocation_at, by_operand, bound_to, stage_of}
+use Rattle.jl_types.specs.Linkage.Stages.{selecting, by_kind, by_resolution, by_method, by_binding, invocation_at, by_operand, bound_to, stage_of}
 use Rattle.jl_types.specs.Linkage.Stages.{stage_at, stage}
+use Rattle.jl_types.proofs.Bools.{first_test, second_test}
 use Rattle.jl_renewal.specs.Numbers.{Numbers, renumbered}
-use Rattle.jl_renewal.specs.Staying.{is_in_staying_class}
+use Rattle.jl_renewal.specs.Staying.{is_in_staying_class, has_lost_call_site, is_alive}
 use Rattle.jl_renewal.specs.Renewed.{renumbered_place, renumbered_binding, renumbered_method}
 use Rattle.jl_renewal.proofs.AlikeSites.{SitesAlike}
+use Rattle.jl_renewal.proofs.ReleasedRows.{missing_row}
 use Rattle.jl_renewal.proofs.Fit.{IsFit}
 use Rattle.jl_renewal.proofs.Alike.{AreAlike}
 use Rattle.jl_renewal.proofs.AccessLaws.{static_same}
@@ -77,6 +81,30 @@ is_found {A = A} p (y ∷ xs) x e = by_test (p y) refl e (is_found p xs x)
     by_test true is e rest = record { place = zero; at = e; passes = subst (λ (z : A). p z ≡ true) (same_Some y x e) is }
     by_test false is e rest = let r = rest e in record { place = suc r.place; at = r.at; passes = r.passes }
 
+-- the site has no link
+abbrev pub Waiting : Stage → Type 0
+Waiting t = (reason : Unlinked) × (t ≡ Waits reason)
+
+-- in the old world, too
+module _ (w : World) (fit : IsFit w) (s : ℕ) where
+  pub lost_is_gone : is_in_staying_class w s ≡ true → has_lost_call_site w s ≡ true → stage w s ≡ Waits Gone
+  lost_is_gone kept lost = by_found (find (λ b. b.0 == s) w.bindings) refl lost
+    where
+      by_found : (o : Option (ℕ × ℕ)) → find (λ b. b.0 == s) w.bindings ≡ o
+          → option_map_or (is_missing w.sites.call_sites) (option_map (λ b. b.1) o) false ≡ true → stage w s ≡ Waits Gone
+      by_found None is e = cc
+      by_found (Some b) is e =
+          let at = is_found (λ b. b.0 == s) w.bindings b is in
+          let bound = fit.bindings at.place b at.at in
+          let place = ap (slice_get w.places) (sym ((Decides-eqb b.0 s).0 at.passes)) ∙ bound.requested in
+          let there = sym (ap (λ (o : Option Place). option_map_or (λ place. is_present w.classes place.class) o false) place) ∙ kept in
+          let row = missing_row w.sites.call_sites b.1 e in
+          ap (stage_at w s) place
+          ∙ ((λ i. if there i then stage_of w s bound.place.class (bound.at i) else Waits Gone)
+          ∙ (ap (by_operand w s bound.place.class bound.site.kind) bound.dynamic
+          ∙ (ap (λ (o : Option (ℕ × ℕ)). by_binding w.sites (option_map (λ b. b.1) o)) is
+          ∙ ap (λ (o : Option CallSite). by_method (option_and_then (λ site. evaluated w.sites b.1 site.target) o)) row)))
+
 module _ (n : Numbers) (w v : World) (stays : ℕ → Bool) (same : SitesAlike n w v stays) where
   abbrev fit : IsFit w
   fit = same.fit
@@ -86,26 +114,27 @@ module _ (n : Numbers) (w v : World) (stays : ℕ → Bool) (same : SitesAlike n
 
   -- ---- an invokedynamic
 
-  module _ (s : ℕ) (kept : is_in_staying_class w s ≡ true) where
-    -- its call site stays, and runs what it ran
-    by_binding : (o : Option (ℕ × ℕ)) → find (λ b. b.0 == s) w.bindings ≡ o
-        → option_and_then (method_of v.sites) (option_map (λ b. b.1) (option_map (renumbered_binding n) o))
-        ≡ option_map (renumbered_method n) (option_and_then (method_of w.sites) (option_map (λ b. b.1) o))
-    by_binding None is = refl
-    by_binding (Some b) is =
-        let at = is_found (λ b. b.0 == s) w.bindings b is in
-        let bound = fit.bindings at.place b at.at in
-        method_same n w v stays same b.1 (same.bound at.place b at.at (ap (is_in_staying_class w) ((Decides-eqb b.0 s).0 at.passes) ∙ kept))
-        (slice_get_within w.sites.call_sites b.1 bound.call_site bound.there)
-
-    bound_same : bound_method v (renumbered n.sites s) ≡ option_map (renumbered_method n) (bound_method w s)
-    bound_same =
-        ap (λ (o : Option (ℕ × ℕ)). option_and_then (method_of v.sites) (option_map (λ b. b.1) o)) (same.bindings s kept)
-        ∙ by_binding (find (λ b. b.0 == s) w.bindings) refl
-
   by_method_same : (o : Option MethodId) → by_method (option_map (renumbered_method n) o) ≡ renumbered_stage n (by_method o)
   by_method_same None = refl
   by_method_same (Some m) = refl
+
+  -- its call site stays, and runs what it ran
+  bound_same : (s : ℕ) → is_alive w s ≡ true → by_binding v.sites (bound_to v (renumbered n.sites s)) ≡ renumbered_stage n (by_binding w.sites (bound_to w s))
+  bound_same s alive =
+      ap (λ (o : Option (ℕ × ℕ)). by_binding v.sites (option_map (λ b. b.1) o)) (same.bindings s alive) ∙ by_found (find (λ b. b.0 == s) w.bindings) refl
+    where
+      by_found : (o : Option (ℕ × ℕ)) → find (λ b. b.0 == s) w.bindings ≡ o
+          → by_binding v.sites (option_map (λ b. b.1) (option_map (renumbered_binding n) o))
+          ≡ renumbered_stage n (by_binding w.sites (option_map (λ b. b.1) o))
+      by_found None is = refl
+      by_found (Some b) is =
+          let at = is_found (λ b. b.0 == s) w.bindings b is in
+          let kept = first_test (is_in_staying_class w s) _ alive in
+          let there = sym (ap (λ (o : Option (ℕ × ℕ)). option_map_or (is_missing w.sites.call_sites) (option_map (λ b. b.1) o) false) is)
+          ∙ not-true (has_lost_call_site w s) (second_test (is_in_staying_class w s) _ alive) in
+          ap by_method (method_same n w v stays same b.1
+          (same.bound at.place b at.at there (ap (is_in_staying_class w) ((Decides-eqb b.0 s).0 at.passes) ∙ kept)) there)
+          ∙ by_method_same (method_of w.sites b.1)
 
   -- ---- the other instructions
 
@@ -147,14 +176,14 @@ module _ (n : Numbers) (w v : World) (stays : ℕ → Bool) (same : SitesAlike n
 
   -- ---- a site
 
-  operand_same : (s d : ℕ) → is_in_staying_class w s ≡ true → is_present w.classes d ≡ true → (kind : Kind) (operand : Operand (List ℕ))
+  operand_same : (s d : ℕ) → is_alive w s ≡ true → is_present w.classes d ≡ true → (kind : Kind) (operand : Operand (List ℕ))
       → by_operand v (renumbered n.sites s) (renumbered n.classes d) kind operand ≡ renumbered_stage n (by_operand w s d kind operand)
   operand_same s d kept mine kind (operand.Method ref) =
       ap (by_resolution v.classes kind (renumbered n.classes d) ref) (resolved_same n w.classes v.classes alike d ref mine)
       ∙ resolution_same d mine ref kind (resolved w.classes d ref) refl
-  operand_same s d kept mine kind (operand.CallSite specifier) = ap by_method (bound_same s kept) ∙ by_method_same (bound_method w s)
+  operand_same s d kept mine kind (operand.CallSite specifier) = bound_same s kept
 
-  site_same : (s d : ℕ) → is_in_staying_class w s ≡ true → is_present w.classes d ≡ true → (o : Option Site)
+  site_same : (s d : ℕ) → is_alive w s ≡ true → is_present w.classes d ≡ true → (o : Option Site)
       → stage_of v (renumbered n.sites s) (renumbered n.classes d) o ≡ renumbered_stage n (stage_of w s d o)
   site_same s d kept mine None = refl
   site_same s d kept mine (Some site) = operand_same s d kept mine site.kind site.operand
@@ -166,9 +195,9 @@ module _ (n : Numbers) (w v : World) (stays : ℕ → Bool) (same : SitesAlike n
       ap (option_and_then (λ method. find (λ site. site.pc == place.pc) method.sites))
       (alike.method (record { class = place.class; index = place.method }) there)
 
-  -- a site that stays comes to what it came to
-  pub stage_same : (s : ℕ) → is_in_staying_class w s ≡ true → stage v (renumbered n.sites s) ≡ renumbered_stage n (stage w s)
-  stage_same s kept = by_place (slice_get w.places s) refl kept
+  -- a site that isn't gone comes to what it came to
+  pub stage_same : (s : ℕ) → is_alive w s ≡ true → stage v (renumbered n.sites s) ≡ renumbered_stage n (stage w s)
+  stage_same s kept = by_place (slice_get w.places s) refl (first_test (is_in_staying_class w s) _ kept)
     where
       is_there : Place → Bool
       is_there place = is_present w.classes place.class
@@ -182,6 +211,33 @@ module _ (n : Numbers) (w v : World) (stays : ℕ → Bool) (same : SitesAlike n
           then stage_of v (renumbered n.sites s) (renumbered n.classes place.class) (invocation_same place there i) else Waits Gone)
           ∙ (site_same s place.class kept there (invocation_at w.classes place)
           ∙ sym (ap (λ (b : Bool). renumbered_stage n (if b then stage_of w s place.class (invocation_at w.classes place) else Waits Gone)) there)))
+
+  -- ---- a site whose call site is released
+
+  -- it waits
+  pub lost_waits : (s : ℕ) → is_in_staying_class w s ≡ true → has_lost_call_site w s ≡ true → Waiting (stage v (renumbered n.sites s))
+  lost_waits s kept lost = by_found (find (λ b. b.0 == s) w.bindings) refl lost
+    where
+      waiting : (o : Option ℕ) → option_and_then (method_of v.sites) o ≡ None → Waiting (by_binding v.sites o)
+      waiting None e = (Unbound, refl)
+      waiting (Some c) e = (Gone, ap by_method e)
+
+      by_found : (o : Option (ℕ × ℕ)) → find (λ b. b.0 == s) w.bindings ≡ o
+          → option_map_or (is_missing w.sites.call_sites) (option_map (λ b. b.1) o) false ≡ true → Waiting (stage v (renumbered n.sites s))
+      by_found None is e = cc
+      by_found (Some b) is e =
+          let at = is_found (λ b. b.0 == s) w.bindings b is in
+          let bound = fit.bindings at.place b at.at in
+          let place = ap (slice_get w.places) (sym ((Decides-eqb b.0 s).0 at.passes)) ∙ bound.requested in
+          let there = sym (ap (λ (o : Option Place). option_map_or (λ place. is_present w.classes place.class) o false) place) ∙ kept in
+          let t = renumbered n.sites s in
+          let waits = waiting (bound_to v t) (same.lost s kept lost) in (
+            waits.0,
+            ap (stage_at v t) (same.places s bound.place place there)
+                ∙ ((λ i. if alike.present bound.place.class there i
+                then stage_of v t (renumbered n.classes bound.place.class) ((invocation_same bound.place there ∙ bound.at) i) else Waits Gone)
+                ∙ (ap (by_operand v t (renumbered n.classes bound.place.class) bound.site.kind) bound.dynamic ∙ waits.1)),
+          )
 
   -- ---- the classes that are named
 
@@ -222,18 +278,18 @@ module _ (n : Numbers) (w v : World) (stays : ℕ → Bool) (same : SitesAlike n
         kind_there r there.0 there.1 kind
 
   -- what a call site runs
-  bound_there : (o : Option ℕ) (m : MethodId) → option_and_then (method_of w.sites) o ≡ Some m → is_present w.classes m.class ≡ true
-  bound_there None m is = cc
-  bound_there (Some c) m is = method_present n w v stays same c m is
-
   called_there : (o : Option MethodId) → ((m : MethodId) → o ≡ Some m → is_present w.classes m.class ≡ true) → IsStageThere w.classes (by_method o)
   called_there None there = tt
   called_there (Some m) there = there m refl
 
+  bound_there : (o : Option ℕ) → IsStageThere w.classes (by_binding w.sites o)
+  bound_there None = tt
+  bound_there (Some c) = called_there (method_of w.sites c) (method_present n w v stays same c)
+
   operand_there : (s d : ℕ) → is_present w.classes d ≡ true → (kind : Kind) (operand : Operand (List ℕ))
       → IsStageThere w.classes (by_operand w s d kind operand)
   operand_there s d mine kind (operand.Method ref) = resolution_there d mine ref kind (resolved w.classes d ref) refl
-  operand_there s d mine kind (operand.CallSite specifier) = called_there (bound_method w s) (bound_there (bound_to w s))
+  operand_there s d mine kind (operand.CallSite specifier) = bound_there (bound_to w s)
 
   site_there : (s d : ℕ) → is_present w.classes d ≡ true → (o : Option Site) → IsStageThere w.classes (stage_of w s d o)
   site_there s d mine None = tt

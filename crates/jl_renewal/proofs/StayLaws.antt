@@ -1,10 +1,10 @@
 -- What stays, and the numbers of classes, sites, call sites and switch points.
 use Rattle.std.specs.Prelude.{◌≡◌, ◌<◌, ◌+◌, ℕ, zero, suc, Bool, true, false, not, ◌&&◌, ◌==◌, List, [], ◌∷◌, ◌++◌, map, filter, length, slice_get}
-use Rattle.std.specs.Prelude.{Option, Some, None, option_map, if◌then◌else◌}
+use Rattle.std.specs.Prelude.{Option, Some, None, option_map, option_and_then, if◌then◌else◌}
 use Rattle.std.specs.Option.{option_map_or}
 use Rattle.std.specs.List.{list_any, range_with_len}
 use Rattle.std.proofs.Common.{refl, sym, ap, ◌∙◌, arith, append-nil, length-append}
-use Rattle.std.proofs.lemmas.Bool.{or_left, or_right, and_from, both_ways}
+use Rattle.std.proofs.lemmas.Bool.{or_left, or_right, and_from, both_ways, not-true}
 use Rattle.std.proofs.lemmas.Cmp.{nat_eq_equiv}
 use Rattle.std.proofs.lemmas.Option.{same_Some, slice_get-map, slice_get_within}
 use Rattle.std.proofs.lemmas.Map.Keys.{any_passes_from_place}
@@ -12,13 +12,16 @@ use Rattle.std.proofs.lemmas.List.{map_push, length-map}
 use Rattle.std.proofs.lemmas.List.Elements.{filter-append}
 use Rattle.std.proofs.lemmas.List.FromFn.{length-map-range_with_len}
 use Rattle.jl_types.specs.declared.ids.Place.{Place}
-use Rattle.jl_types.specs.Values.World.{World, Classes, CallSite}
+use Rattle.jl_types.specs.Values.World.{World, Classes, CallSite, unreleased, is_missing}
 use Rattle.jl_types.specs.Values.Members.{is_present, is_retired}
+use Rattle.jl_types.specs.Events.Retirement.{has_target}
+use Rattle.jl_types.proofs.Bools.{first_test}
 use Rattle.jl_types.proofs.Lists.{passes_within}
 use Rattle.jl_renewal.specs.declared.released.Released.{Released}
 use Rattle.jl_renewal.specs.Numbers.{numbered, new_number, renumbered, staying}
 use Rattle.jl_renewal.specs.Staying.{staying_classes, staying_sites, is_in_staying_class, invokes, guards_by, is_among, is_held, staying_from}
-use Rattle.jl_renewal.specs.Staying.{staying_call_sites, staying_switches}
+use Rattle.jl_renewal.specs.Staying.{staying_call_sites, point_stays, staying_switches}
+use Rattle.jl_renewal.proofs.ReleasedRows.{row_at, present_within}
 use Rattle.jl_renewal.proofs.NumberLaws.{number_is, renumbered_is, some_stays, before_once, staying_at}
 
 -- ---- numbers
@@ -48,6 +51,18 @@ renumbered_at f stays xs k x k_stays there =
     slice_get-map f (staying stays xs) (renumbered (numbered stays) k)
     ∙ ap (λ j. option_map f (slice_get (staying stays xs) j)) (renumbered_is stays k k_stays)
     ∙ ap (option_map f) (staying_at stays xs k x k_stays there)
+
+-- so does a row that isn't released
+pub row_renumbered : {A B : Type 0} (f : A → B) (stays : List Bool) (rows : List (Option A)) (k : ℕ) (x : A) → slice_get stays k ≡ Some true
+    → unreleased rows k ≡ Some x → unreleased (map (option_map f) (staying stays rows)) (renumbered (numbered stays) k) ≡ Some (f x)
+row_renumbered f stays rows k x k_stays there =
+    ap (option_and_then (λ row. row)) (renumbered_at (option_map f) stays rows k (Some x) k_stays (row_at rows k x there))
+
+pub row_staying : {A : Type 0} (stays : List Bool) (rows : List (Option A)) (k : ℕ) (x : A) → slice_get stays k ≡ Some true
+    → unreleased rows k ≡ Some x → unreleased (staying stays rows) (renumbered (numbered stays) k) ≡ Some x
+row_staying stays rows k x k_stays there =
+    ap (option_and_then (λ row. row)) (ap (slice_get (staying stays rows)) (renumbered_is stays k k_stays)
+    ∙ staying_at stays rows k (Some x) k_stays (row_at rows k x there))
 
 -- a test of each number of a range
 tests_from : (p : ℕ → Bool) (a n k j : ℕ) → k < n → a + k ≡ j → slice_get (map p (range_with_len a n)) k ≡ Some (p j)
@@ -137,57 +152,91 @@ module _ (w : World) (s : ℕ) where
 -- ---- call sites and switch points
 
 module _ (held : ℕ → Bool) where
-  held_from : (a : ℕ) (sites : List CallSite) (i c : ℕ) (site : CallSite) → a + i ≡ c → slice_get sites i ≡ Some site → held c ≡ true
+  held_from : (a : ℕ) (sites : List (Option CallSite)) (i c : ℕ) → a + i ≡ c → is_missing sites i ≡ false → held c ≡ true
       → slice_get (staying_from held a sites) i ≡ Some true
-  held_from a [] i c site e there h = cc
-  held_from a (x ∷ later) zero c site e there h =
+  held_from a [] i c e there h = cc
+  held_from a (None ∷ later) zero c e there h = cc
+  held_from a (Some x ∷ later) zero c e there h =
       let here : a ≡ c = omega (arith, e) in
-      ap Some (or_left (held a) (list_any (λ site. invokes a site.target) (staying (staying_from held (a + 1) later) later)) (ap held here ∙ h))
-  held_from a (x ∷ later) (suc i) c site e there h = held_from (a + 1) later i c site (omega (arith, e)) there h
+      ap Some (or_left (held a) (list_any (has_target (invokes a)) (staying (staying_from held (a + 1) later) later)) (ap held here ∙ h))
+  held_from a (None ∷ later) (suc i) c e there h = held_from (a + 1) later i c (omega (arith, e)) there h
+  held_from a (Some x ∷ later) (suc i) c e there h = held_from (a + 1) later i c (omega (arith, e)) there h
 
   -- a call site that a later one invokes stays with it
-  invoked_from : (a : ℕ) (sites : List CallSite) (i j c : ℕ) (site : CallSite) → a + i ≡ c → i < j → slice_get sites j ≡ Some site
-      → slice_get (staying_from held a sites) j ≡ Some true → invokes c site.target ≡ true → slice_get (staying_from held a sites) i ≡ Some true
-  invoked_from a [] i j c site e lt there stays h = cc
-  invoked_from a (x ∷ later) i zero c site e lt there stays h = absurd (omega (arith, lt))
-  invoked_from a (x ∷ later) zero (suc j) c site e lt there stays h =
+  invoked_from : (a : ℕ) (sites : List (Option CallSite)) (i j c : ℕ) (site : CallSite) → a + i ≡ c → i < j → unreleased sites j ≡ Some site
+      → slice_get (staying_from held a sites) j ≡ Some true → is_missing sites i ≡ false → invokes c site.target ≡ true
+      → slice_get (staying_from held a sites) i ≡ Some true
+  invoked_from a [] i j c site e lt there stays present h = cc
+  invoked_from a (x ∷ later) i zero c site e lt there stays present h = absurd (omega (arith, lt))
+  invoked_from a (None ∷ later) zero (suc j) c site e lt there stays present h = cc
+  invoked_from a (Some x ∷ later) zero (suc j) c site e lt there stays present h =
       let here : a ≡ c = omega (arith, e) in
       let rest = staying_from held (a + 1) later in
-      ap Some (or_right (held a) (list_any (λ site. invokes a site.target) (staying rest later))
-      (any_staying (λ site. invokes a site.target) rest later j site stays there (ap (λ k. invokes k site.target) here ∙ h)))
-  invoked_from a (x ∷ later) (suc i) (suc j) c site e lt there stays h =
-      invoked_from (a + 1) later i j c site (omega (arith, e)) (omega (arith, lt)) there stays h
+      ap Some (or_right (held a) (list_any (has_target (invokes a)) (staying rest later))
+      (any_staying (has_target (invokes a)) rest later j (Some site) stays (row_at later j site there) (ap (λ k. invokes k site.target) here ∙ h)))
+  invoked_from a (None ∷ later) (suc i) (suc j) c site e lt there stays present h =
+      invoked_from (a + 1) later i j c site (omega (arith, e)) (omega (arith, lt)) there stays present h
+  invoked_from a (Some x ∷ later) (suc i) (suc j) c site e lt there stays present h =
+      invoked_from (a + 1) later i j c site (omega (arith, e)) (omega (arith, lt)) there stays present h
 
-  from_length : (a : ℕ) (sites : List CallSite) → length (staying_from held a sites) ≡ length sites
+  -- one that stays isn't released
+  there_from : (a : ℕ) (sites : List (Option CallSite)) (i : ℕ) → slice_get (staying_from held a sites) i ≡ Some true → is_missing sites i ≡ false
+  there_from a [] i e = cc
+  there_from a (None ∷ later) zero e = cc
+  there_from a (Some x ∷ later) zero e = refl
+  there_from a (None ∷ later) (suc i) e = there_from (a + 1) later i e
+  there_from a (Some x ∷ later) (suc i) e = there_from (a + 1) later i e
+
+  from_length : (a : ℕ) (sites : List (Option CallSite)) → length (staying_from held a sites) ≡ length sites
   from_length a [] = refl
-  from_length a (x ∷ later) = ap suc (from_length (a + 1) later)
+  from_length a (None ∷ later) = ap suc (from_length (a + 1) later)
+  from_length a (Some x ∷ later) = ap suc (from_length (a + 1) later)
 
 module _ (w : World) (released : Released) where
   pub call_sites_length : length (staying_call_sites w released) ≡ length w.sites.call_sites
   call_sites_length = from_length (is_held w released) 0 w.sites.call_sites
 
   pub switches_length : length (staying_switches w released) ≡ length w.sites.switches
-  switches_length = length-map-range_with_len _ 0 (length w.sites.switches)
+  switches_length = length-map-range_with_len (point_stays w released) 0 (length w.sites.switches)
+
+  -- a call site that stays isn't released
+  pub call_site_there : (c : ℕ) → slice_get (staying_call_sites w released) c ≡ Some true → is_missing w.sites.call_sites c ≡ false
+  call_site_there = there_from (is_held w released) 0 w.sites.call_sites
+
+  -- and one that is released has no number
+  pub call_site_gone : (c : ℕ) → is_missing w.sites.call_sites c ≡ true → new_number (numbered (staying_call_sites w released)) c ≡ None
+  call_site_gone c gone =
+      none_of (staying_call_sites w released) c (λ stays. both_ways (is_missing w.sites.call_sites c) (call_site_there c stays) gone)
+
+  -- nor is a switch point
+  pub switch_there : (p : ℕ) → slice_get (staying_switches w released) p ≡ Some true → is_missing w.sites.switches p ≡ false
+  switch_there p stays =
+      not-true (is_missing w.sites.switches p)
+      (first_test (not (is_missing w.sites.switches p)) _ (test_passes (point_stays w released) (length w.sites.switches) p stays))
 
   -- the call site to which a site that stays is bound
-  pub bound_stays : (i : ℕ) (b : ℕ × ℕ) (site : CallSite) → slice_get w.bindings i ≡ Some b → slice_get w.sites.call_sites b.1 ≡ Some site
+  pub bound_stays : (i : ℕ) (b : ℕ × ℕ) → slice_get w.bindings i ≡ Some b → is_missing w.sites.call_sites b.1 ≡ false
       → is_in_staying_class w b.0 ≡ true → slice_get (staying_call_sites w released) b.1 ≡ Some true
-  bound_stays i b site bound there e =
-      held_from (is_held w released) 0 w.sites.call_sites b.1 b.1 site (omega arith) there
-      (or_right (not (is_among released.call_sites b.1)) (list_any (λ x. (x.1 == b.1) && is_in_staying_class w x.0) w.bindings)
+  bound_stays i b bound there e =
+      let wanted = or_right (not (is_among released.call_sites b.1)) (list_any (λ x. (x.1 == b.1) && is_in_staying_class w x.0) w.bindings)
       (any_passes_from_place (λ x. (x.1 == b.1) && is_in_staying_class w x.0) w.bindings i b bound
-      (and_from (b.1 == b.1) (is_in_staying_class w b.0) (nat_eq_equiv.refl b.1) e)))
+      (and_from (b.1 == b.1) (is_in_staying_class w b.0) (nat_eq_equiv.refl b.1) e)) in
+      held_from (is_held w released) 0 w.sites.call_sites b.1 b.1 (omega arith) there
+      (and_from (not (is_missing w.sites.call_sites b.1)) _ (ap not there) wanted)
 
   -- an earlier call site which the target of one that stays invokes
-  pub invoked_stays : (c d : ℕ) (site : CallSite) → slice_get w.sites.call_sites c ≡ Some site → slice_get (staying_call_sites w released) c ≡ Some true
-      → d < c → invokes d site.target ≡ true → slice_get (staying_call_sites w released) d ≡ Some true
-  invoked_stays c d site there stays lt h = invoked_from (is_held w released) 0 w.sites.call_sites d c d site (omega arith) lt there stays h
+  pub invoked_stays : (c d : ℕ) (site : CallSite) → unreleased w.sites.call_sites c ≡ Some site → slice_get (staying_call_sites w released) c ≡ Some true
+      → d < c → is_missing w.sites.call_sites d ≡ false → invokes d site.target ≡ true → slice_get (staying_call_sites w released) d ≡ Some true
+  invoked_stays c d site there stays lt present h =
+      invoked_from (is_held w released) 0 w.sites.call_sites d c d site (omega arith) lt there stays present h
 
   -- a switch point by which the target of a call site that stays guards
-  pub guard_stays : (c p : ℕ) (site : CallSite) → slice_get w.sites.call_sites c ≡ Some site → slice_get (staying_call_sites w released) c ≡ Some true
-      → p < length w.sites.switches → guards_by p site.target ≡ true → slice_get (staying_switches w released) p ≡ Some true
-  guard_stays c p site there stays lt h =
-      tests_at _ (length w.sites.switches) p lt
-      ∙ ap Some (or_right (not (is_among released.switches p))
-      (list_any (λ site. guards_by p site.target) (staying (staying_call_sites w released) w.sites.call_sites))
-      (any_staying (λ site. guards_by p site.target) (staying_call_sites w released) w.sites.call_sites c site stays there h))
+  pub guard_stays : (c p : ℕ) (site : CallSite) → unreleased w.sites.call_sites c ≡ Some site → slice_get (staying_call_sites w released) c ≡ Some true
+      → is_missing w.sites.switches p ≡ false → guards_by p site.target ≡ true → slice_get (staying_switches w released) p ≡ Some true
+  guard_stays c p site there stays present h =
+      tests_at (point_stays w released) (length w.sites.switches) p (present_within w.sites.switches p present)
+      ∙ ap Some (and_from (not (is_missing w.sites.switches p)) _ (ap not present)
+      (or_right (not (is_among released.switches p))
+      (list_any (has_target (guards_by p)) (staying (staying_call_sites w released) w.sites.call_sites))
+      (any_staying (has_target (guards_by p)) (staying_call_sites w released) w.sites.call_sites c (Some site) stays
+      (row_at w.sites.call_sites c site there) h)))

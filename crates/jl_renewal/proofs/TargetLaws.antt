@@ -1,30 +1,29 @@
 -- A target that would be taken in the old core is taken in the fresh one, under new numbers.
-use Rattle.std.specs.Prelude.{◌≡◌, ◌<◌, ◌+◌, ◌==◌, ◌||◌, ◌&&◌, ℕ, true, false, not, max, nat_le, nat_lt, List, [], ◌∷◌, length, slice_get}
+use Rattle.std.specs.Prelude.{◌≡◌, ◌<◌, ◌+◌, ◌==◌, ◌||◌, ◌&&◌, ℕ, true, false, not, max, nat_le, nat_lt, List, [], ◌∷◌, slice_get}
 use Rattle.std.specs.Prelude.{Option, Some, None}
 use Rattle.std.specs.Bool.{then_some}
 use Rattle.std.specs.Option.{option_map_or}
 use Rattle.std.specs.Str.{bytes_eq}
-use Rattle.std.proofs.Common.{refl, sym, ap, subst, ◌∙◌}
+use Rattle.std.proofs.Common.{refl, sym, ap, ◌∙◌}
 use Rattle.std.proofs.lemmas.Bool.{or_left, or_right, lt-leb, leb-false, not-false}
 use Rattle.std.proofs.lemmas.Cmp.{nat_eq_equiv}
-use Rattle.std.proofs.lemmas.Option.{slice_get_within}
 use Rattle.jl_class.specs.Flags.{has_flag, STATIC}
 use Rattle.jl_class.specs.Special.{begins_special}
 use Rattle.jl_types.specs.declared.ids.MethodId.{MethodId}
-use Rattle.jl_types.specs.declared.refusal.CallSiteFault.TheVariants.{UnknownMethod, NotStatic, WrongType, UnknownSwitch, TooDeep, InvokerOrder}
+use Rattle.jl_types.specs.declared.refusal.CallSiteFault.TheVariants.{UnknownCallSite, UnknownMethod, NotStatic, WrongType, UnknownSwitch, TooDeep, InvokerOrder}
 use Rattle.jl_types.specs.Values.Target.{Target, Method, Guard, Invoker, depth}
-use Rattle.jl_types.specs.Values.World.{World, CallSite}
+use Rattle.jl_types.specs.Values.World.{World, CallSite, unreleased, is_missing}
 use Rattle.jl_types.specs.Values.Members.{is_present, methods_of, method_test}
 use Rattle.jl_types.specs.Linkage.Resolution.{first_of}
 use Rattle.jl_types.specs.Linkage.Targets.{parts, part_fault, target_fault, may_be_named, invokes_type}
 use Rattle.jl_types.proofs.Bools.{first_test}
 use Rattle.jl_types.proofs.Firsts.{first_none, test_none}
-use Rattle.jl_types.proofs.Lists.{passes_within, element_at}
 use Rattle.jl_renewal.specs.declared.released.Released.{Released}
 use Rattle.jl_renewal.specs.Numbers.{Numbers, renumbered, renumbered_target}
 use Rattle.jl_renewal.specs.Staying.{numbers_of, staying_call_sites, staying_switches, invokes, guards_by}
 use Rattle.jl_renewal.specs.Renewed.{renewed, renumbered_call_site}
-use Rattle.jl_renewal.proofs.NumberLaws.{renumbered_is, staying_at}
+use Rattle.jl_renewal.proofs.ReleasedRows.{row_there, not_missing}
+use Rattle.jl_renewal.proofs.StayLaws.{row_staying, switch_there}
 use Rattle.jl_renewal.proofs.FreshClasses.{fresh_present, fresh_methods}
 
 -- ---- the size of a target
@@ -49,7 +48,7 @@ module _ (w : World) (released : Released) where
   fresh = renewed w released
 
   -- the fresh core once these call sites are there
-  abbrev pub with_call_sites : List CallSite → World
+  abbrev pub with_call_sites : List (Option CallSite) → World
   with_call_sites call_sites = record {
     classes = fresh.classes;
     places = [];
@@ -58,22 +57,21 @@ module _ (w : World) (released : Released) where
   }
 
   -- a switch point that stays is there
-  switch_there : (p : ℕ) → p < length w.sites.switches → slice_get (staying_switches w released) p ≡ Some true
-      → renumbered n.switches p < length fresh.sites.switches
-  switch_there p lt stays =
-      let here = element_at w.sites.switches p lt in
-      let at = slice_get_within fresh.sites.switches _ here.0 (staying_at (staying_switches w released) w.sites.switches p here.0 stays here.1) in
-      subst (λ k. k < length fresh.sites.switches) (sym (renumbered_is (staying_switches w released) p stays)) at
+  switch_kept : (p : ℕ) → slice_get (staying_switches w released) p ≡ Some true → is_missing fresh.sites.switches (renumbered n.switches p) ≡ false
+  switch_kept p stays =
+      let here = row_there w.sites.switches p (switch_there w released p stays) in
+      not_missing fresh.sites.switches (renumbered n.switches p) here.0
+      (row_staying (staying_switches w released) w.sites.switches p here.0 stays here.1)
 
   -- the switch points, and the call sites before c, that the target names stay
   pub record Names (c : ℕ) (t : Target) : Type 0 where
-    pub guards : (p : ℕ) → p < length w.sites.switches → guards_by p t ≡ true → slice_get (staying_switches w released) p ≡ Some true
-    pub invoked : (d : ℕ) → d < c → invokes d t ≡ true → slice_get (staying_call_sites w released) d ≡ Some true
+    pub guards : (p : ℕ) → is_missing w.sites.switches p ≡ false → guards_by p t ≡ true → slice_get (staying_switches w released) p ≡ Some true
+    pub invoked : (d : ℕ) → d < c → is_missing w.sites.call_sites d ≡ false → invokes d t ≡ true → slice_get (staying_call_sites w released) d ≡ Some true
 
   -- those that stay of the call sites before c are among these, before number k
-  module _ (call_sites : List CallSite) (c k : ℕ)
-      (earlier : (d : ℕ) (other : CallSite) → d < c → slice_get (staying_call_sites w released) d ≡ Some true → slice_get w.sites.call_sites d ≡ Some other
-      → slice_get call_sites (renumbered n.call_sites d) ≡ Some (renumbered_call_site n other))
+  module _ (call_sites : List (Option CallSite)) (c k : ℕ)
+      (earlier : (d : ℕ) (other : CallSite) → d < c → slice_get (staying_call_sites w released) d ≡ Some true → unreleased w.sites.call_sites d ≡ Some other
+      → unreleased call_sites (renumbered n.call_sites d) ≡ Some (renumbered_call_site n other))
       (lower : (d : ℕ) → d < c → slice_get (staying_call_sites w released) d ≡ Some true → renumbered n.call_sites d < k)
       (ty : List ℕ) where
     abbrev v : World
@@ -100,16 +98,20 @@ module _ (w : World) (released : Released) where
     invoker_kept : (d : ℕ) → Names c (Invoker d) → part_fault w c ty (Invoker d) ≡ None → part_fault v k ty (renumbered_target n (Invoker d)) ≡ None
     invoker_kept d names e =
         let order = first_none (then_some (nat_le c d) (InvokerOrder d)) _ e in
-        let wrong = first_none (then_some (not (invokes_type w.sites ty d)) WrongType) [] order.1 in
+        let known = first_none (then_some (is_missing w.sites.call_sites d) UnknownCallSite) _ order.1 in
+        let wrong = first_none (then_some (not (invokes_type w.sites ty d)) WrongType) [] known.1 in
         let lt = leb-false c d (test_none (nat_le c d) (InvokerOrder d) order.0) in
         let typed = not-false (invokes_type w.sites ty d) (test_none (not (invokes_type w.sites ty d)) WrongType wrong.0) in
-        let other = element_at w.sites.call_sites d (passes_within (λ site. bytes_eq site.ty ty) w.sites.call_sites d typed) in
-        let stays = names.invoked d lt (nat_eq_equiv.refl d) in
+        let there = test_none (is_missing w.sites.call_sites d) UnknownCallSite known.0 in
+        let other = row_there w.sites.call_sites d there in
+        let stays = names.invoked d lt there (nat_eq_equiv.refl d) in
+        let present = not_missing call_sites (renumbered n.call_sites d) _ (earlier d other.0 lt stays other.1) in
         let same : invokes_type v.sites ty (renumbered n.call_sites d) ≡ true =
         ap (λ (o : Option CallSite). option_map_or (λ site. bytes_eq site.ty ty) o false) (earlier d other.0 lt stays other.1)
         ∙ sym (ap (λ (o : Option CallSite). option_map_or (λ site. bytes_eq site.ty ty) o false) other.1) ∙ typed in
         λ i. first_of (
         then_some (lt-leb k (renumbered n.call_sites d) (lower d lt stays) i) (InvokerOrder (renumbered n.call_sites d))
+        ∷ then_some (present i) UnknownCallSite
         ∷ then_some (not (same i)) WrongType
         ∷ [])
 
@@ -117,23 +119,23 @@ module _ (w : World) (released : Released) where
     part_kept (Method m) names e = method_kept m e
     part_kept (Invoker d) names e = invoker_kept d names e
     part_kept (Guard p first fallback) names e =
-        let known = first_none (then_some (nat_le (length w.sites.switches) p) UnknownSwitch) _ e in
+        let known = first_none (then_some (is_missing w.sites.switches p) UnknownSwitch) _ e in
         let left = first_none (part_fault w c ty first) _ known.1 in
         let right = first_none (part_fault w c ty fallback) [] left.1 in
-        let lt = leb-false (length w.sites.switches) p (test_none (nat_le (length w.sites.switches) p) UnknownSwitch known.0) in
-        let here = switch_there p lt (names.guards p lt (or_left (p == p) (guards_by p first || guards_by p fallback) (nat_eq_equiv.refl p))) in
+        let there = test_none (is_missing w.sites.switches p) UnknownSwitch known.0 in
+        let here = switch_kept p (names.guards p there (or_left (p == p) (guards_by p first || guards_by p fallback) (nat_eq_equiv.refl p))) in
         let first_kept = part_kept first (record {
           guards = λ q below h. names.guards q below (or_right (p == q) (guards_by q first || guards_by q fallback)
               (or_left (guards_by q first) (guards_by q fallback) h));
-          invoked = λ d below h. names.invoked d below (or_left (invokes d first) (invokes d fallback) h);
+          invoked = λ d below there h. names.invoked d below there (or_left (invokes d first) (invokes d fallback) h);
         }) left.0 in
         let fallback_kept = part_kept fallback (record {
           guards = λ q below h. names.guards q below (or_right (p == q) (guards_by q first || guards_by q fallback)
               (or_right (guards_by q first) (guards_by q fallback) h));
-          invoked = λ d below h. names.invoked d below (or_right (invokes d first) (invokes d fallback) h);
+          invoked = λ d below there h. names.invoked d below there (or_right (invokes d first) (invokes d fallback) h);
         }) right.0 in
         λ i. first_of (
-        then_some (lt-leb (length fresh.sites.switches) (renumbered n.switches p) here i) UnknownSwitch
+        then_some (here i) UnknownSwitch
         ∷ first_kept i
         ∷ fallback_kept i
         ∷ [])

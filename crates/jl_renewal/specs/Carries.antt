@@ -31,7 +31,7 @@ carried_target n (Guard p first fallback) =
 carried_target n (Invoker c) = option_map Invoker (new_number n.call_sites c)
 
 -- Switch points that are gone stay as they are, and so do links: they come over with the others. Of loaders that are retired at once those
--- that are gone are left out: they are retired already.
+-- that are gone are left out: they are retired already. So are call sites and switch points that are gone left out of a release.
 abbrev pub carried : Numbers → Event → Option Event
 carried n event.NewLoader = Some event.NewLoader
 carried n (event.Define loader file) = option_map (λ l. event.Define l file) (new_number n.loaders loader)
@@ -46,6 +46,7 @@ carried n (event.Bind s c) = binding n (s, c)
 carried n (event.Install rows) = None
 carried n (event.Retire loader) = option_map event.Retire (new_number n.loaders loader)
 carried n (event.RetireAll loaders) = Some (event.RetireAll (filter_map (new_number n.loaders) loaders))
+carried n (event.Release cs ps) = Some (event.Release (filter_map (new_number n.call_sites) cs) (filter_map (new_number n.switches) ps))
 
 -- ---- the numbers afterwards
 

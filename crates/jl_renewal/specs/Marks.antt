@@ -1,8 +1,8 @@
 -- Flags that are set, or taken back, by their numbers. A means of proof.
-use Rattle.std.specs.Prelude.{ℕ, ◌+◌, Bool, false, not, ◌&&◌, ◌||◌, ◌==◌, List, [], ◌∷◌, get_or, slice_get, Option, option_and_then}
+use Rattle.std.specs.Prelude.{ℕ, ◌+◌, Bool, false, not, ◌&&◌, ◌||◌, ◌==◌, List, [], ◌∷◌, get_or, Option, option_and_then}
 use Rattle.std.specs.Bool.{then_some}
 use Rattle.jl_types.specs.Values.Target.{Target}
-use Rattle.jl_types.specs.Values.World.{World, CallSite}
+use Rattle.jl_types.specs.Values.World.{World, CallSite, unreleased}
 use Rattle.jl_renewal.specs.Staying.{is_in_staying_class}
 
 -- each flag from number n on, as its number and what it was make it
@@ -23,5 +23,5 @@ abbrev pub binds_staying : World → ℕ → ℕ × ℕ → Bool
 binds_staying w c b = (b.1 == c) && is_in_staying_class w b.0
 
 -- the target of the call site, if its flag is set
-abbrev pub flagged_target : List Bool → List CallSite → ℕ → Option Target
-flagged_target flags sites c = option_and_then (λ site. then_some (get_or flags c false) site.target) (slice_get sites c)
+abbrev pub flagged_target : List Bool → List (Option CallSite) → ℕ → Option Target
+flagged_target flags sites c = option_and_then (λ site. then_some (get_or flags c false) site.target) (unreleased sites c)

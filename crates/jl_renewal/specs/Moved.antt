@@ -7,7 +7,7 @@ use Rattle.jl_types.specs.declared.event.EventOf.TheVariants as event
 use Rattle.jl_types.specs.declared.ids.Place.{Place}
 use Rattle.jl_types.specs.declared.link.Link.{Link}
 use Rattle.jl_types.specs.Values.Target.{Target, Method, Guard, Invoker}
-use Rattle.jl_types.specs.Values.World.{World, Class, Classes, CallSite}
+use Rattle.jl_types.specs.Values.World.{World, Class, Classes, CallSite, unreleased, is_missing}
 use Rattle.jl_types.specs.Values.Members.{is_present, is_retired}
 use Rattle.jl_types.specs.Events.Event.{Event}
 use Rattle.jl_types.specs.Events.Limits.{AreNoFewer}
@@ -102,13 +102,13 @@ moved_world k w = record {
   places = map (moved_place k) (kept k.sites w.places);
   bindings = filter_map (moved_binding k) w.bindings;
   sites = record {
-    call_sites = map (moved_call_site k) (kept k.call_sites w.sites.call_sites);
+    call_sites = map (option_map (moved_call_site k)) (kept k.call_sites w.sites.call_sites);
     switches = kept k.switches w.sites.switches;
   };
 }
 
 -- ---- an event under the new numbers, or none where it names what is gone; switch points that are gone are left out of an invalidation,
--- and loaders that are gone out of a retirement of several
+-- loaders that are gone out of a retirement of several, and call sites and switch points that are gone out of a release
 
 abbrev pub target_there : Flags → Target → Option Target
 target_there k (Method m) = option_map (λ c. Method (record m { class = c })) (moved k.classes m.class)
@@ -130,6 +130,7 @@ event_there k (event.Bind s c) = option_and_then (λ t. option_map (event.Bind t
 event_there k (event.Install rows) = None
 event_there k (event.Retire loader) = option_map event.Retire (moved k.loaders loader)
 event_there k (event.RetireAll loaders) = Some (event.RetireAll (filter_map (moved k.loaders) loaders))
+event_there k (event.Release cs ps) = Some (event.Release (filter_map (moved k.call_sites) cs) (filter_map (moved k.switches) ps))
 
 -- It may name a call site or a switch point that the fresh core doesn't have. An install is no event of the fresh core.
 abbrev pub may_be_gone : Event → Bool
@@ -176,10 +177,11 @@ pub record Rests (k : Flags) (w : World) : Type 0 where
 
 -- what stays names what stays
 pub record Names (k : Flags) (w : World) : Type 0 where
-  -- where a site stays the call site does to which it is bound
-  pub bound : (i : ℕ) (b : ℕ × ℕ) → slice_get w.bindings i ≡ Some b → is_some (moved k.sites b.0) ≡ true → is_some (moved k.call_sites b.1) ≡ true
+  -- where a site stays the call site does to which it is bound, unless that is released
+  pub bound : (i : ℕ) (b : ℕ × ℕ) → slice_get w.bindings i ≡ Some b → is_missing w.sites.call_sites b.1 ≡ false
+      → is_some (moved k.sites b.0) ≡ true → is_some (moved k.call_sites b.1) ≡ true
   -- where a call site stays all does that its target names
-  pub targets : (c : ℕ) (site : CallSite) → slice_get w.sites.call_sites c ≡ Some site → is_some (moved k.call_sites c) ≡ true
+  pub targets : (c : ℕ) (site : CallSite) → unreleased w.sites.call_sites c ≡ Some site → is_some (moved k.call_sites c) ≡ true
       → is_some (target_there k site.target) ≡ true
 
 -- ---- a fresh core beside the old one

@@ -13,7 +13,7 @@ use Rattle.jl_types.specs.declared.refusal.Refusal.{Refusal}
 use Rattle.jl_types.specs.declared.refusal.Refusal.TheVariants.{Memory, SitesFull, LoadersFull, Define, CallSite}
 use Rattle.jl_types.specs.declared.refusal.DefineFault.TheVariants as define
 use Rattle.jl_types.specs.declared.refusal.CallSiteFault.TheVariants as fault
-use Rattle.jl_types.specs.Values.World.{World, Classes, Sites}
+use Rattle.jl_types.specs.Values.World.{World, Classes, Sites, unreleased}
 use Rattle.jl_types.specs.Values.Members.{lookup}
 use Rattle.jl_types.specs.Linkage.Resolution.{first_of}
 use Rattle.jl_types.specs.Linkage.Targets.{is_valid}
@@ -67,7 +67,7 @@ invalidation points = option_to_list (then_some (not (length points == 0)) (even
 -- the call site, if it stays, with the target that it has now
 abbrev pub new_call_site : Sites → Numbers → ℕ → Option Event
 new_call_site sites n c = option_and_then
-    (λ k. option_map (λ site. event.NewCallSite site.kind site.ty (renumbered_target n site.target)) (slice_get sites.call_sites c))
+    (λ k. option_map (λ site. event.NewCallSite site.kind site.ty (renumbered_target n site.target)) (unreleased sites.call_sites c))
     (new_number n.call_sites c)
 
 abbrev pub new_call_sites : Sites → Numbers → List Event

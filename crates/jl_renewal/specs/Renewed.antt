@@ -1,5 +1,5 @@
 -- What stays of a world, under new numbers.
-use Rattle.std.specs.Prelude.{◌≡◌, ℕ, true, ⊤, List, [], map, filter, option_map, Result, Ok, Err}
+use Rattle.std.specs.Prelude.{◌≡◌, ◌&&◌, ℕ, true, not, ⊤, List, [], map, filter, option_map, Result, Ok, Err}
 use Rattle.jl_types.specs.declared.ids.MethodId.{MethodId}
 use Rattle.jl_types.specs.declared.ids.Place.{Place}
 use Rattle.jl_types.specs.declared.answer.Answer.{Answer}
@@ -11,7 +11,7 @@ use Rattle.jl_types.specs.declared.answer.Recv.TheVariants.{Null, Of}
 use Rattle.jl_types.specs.declared.answer.Unlinked.{Unlinked}
 use Rattle.jl_types.specs.declared.link.Link.{Link}
 use Rattle.jl_types.specs.declared.link.Link.TheVariants.{Fault, Plain, Direct, Table, Mega}
-use Rattle.jl_types.specs.Values.World.{World, Class, Classes, CallSite}
+use Rattle.jl_types.specs.Values.World.{World, Class, Classes, CallSite, is_missing}
 use Rattle.jl_types.specs.Values.Members.{is_present}
 use Rattle.jl_renewal.specs.declared.released.Released.{Released}
 use Rattle.jl_renewal.specs.Numbers.{Numbers, staying, renumbered, renumbered_target}
@@ -39,7 +39,7 @@ abbrev pub renumbered_call_site : Numbers → CallSite → CallSite
 renumbered_call_site n site = record site { target = renumbered_target n site.target }
 
 -- What stays of the world, under new numbers: what the loaders that stay find, their classes, the sites in these with their bindings, and
--- the call sites and switch points that stay.
+-- the call sites and switch points that stay. A site that was bound to a released call site is no longer bound.
 abbrev pub renewed_by : Numbers → World → Released → World
 renewed_by n w released = record {
   classes = record {
@@ -48,9 +48,9 @@ renewed_by n w released = record {
     retired = [];
   };
   places = map (renumbered_place n) (staying (staying_sites w.classes w.places) w.places);
-  bindings = map (renumbered_binding n) (filter (λ b. is_in_staying_class w b.0) w.bindings);
+  bindings = map (renumbered_binding n) (filter (λ b. is_in_staying_class w b.0 && not (is_missing w.sites.call_sites b.1)) w.bindings);
   sites = record {
-    call_sites = map (renumbered_call_site n) (staying (staying_call_sites w released) w.sites.call_sites);
+    call_sites = map (option_map (renumbered_call_site n)) (staying (staying_call_sites w released) w.sites.call_sites);
     switches = staying (staying_switches w released) w.sites.switches;
   };
 }

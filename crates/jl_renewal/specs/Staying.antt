@@ -1,11 +1,13 @@
 -- What stays of a world (JVMS 5.3; java.lang.invoke: CallSite, SwitchPoint), and its numbers in the fresh core.
-use Rattle.std.specs.Prelude.{ℕ, ◌+◌, Bool, false, not, ◌&&◌, ◌||◌, ◌==◌, List, [], ◌∷◌, map, length, slice_get}
+use Rattle.std.specs.Prelude.{ℕ, ◌+◌, Bool, false, not, ◌&&◌, ◌||◌, ◌==◌, List, [], ◌∷◌, map, length, slice_get, Option, Some, None}
 use Rattle.std.specs.Option.{option_map_or}
 use Rattle.std.specs.List.{list_any, range_with_len}
 use Rattle.jl_types.specs.Values.Target.{Target, Method, Guard, Invoker}
 use Rattle.jl_types.specs.declared.ids.Place.{Place}
-use Rattle.jl_types.specs.Values.World.{World, Classes, CallSite}
+use Rattle.jl_types.specs.Values.World.{World, Classes, CallSite, is_missing}
 use Rattle.jl_types.specs.Values.Members.{numbers, is_present, is_retired}
+use Rattle.jl_types.specs.Linkage.Stages.{bound_to}
+use Rattle.jl_types.specs.Events.Retirement.{has_target}
 use Rattle.jl_renewal.specs.declared.released.Released.{Released}
 use Rattle.jl_renewal.specs.Numbers.{Numbers, numbered, staying}
 
@@ -43,26 +45,41 @@ guards_by p (Invoker c) = false
 abbrev pub is_in_staying_class : World → ℕ → Bool
 is_in_staying_class w s = option_map_or (λ place. is_present w.classes place.class) (slice_get w.places s) false
 
--- its owner hasn't let it go, or a site that stays is bound to it
+-- the site is bound to a call site that is released
+abbrev pub has_lost_call_site : World → ℕ → Bool
+has_lost_call_site w s = option_map_or (is_missing w.sites.call_sites) (bound_to w s) false
+
+-- it isn't gone
+abbrev pub is_alive : World → ℕ → Bool
+is_alive w s = is_in_staying_class w s && not (has_lost_call_site w s)
+
+-- it isn't released, and its owner hasn't let it go, or a site that stays is bound to it
 abbrev pub is_held : World → Released → ℕ → Bool
-is_held w released c = not (is_among released.call_sites c) || list_any (λ b. (b.1 == c) && is_in_staying_class w b.0) w.bindings
+is_held w released c =
+    not (is_missing w.sites.call_sites c)
+    && (not (is_among released.call_sites c) || list_any (λ b. (b.1 == c) && is_in_staying_class w b.0) w.bindings)
 
-abbrev pub with_first : Bool → ℕ → List CallSite → List Bool → List Bool
-with_first held c later stays = (held || list_any (λ site. invokes c site.target) (staying stays later)) ∷ stays
+abbrev pub with_first : Bool → ℕ → List (Option CallSite) → List Bool → List Bool
+with_first held c later stays = (held || list_any (has_target (invokes c)) (staying stays later)) ∷ stays
 
--- from number c on: those that are held, and those that the target of a later one which stays invokes
-abbrev pub staying_from : (ℕ → Bool) → ℕ → List CallSite → List Bool
+-- from number c on: those that are held, and those that the target of a later one which stays invokes; one that is released goes
+abbrev pub staying_from : (ℕ → Bool) → ℕ → List (Option CallSite) → List Bool
 staying_from held c [] = []
-staying_from held c (site ∷ later) = with_first (held c) c later (staying_from held (c + 1) later)
+staying_from held c (None ∷ later) = false ∷ staying_from held (c + 1) later
+staying_from held c (Some site ∷ later) = with_first (held c) c later (staying_from held (c + 1) later)
 
 abbrev pub staying_call_sites : World → Released → List Bool
 staying_call_sites w released = staying_from (is_held w released) 0 w.sites.call_sites
 
--- its owner hasn't let it go, or the target of a call site that stays guards by it
+-- it isn't released, and its owner hasn't let it go, or the target of a call site that stays guards by it
+abbrev pub point_stays : World → Released → ℕ → Bool
+point_stays w released p =
+    not (is_missing w.sites.switches p)
+    && (not (is_among released.switches p)
+    || list_any (has_target (guards_by p)) (staying (staying_call_sites w released) w.sites.call_sites))
+
 abbrev pub staying_switches : World → Released → List Bool
-staying_switches w released =
-    map (λ p. not (is_among released.switches p) || list_any (λ site. guards_by p site.target) (staying (staying_call_sites w released) w.sites.call_sites))
-    (range_with_len 0 (length w.sites.switches))
+staying_switches w released = map (point_stays w released) (range_with_len 0 (length w.sites.switches))
 
 -- ---- the numbers of what stays
 

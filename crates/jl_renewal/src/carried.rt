@@ -62,6 +62,9 @@ pub(crate) fn carried_event(
             let loaders = carried_loaders(alloc, numbers, loaders.as_slice())?;
             Ok(Some(Event::RetireAll(Seq::of(loaders))))
         }
+        Accepted::Release(call_sites, points) => {
+            carried_release(alloc, numbers, call_sites.as_slice(), points.as_slice())
+        }
     }
 }
 
@@ -115,6 +118,34 @@ fn carried_target(
             None => Ok(None),
         },
     }
+}
+
+/// The release of those call sites and switch points that aren't gone. Want of memory is an error.
+fn carried_release(
+    alloc: Global,
+    numbers: &Renumbering,
+    call_sites: &[CallSiteId],
+    points: &[SwitchId],
+) -> Result<Option<Event>, AllocError>
+    ensures { IfOk result (λ made. made ≡ carries.carried numbers.now (event.Release call_sites.now points.now)) }
+{
+    let call_sites = carried_call_sites(alloc, numbers, call_sites)?;
+    let points = carried_points(alloc, numbers, points)?;
+    Ok(Some(Event::Release(Seq::of(call_sites), Seq::of(points))))
+}
+
+/// The call sites that aren't gone. Want of memory is an error.
+fn carried_call_sites(
+    alloc: Global,
+    numbers: &Renumbering,
+    call_sites: &[CallSiteId],
+) -> Result<Vec<CallSiteId>, AllocError>
+    ensures { IfOk result (λ made. made.items ≡ filter_map (new_number numbers.now.call_sites) call_sites.now) }
+{
+    call_sites
+        .iter()
+        .filter_map(|site| numbers.call_site(*site))
+        .collect(alloc)
 }
 
 /// The switch points that aren't gone. Want of memory is an error.

@@ -112,7 +112,8 @@ fn class_event(
         | Accepted::Bind(_, _)
         | Accepted::Install(_)
         | Accepted::Retire(_)
-        | Accepted::RetireAll(_) => Ok(None),
+        | Accepted::RetireAll(_)
+        | Accepted::Release(_, _) => Ok(None),
     }
 }
 

@@ -19,7 +19,7 @@ use std::alloc::{AllocError, Global};
 /// Why an entry isn't carried over.
 #[derive(Debug, Drop)]
 pub enum CarryFault {
-    /// It names what the fresh core doesn't have: a call site or switch point that was released, or what an entry made that is gone
+    /// It names what the fresh core doesn't have: a call site or switch point that didn't come over, or what an entry made that is gone
     /// itself. What it made is noted as gone, so that what later entries make keeps its number.
     Gone,
     /// The fresh core refuses the event: for want of memory alone, if it stands beside the old core

@@ -1,6 +1,6 @@
 //! The laws of a renewal: each is the contract of a function that does nothing.
 
-ghost use Rattle.std.specs.Prelude.{◌≡◌, ◌↔◌, ℕ, nat_lt, List, ◌++◌, map, fold, Some, None, slice_get, true, false, is_some, Contains, IsOk};
+ghost use Rattle.std.specs.Prelude.{◌≡◌, ◌↔◌, ℕ, nat_lt, List, ◌++◌, map, fold, Some, None, true, false, is_some, Contains, IsOk};
 ghost use Rattle.std.specs.Bool.{then_some};
 ghost use Rattle.jl_types.specs.declared.limits.Limits.{Limits};
 ghost use Rattle.jl_types.specs.declared.refusal.Refusal.TheVariants.{SitesFull};
@@ -21,7 +21,7 @@ ghost use Rattle.jl_core.specs.State.{State, events, world_of, links_of, IsAccep
 ghost use Rattle.jl_core.specs.Logs.{Entry};
 ghost use Rattle.jl_renewal.specs.declared.released.Released.{Released};
 ghost use Rattle.jl_renewal.specs.Numbers.{Numbers, how_many, renumbered};
-ghost use Rattle.jl_renewal.specs.Staying.{numbers_of, staying_sites, is_in_staying_class};
+ghost use Rattle.jl_renewal.specs.Staying.{numbers_of, staying_sites, is_alive};
 ghost use Rattle.jl_renewal.specs.Renewal.{IsRenewal, IsRefilled, CameFrom, renewal, renewal_fault, fresh_rows};
 ghost use Rattle.jl_renewal.specs.Adds.{Follow, Installs, InstallsFront};
 ghost use Rattle.jl_renewal.specs.Carries.{carried, IsMade};
@@ -45,15 +45,16 @@ pub fn only_sites_can_be_short()
         ≡ then_some (nat_lt max_sites (how_many (staying_sites (world_of old).classes (world_of old).places))) SitesFull }
 {}
 
-/// Linking commutes with renumbering: of each site that stays, the link from scratch, and each call's answer, is the same under new numbers.
+/// Linking commutes with renumbering: of each site that isn't gone, the link from scratch, and each call's answer, is the same under new
+/// numbers. A site is gone where its class is retired, or where the call site to which it was bound is released: it is no longer bound in the
+/// fresh core, so its bootstrap method may give another call site there.
 pub fn linking_commutes()
     ensures links { (old : State) (released : Released) → AreAccepted old.limits (events old)
-        → (s : ℕ) → slice_get (staying_sites (world_of old).classes (world_of old).places) s ≡ Some true
+        → (s : ℕ) → is_alive (world_of old) s ≡ true
         → scratch (renewed (world_of old) released) (renumbered (numbers_of (world_of old) released).sites s)
         ≡ renumbered_result (numbers_of (world_of old) released) (scratch (world_of old) s) }
     ensures calls { (old : State) (released : Released) → AreAccepted old.limits (events old)
-        → (s : ℕ) (recv : Recv) → slice_get (staying_sites (world_of old).classes (world_of old).places) s ≡ Some true
-        → IsPresentReceiver (world_of old).classes recv
+        → (s : ℕ) (recv : Recv) → is_alive (world_of old) s ≡ true → IsPresentReceiver (world_of old).classes recv
         → dispatch (renewed (world_of old) released) (renumbered (numbers_of (world_of old) released).sites s)
         (renumbered_receiver (numbers_of (world_of old) released) recv)
         ≡ renumbered_answer (numbers_of (world_of old) released) (dispatch (world_of old) s recv) }
@@ -99,13 +100,13 @@ pub fn fresh_cores_stay_beside()
         → IsAccepted fresh fresh_after (event.Install rows) reply → IsBeside k old fresh_after n }
 {}
 
-/// Linking commutes with renumbering in each fresh core that stands beside the old one: of each site of a present class the link from scratch is
-/// the same under new numbers. So is each call's answer there, on null or on an object of a present class.
+/// Linking commutes with renumbering in each fresh core that stands beside the old one: of each site that isn't gone the link from scratch is the
+/// same under new numbers. So is each call's answer there, on null or on an object of a present class.
 pub fn linking_commutes_beside()
-    ensures links { (k : Flags) (old fresh : State) (n : Numbers) → IsBeside k old fresh n → (s : ℕ) → is_in_staying_class (world_of old) s ≡ true
+    ensures links { (k : Flags) (old fresh : State) (n : Numbers) → IsBeside k old fresh n → (s : ℕ) → is_alive (world_of old) s ≡ true
         → scratch (world_of fresh) (renumbered n.sites s) ≡ renumbered_result n (scratch (world_of old) s) }
     ensures calls { (k : Flags) (old fresh : State) (n : Numbers) → IsBeside k old fresh n → (s : ℕ) (recv : Recv)
-        → is_in_staying_class (world_of old) s ≡ true → IsPresentReceiver (world_of old).classes recv
+        → is_alive (world_of old) s ≡ true → IsPresentReceiver (world_of old).classes recv
         → dispatch (world_of fresh) (renumbered n.sites s) (renumbered_receiver n recv) ≡ renumbered_answer n (dispatch (world_of old) s recv) }
 {}
 
