@@ -1,5 +1,5 @@
 -- Where no call site stays that needs a marked one, nothing speaks against a release.
-use Rattle.std.specs.Prelude.{◌≡◌, ℕ, zero, suc, Bool, true, false, not, ◌||◌, ◌==◌, nat_le, List, [], ◌∷◌, length, find, replicate, slice_set}
+use Rattle.std.specs.Prelude.{◌≡◌, ℕ, zero, suc, Bool, true, false, not, ◌||◌, ◌==◌, nat_le, List, [], ◌∷◌, length, find, replicate, slice_get, slice_set}
 use Rattle.std.specs.Prelude.{Option, Some, None, option_map}
 use Rattle.std.specs.List.{list_any, range_with_len}
 use Rattle.std.specs.Option.{option_map_or}
@@ -127,7 +127,7 @@ module _ (sites : Sites) (going points : List ℕ) (there : find (is_missing sit
   abbrev pub switches : List Bool
   switches = marked (length sites.switches) points
 
-  none_needs : first_marked sites marks switches ≡ None
+  pub none_needs : first_marked sites marks switches ≡ None
       → (first_with sites going (invokes_one going) ≡ None) × (first_with sites going (guards_by_one points) ≡ None)
   none_needs none =
       let same = marked_as_listed (length sites.call_sites) going made in
@@ -136,13 +136,8 @@ module _ (sites : Sites) (going points : List ℕ) (there : find (is_missing sit
         none_with sites going points marks switches same same_points (guards_by_one points) (guarding sites going points marks switches same same_points) none,
       )
 
-  pub nothing_speaks : first_marked sites marks switches ≡ None → release_fault sites going points ≡ None
-  nothing_speaks none =
-      let needs = none_needs none in
-      λ i.
-      first_of (
-      option_map UnknownCallSite (there i)
-      ∷ option_map UnknownSwitch (there_points i)
-      ∷ option_map Invoked (needs.0 i)
-      ∷ option_map Guarded (needs.1 i)
-      ∷ [])
+  pub nothing_against : first_marked sites marks switches ≡ None → release_fault sites going points ≡ None
+  nothing_against none =
+      let staying = none_needs none in
+      (λ i. first_of (option_map UnknownCallSite (there i) ∷ option_map UnknownSwitch (there_points i) ∷ option_map Invoked (staying.0 i)
+      ∷ option_map Guarded (staying.1 i) ∷ []))

@@ -272,6 +272,14 @@ fn release_sites_in(rows: &mut Vec<Option<CallSite>>, going: &[CallSiteId])
     release_sites(rows.as_mut_slice(), going);
 }
 
+/// These switch points are let go.
+fn release_switches_in(rows: &mut Vec<Option<bool>>, going: &[SwitchId])
+    requires { list_any (nat_le (length rows.old.items)) going.now ≡ false }
+    ensures { rows.new.items ≡ release.without rows.old.items going.now }
+{
+    release_switches(rows.as_mut_slice(), going);
+}
+
 /// The same in a slice.
 fn release_sites(rows: &mut [Option<CallSite>], going: &[CallSiteId])
     requires { list_any (nat_le (length rows.old)) going.now ≡ false }
@@ -280,14 +288,6 @@ fn release_sites(rows: &mut [Option<CallSite>], going: &[CallSiteId])
     for site in going {
         rows[site.number() as usize] = None;
     }
-}
-
-/// These switch points are let go.
-fn release_switches_in(rows: &mut Vec<Option<bool>>, going: &[SwitchId])
-    requires { list_any (nat_le (length rows.old.items)) going.now ≡ false }
-    ensures { rows.new.items ≡ release.without rows.old.items going.now }
-{
-    release_switches(rows.as_mut_slice(), going);
 }
 
 /// The same in a slice.

@@ -1,7 +1,7 @@
-use Rattle.std.specs.Prelude.{◌≡◌, None, find}
-use Rattle.std.proofs.Common.{rules, sym, ◌∙◌}
+use Rattle.std.proofs.Common.{sym, ◌∙◌, rules}
+use Rattle.std.specs.Prelude.{◌≡◌, find, None}
 use Rattle.jl_types.specs.Values.World.{is_missing}
-use Rattle.jl_callsites.proofs.Releasing.{made, points_made, nothing_speaks}
+use Rattle.jl_callsites.proofs.Releasing.{made, points_made, nothing_against}
 use Rattle.jl_callsites.proofs.sites.Sites.release_fault.Goals as goal
 
 pub first_needing-requires-clause-call_sites : goal.first_needing-requires-clause-call_sites
@@ -20,4 +20,5 @@ pub returns-in-Ok-None : goal.returns-in-Ok-None
 returns-in-Ok-None c =
     let there : find (is_missing c.args.self.now.call_sites) c.args.call_sites.now ≡ None = search rules in
     let there_points : find (is_missing c.args.self.now.switches) c.args.points.now ≡ None = search rules in
-    sym (nothing_speaks c.args.self.now c.args.call_sites.now c.args.points.now there there_points (sym c.in-Ok-None.ensures ∙ c.in-Ok-None.field-0-is))
+    sym (nothing_against c.args.self.now c.args.call_sites.now c.args.points.now there there_points
+    (sym c.in-Ok-None.ensures ∙ c.in-Ok-None.field-0-is))
