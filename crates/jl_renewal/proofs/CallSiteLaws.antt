@@ -15,12 +15,13 @@ use Rattle.jl_types.specs.Values.Members.{is_present, method_test}
 use Rattle.jl_types.specs.Linkage.Targets.{parts, is_valid, run_by, run_below, evaluated, method_of, may_be_named, part_fault}
 use Rattle.jl_types.proofs.Bools.{first_test}
 use Rattle.jl_types.proofs.Firsts.{first_none, test_none}
+use Rattle.jl_types.proofs.Releasing.{unreleased_within}
 use Rattle.jl_callsites.proofs.Walks.{invoked_runs}
 use Rattle.jl_renewal.specs.Numbers.{Numbers, renumbered, renumbered_target}
 use Rattle.jl_renewal.specs.Staying.{invokes, guards_by}
 use Rattle.jl_renewal.specs.Renewed.{renumbered_method}
 use Rattle.jl_renewal.proofs.AlikeSites.{SitesAlike}
-use Rattle.jl_renewal.proofs.ReleasedRows.{row_there, row_within}
+use Rattle.jl_renewal.proofs.ReleasedRows.{row_there}
 
 -- ---- what a target that would be taken names
 
@@ -148,7 +149,7 @@ module _ (n : Numbers) (w v : World) (stays : ℕ → Bool) (same : SitesAlike n
       (λ d lt d_there invoked.
       let d_stays = same.invoked c d site here.1 c_stays lt d_there invoked in
       invoked_runs v.sites (renumbered n.call_sites c) (renumbered n.call_sites d)
-      (same.order d c d_stays c_stays lt (row_within w.sites.call_sites c site here.1))
+      (same.order d c d_stays c_stays lt (unreleased_within w.sites.call_sites c site here.1))
       ∙ (earlier d lt d_stays d_there ∙ ap (option_map (renumbered_method n)) (sym (invoked_runs w.sites c d lt))))
       (part_taken c site here.1)
       ∙ sym (ap (λ (o : Option CallSite). option_map (renumbered_method n) (option_and_then (λ site. evaluated w.sites c site.target) o)) here.1))
