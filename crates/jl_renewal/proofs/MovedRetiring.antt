@@ -43,7 +43,7 @@ use Rattle.jl_renewal.proofs.MovedFollows.{Follows}
 use Rattle.jl_renewal.proofs.Fit.{IsFit}
 use Rattle.jl_renewal.proofs.FitParts.{find_none, none_in_range, none_placed, none_mapped}
 use Rattle.jl_renewal.proofs.PlacePhase.{position_none}
-use Rattle.jl_renewal.proofs.ReleasedRows.{row_at}
+use Rattle.jl_renewal.proofs.ReleasedRows.{row_at as call_site_row}
 use Rattle.jl_renewal.proofs.MovedLists.{shifted_is, same_numbers, moved_onto, among_moved, kept_unset}
 use Rattle.jl_renewal.proofs.MovedClasses.{loader_at, known, row_at, owner_stays, tested, present_same, present_stays}
 use Rattle.jl_renewal.proofs.MovedSites.{placed, allowed}
@@ -360,7 +360,7 @@ module _ (k : Flags) (w : World) (rests : Rests k w) (fit : IsFit w) (closed : I
       let classes = classes_free loaders l.0 m l.1 (may_retire w loaders free l.0 goes) in
       let unnamed : (i : ℕ) (site : CallSite) → unreleased w.sites.call_sites i ≡ Some site → names_from cs l.0 site.target ≡ false =
       λ i site at. none_placed (has_target (names_from cs l.0)) w.sites.call_sites (untargeted w loaders free l.0 goes) i (Some site)
-      (row_at w.sites.call_sites i site at) in
+      (call_site_row w.sites.call_sites i site at) in
       let targets = still_untargeted loaders l.0 m l.1 unnamed in
       λ i. first_of (classes i ∷ option_map Targeted (targets i) ∷ [])
 
