@@ -4,7 +4,8 @@
     bench/drawn.py PROGRAM          draws 20,000 lines, starts the program anew for each 2,000 of them, and compares all answers
     bench/drawn.py --script FILE    writes 2,000 lines to FILE and the model's answers to FILE.answers; it needs no program
     bench/drawn.py --together BENCH the same of a core, by the program of crates/bench: among the commands are retirements of several loaders at
-                                    once, which no line of linkd has, and lines that are no commands aren't
+                                    once, and releases of call sites and switch points, which no line of linkd has, and lines that are no
+                                    commands aren't
 
     --events N, --seed S            so many lines; the number with which the generator begins, one more at each start
     --after FILE                    what is drawn comes after the commands of this file
@@ -278,13 +279,13 @@ class Draws:
 
     def call_site(self, fits):
         """One of the first call sites that fit, or any, or the one that comes next and isn't there."""
-        numbers = [number for number, each in enumerate(self.world.call_sites) if fits(each)][:6]
+        numbers = [number for number, each in enumerate(self.world.call_sites) if each and fits(each)][:6]
         count = len(self.world.call_sites)
         return self.one_of([] if self.is_one_in(8) else numbers, [count] if self.is_one_in(4) else range(min(6, count)), [0])
 
     def target(self):
         number = self.call_site(lambda each: each["kind"] != "constant")
-        type = self.world.call_sites[number]["type"] if number < len(self.world.call_sites) else VOID
+        type = self.world.call_sites[number]["type"] if self.world.has_call_site(number) else VOID
         return {"do": "target", "callsite": number, "target": self.new_target(type, number)}
 
     def switch(self):
@@ -329,6 +330,20 @@ class Draws:
             loaders.insert(self.below(len(loaders) + 1), drawn)
         return {"do": "retire_all", "loaders": loaders}
 
+    def release(self):
+        """Some call sites and switch points, often with the call sites that name one of them, in any order. Where few are left there are new
+        ones instead."""
+        world = self.world
+        if len(world.targets()) < 8 and not self.is_one_in(6):
+            return self.callsite()
+        call_sites = [self.call_site(lambda each: True) for _ in range(self.one_of([0, 0, 1, 1, 2]))]
+        switches = [self.recent(len(world.switches), 6) for _ in range(self.one_of([0, 0, 1, 2]))]
+        naming = world.naming(call_sites, switches)
+        if len(naming) < 4 and self.is_one_in(2):
+            for number in naming:
+                call_sites.insert(self.below(len(call_sites) + 1), number)
+        return {"do": "release", "callsites": call_sites, "switches": switches}
+
     def family(self):
         """Two new loaders that find classes in loader 0 and in each other, with classes of their own, some of them below the other one's."""
         world = self.world
@@ -349,7 +364,7 @@ class Draws:
         return lines[0]
 
     def lines(self, count):
-        events = EVENTS + [Draws.retire_all, Draws.retire_all, Draws.family] * self.together
+        events = EVENTS + [Draws.retire_all, Draws.retire_all, Draws.family, Draws.release, Draws.release] * self.together
         for _ in range(count):
             yield self.queue.pop(0) if self.queue else self.one_of(events)(self)
 
@@ -415,6 +430,8 @@ OF_RETIREMENT, OF_INVOKERS = ("retire: ", "call: Gone", "install: NotReady"), ("
 # Of loaders that go at once: `bound` are those of which none may go alone, `later` a list in which another one than the first may not go.
 WANTED_TOGETHER = """
 retire_all: ok drops bound later Retire.UnknownLoader Retire.FirstLoader Retire.Inherited Retire.Recorded Retire.Targeted
+release: ok drops Release.UnknownCallSite Release.UnknownSwitch Release.Invoked Release.Guarded
+callsite: CallSite.UnknownCallSite
 """
 OF_LINES = ("line: ",)
 
@@ -465,9 +482,11 @@ def kinds_together(line, alone, answer):
 
 
 def line_text(line):
-    """What the program reads: a line of linkd, or the loaders that go at once."""
+    """What the program reads: a line of linkd, or the loaders, or call sites and switch points, that go at once."""
     if is_together(line):
         return " ".join(["retire", *map(str, line["loaders"])])
+    if not isinstance(line, str) and line["do"] == "release":
+        return " ".join(["release", *map(str, line["callsites"]), "/", *map(str, line["switches"])])
     return line if isinstance(line, str) else text_of(line)
 
 

@@ -1,7 +1,9 @@
 """The plain model of `linkd run` with which bench/drawn.py compares a program: what each line is answered, by the documented rules. It knows
-one command more, `retire_all`, which a host has and no line: several loaders go at once.
+two commands more, which a host has and no line: `retire_all`, by which several loaders go at once, and `release`, by which call sites and switch
+points do.
 
-    bench/drawn_world.py            works out small worlds in which loaders need each other, and compares them with what is known by hand
+    bench/drawn_world.py            works out small worlds in which loaders or call sites need each other, and compares them with what is known
+                                    by hand
 """
 import functools
 import json
@@ -241,8 +243,23 @@ class World:
         one, place, pc = self.places[number]
         return one, one.methods[place].sites[pc]
 
-    def is_gone(self, number):
+    def is_in_retired(self, number):
+        """Whether the site's class is retired."""
         return self.places[number][0].loader in self.retired
+
+    def is_gone(self, number):
+        """Whether that is so, or the call site is released to which it is bound."""
+        return self.is_in_retired(number) or number in self.bindings and self.call_sites[self.bindings[number]] is None
+
+    def has_call_site(self, number):
+        return number < len(self.call_sites) and self.call_sites[number] is not None
+
+    def has_switch(self, number):
+        return number < len(self.switches) and self.switches[number] is not None
+
+    def targets(self):
+        """The call sites that there are, each with the parts of its target."""
+        return [(number, [part for part, _ in parts_of(each["target"])]) for number, each in enumerate(self.call_sites) if each]
 
     # -- links
 
@@ -420,8 +437,8 @@ class World:
         for other in staying:
             found = [one.loader for one in self.records[other].values()]
             refuse_if(loader in found, "Retire.Recorded", loader=other, **told)
-        for number, each in enumerate(self.call_sites):
-            named = [self.classes[part["method"][0]].loader for part, _ in parts_of(each["target"]) if "method" in part]
+        for number, parts in self.targets():
+            named = [self.classes[part["method"][0]].loader for part in parts if "method" in part]
             refuse_if(loader in named, "Retire.Targeted", callsite=number, **told)
 
     def may_go(self, loader):
@@ -447,6 +464,30 @@ class World:
             self.test_retirement(loader, loaders, retire=loader)
         return self.go(loaders)
 
+    def release(self, callsites, switches):
+        for number in callsites:
+            refuse_if(not self.has_call_site(number), "Release.UnknownCallSite", callsite=number)
+        for number in switches:
+            refuse_if(not self.has_switch(number), "Release.UnknownSwitch", switch=number)
+        staying = [(number, parts) for number, parts in self.targets() if number not in callsites]
+        for number, parts in staying:
+            refuse_if(any(part.get("invoker") in callsites for part in parts), "Release.Invoked", callsite=number)
+        for number, parts in staying:
+            refuse_if(any(part.get("guard") in switches for part in parts), "Release.Guarded", callsite=number)
+        for number in callsites:
+            self.call_sites[number] = None
+        for number in switches:
+            self.switches[number] = None
+        return {}
+
+    def naming(self, callsites, switches):
+        """The other call sites whose targets name one of these, or one of those."""
+        going = set(callsites)
+        for number, parts in self.targets():
+            if any(part.get("invoker") in going or part.get("guard") in switches for part in parts):
+                going.add(number)
+        return sorted(going - set(callsites))
+
     def request(self, method, pc, **keys):
         one = self.present(keys["class"])
         refuse_if(one is None, "UnknownClass")
@@ -467,9 +508,10 @@ class World:
         refuse_if(len(parts) > 255 or any(depth > 64 for _, depth in parts), "CallSite.TooDeep")
         for part, _ in parts:
             if "guard" in part:
-                refuse_if(part["guard"] >= len(self.switches), "CallSite.UnknownSwitch")
+                refuse_if(not self.has_switch(part["guard"]), "CallSite.UnknownSwitch")
             elif "invoker" in part:
                 refuse_if(part["invoker"] >= own, "CallSite.InvokerOrder", callsite=part["invoker"])
+                refuse_if(not self.has_call_site(part["invoker"]), "CallSite.UnknownCallSite")
                 refuse_if(self.call_sites[part["invoker"]]["type"] != type, "CallSite.WrongType")
             else:
                 self.test_method(self.present(part["method"][0]), part["method"][1], type)
@@ -487,7 +529,7 @@ class World:
         return {"callsite": len(self.call_sites) - 1}
 
     def target(self, callsite, target):
-        refuse_if(callsite >= len(self.call_sites), "CallSite.UnknownCallSite")
+        refuse_if(not self.has_call_site(callsite), "CallSite.UnknownCallSite")
         refuse_if(self.call_sites[callsite]["kind"] == "constant", "CallSite.Constant")
         self.test_target(target, callsite, self.call_sites[callsite]["type"])
         self.call_sites[callsite] = {**self.call_sites[callsite], "target": target}
@@ -499,16 +541,16 @@ class World:
         return {"switch": len(self.switches) - 1}
 
     def invalidate(self, switches):
-        refuse_if(any(number >= len(self.switches) for number in switches), "CallSite.UnknownSwitch")
+        refuse_if(not all(map(self.has_switch, switches)), "CallSite.UnknownSwitch")
         for number in switches:
             self.switches[number] = False
         return {}
 
     def bind(self, site, callsite):
-        refuse_if(site >= len(self.places) or self.is_gone(site), "UnknownSite", site=site)
+        refuse_if(site >= len(self.places) or self.is_in_retired(site), "UnknownSite", site=site)
         refuse_if(self.site(site)[1]["kind"] != "invokedynamic", "NotDynamic")
         refuse_if(site in self.bindings, "AlreadyBound", callsite=self.bindings.get(site))
-        refuse_if(callsite >= len(self.call_sites), "CallSite.UnknownCallSite")
+        refuse_if(not self.has_call_site(callsite), "CallSite.UnknownCallSite")
         refuse_if(self.call_sites[callsite]["type"] != self.site(site)[1]["type"], "TypeMismatch")
         self.bindings[site] = callsite
         return {}
@@ -552,6 +594,10 @@ def together(*loaders):
     return {"do": "retire_all", "loaders": list(loaders)}
 
 
+def release(callsites, switches=()):
+    return {"do": "release", "callsites": list(callsites), "switches": list(switches)}
+
+
 def calling(name):
     return [method("run", PUBLIC | STATIC, [invoke("virtual", name, "f")])]
 
@@ -577,6 +623,13 @@ HELD = [*OF_EACH_OTHER, {"do": "loader"}, find(3, "C", 1)]
 TARGETED = [
     *OF_EACH_OTHER, define(0, "T", methods=[method("s", PUBLIC | STATIC)]), {"do": "switch"},
     {"do": "callsite", "kind": "mutable", "type": VOID, "target": {"guard": 0, "target": {"method": [4, 0]}, "fallback": {"method": [2, 1]}}},
+]
+# The call site 1 invokes that one, and is bound to the installed site 0 of U 5.
+INVOKED = [
+    *TARGETED, {"do": "callsite", "kind": "constant", "type": VOID, "target": {"invoker": 0}},
+    define(0, "U", methods=[method("r", PUBLIC | STATIC, [invoke("dynamic", None, "d")])]),
+    {"do": "request", "class": 5, "method": 0, "pc": 0}, {"do": "bind", "site": 0, "callsite": 1},
+    {"do": "prepare", "sites": [0]}, {"do": "install", "prepared": 0},
 ]
 UNKNOWN, FIRST = {"refused": "Retire.UnknownLoader"}, {"refused": "Retire.FirstLoader"}
 INHERITED, RECORDED = {"refused": "Retire.Inherited", "class": 3}, {"refused": "Retire.Recorded", "loader": 3}
@@ -604,6 +657,14 @@ WORKED = [
     (CALLED, together(1, 2), {"dropped": [0, 1, 2]}),
     (CALLED, together(2, 1), {"dropped": [0, 1, 2]}),
     (TARGETED, together(2, 1), {"refused": "Retire.Targeted", "callsite": 0, "retire": 1}),
+    (INVOKED, release([]), GOES),
+    (INVOKED, release([0]), {"refused": "Release.Invoked", "callsite": 1}),
+    (INVOKED, release([0], [0]), {"refused": "Release.Invoked", "callsite": 1}),
+    (INVOKED, release([1], [0]), {"refused": "Release.Guarded", "callsite": 0}),
+    (INVOKED, release([0, 7, 8], [9]), {"refused": "Release.UnknownCallSite", "callsite": 7}),
+    (INVOKED, release([0], [0, 9]), {"refused": "Release.UnknownSwitch", "switch": 9}),
+    (INVOKED, release([1]), {"dropped": [0]}),
+    (INVOKED, release([0, 1, 0], [0]), {"dropped": [0]}),
 ]
 # What is left of the pair.
 LEFT = [
@@ -617,6 +678,18 @@ LEFT = [
     ({"do": "prepare", "sites": [0]}, {"prepared": 1, "rows": [[0, {"direct": {"run": [1, 0]}}]]}),
     ({"do": "loader"}, {"dropped": [], "loader": 3}),
 ]
+# What is left of both call sites.
+LEFT_OF_CALL_SITES = [
+    ({"do": "call", "site": 0}, {"unlinked": "Gone"}),
+    ({"do": "bind", "site": 0, "callsite": 0}, {"refused": "AlreadyBound", "callsite": 1}),
+    ({"do": "target", "callsite": 0, "target": {"method": [4, 0]}}, {"refused": "CallSite.UnknownCallSite"}),
+    ({"do": "callsite", "kind": "mutable", "type": VOID, "target": {"invoker": 1}}, {"refused": "CallSite.UnknownCallSite"}),
+    ({"do": "invalidate", "switches": [0]}, {"refused": "CallSite.UnknownSwitch"}),
+    (release([1]), {"refused": "Release.UnknownCallSite", "callsite": 1}),
+    (together(1, 2), GOES),
+    ({"do": "callsite", "kind": "mutable", "type": VOID, "target": {"method": [4, 0]}}, {"callsite": 2, "dropped": []}),
+    ({"do": "switch"}, {"dropped": [], "switch": 1}),
+]
 
 
 def world_after(lines):
@@ -628,7 +701,8 @@ def world_after(lines):
 
 
 def seen(world):
-    return [world.list_links(), world.loaders(), [sorted(each) for each in world.records], len(world.classes), len(world.places)]
+    there = [world.call_sites, world.switches, len(world.classes), len(world.places)]
+    return [world.list_links(), world.loaders(), [sorted(each) for each in world.records], *map(str, there)]
 
 
 def main():
@@ -637,10 +711,11 @@ def main():
         before, came = seen(world), world.answer(line)
         assert came == answer, (line, came, answer)
         assert "refused" not in answer or seen(world) == before, line
-    world = world_after([*CALLED, together(2, 1)])
-    for line, answer in LEFT:
-        assert world.answer(line) == answer, (line, answer)
-    print(f"{len(WORKED) + len(LEFT)} answers are as known by hand")
+    for lines, left in (([*CALLED, together(2, 1)], LEFT), ([*INVOKED, release([1, 0], [0])], LEFT_OF_CALL_SITES)):
+        world = world_after(lines)
+        for line, answer in left:
+            assert world.answer(line) == answer, (line, answer)
+    print(f"{len(WORKED) + len(LEFT) + len(LEFT_OF_CALL_SITES)} answers are as known by hand")
 
 
 if __name__ == "__main__":

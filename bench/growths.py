@@ -119,9 +119,10 @@ STATELESS = ("reading: ", "parts: ", "snapshot: ")
 # The watched calls of the table: the name of each among the lines of one core or server, and which of that name it is.
 TABLE = [("definition of M", "M", 0), ("definition of C", "C", 0), ("install of site 0", "install", 0),
          ("first invalidation", "invalidation", 0), ("second invalidation", "invalidation", 1)]
-# The named calls: the table's, each by a core and by a server; the retirement; and the reading of M's file.
+# The named calls: the table's, each by a core and by a server; the retirement and the release; and the reading of M's file.
 OWNERS = ("core", "server")
-NAMED = [("reading", "M", 0)] + [(owner, call, which) for owner in OWNERS for _, call, which in [*TABLE, ("retirement", "retirement", 0)]]
+ENDS = [("retirement", "retirement", 0), ("release", "release", 0)]
+NAMED = [("reading", "M", 0)] + [(owner, call, which) for owner in OWNERS for _, call, which in [*TABLE, *ENDS]]
 
 Run = collections.namedtuple("Run", "status lines error growths refused")
 

@@ -141,6 +141,8 @@ static uint32_t guarded_by_parts(void) {
 }
 static uint32_t retire(void) { return linkd_retire(at, 1, &told); }
 static uint32_t retire_all(void) { return linkd_retire_all(at, (uint32_t[]){3, 2}, 2, &told); }
+static uint32_t release(void) { return linkd_release(at, (uint32_t[]){1, 0}, 2, (uint32_t[]){0}, 1, &told); }
+static uint32_t count_present(void) { return linkd_counts_present(at, &(linkd_count){0}); }
 
 /* Behind C and the invalidation what was prepared before is stale. The second event behind a view is the one that copies. */
 static const struct {
@@ -154,7 +156,7 @@ static const struct {
     {"call site", guarded}, {"bind", bind}, {"view", take}, {"preparation", prepare_all}, {"install by value", install_prepared_all},
     {"seat", refresh}, {"invalidation", invalidation}, {"install by value", install_prepared_all}, {"install", install_1},
     {"target", retarget}, {"target by parts", retarget_by_parts}, {"call site by parts", guarded_by_parts}, {"retirement", retire}, {"loader", loader},
-    {"loader", loader}, {"retirements", retire_all}, {"seat", refresh}, {"view", take},
+    {"loader", loader}, {"retirements", retire_all}, {"release", release}, {"counts", count_present}, {"seat", refresh}, {"view", take},
 };
 
 static void print_dropped(void) {

@@ -101,6 +101,7 @@ static void closed(linkd_seat *seat) {
     MUST(linkd_bind(at, 0, 0, &told) == LINKD_CLOSED);
     MUST(linkd_retire(at, 0, &told) == LINKD_CLOSED);
     MUST(linkd_retire_all(at, sites, 0, &told) == LINKD_CLOSED);
+    MUST(linkd_release(at, sites, 0, sites, 0, &told) == LINKD_CLOSED);
     MUST(linkd_install(at, sites, 1, &told) == LINKD_CLOSED);
     MUST(linkd_install_links(at, &row, 1, &told, &present) == LINKD_CLOSED);
     MUST(linkd_lookup(at, 0, bytes("A"), 1, sites) == LINKD_CLOSED);
@@ -112,6 +113,7 @@ static void closed(linkd_seat *seat) {
     MUST(linkd_awaited(at, 0, (uint8_t *)sites, sizeof sites, &length) == LINKD_CLOSED);
     MUST(linkd_last_work(at, &(uint64_t){0}) == LINKD_CLOSED);
     MUST(linkd_counts(at, &(linkd_count){0}) == LINKD_CLOSED);
+    MUST(linkd_counts_present(at, &(linkd_count){0}) == LINKD_CLOSED);
     MUST(linkd_dropped(at, sites, 256, &length) == LINKD_CLOSED);
     MUST(linkd_call(at, 0, LINKD_NULL, &answer) == LINKD_CLOSED);
     MUST(linkd_link_of(at, 0, &link) == LINKD_CLOSED);
@@ -150,6 +152,7 @@ static void named(void) {
     MUST(strcmp(linkd_status_name(LINKD_STALE), "LINKD_STALE") == 0 && linkd_status_name(18) == NULL);
     MUST(strcmp(linkd_fault_name(LINKD_DELEGATE, 3), "LINKD_DELEGATE_ALREADY_RECORDED") == 0);
     MUST(strcmp(linkd_fault_name(LINKD_DEFINE, 4), "LINKD_MISSING_PARENT") == 0);
+    MUST(strcmp(linkd_fault_name(LINKD_RELEASE, 3), "LINKD_INVOKED") == 0 && linkd_fault_name(LINKD_RELEASE, 5) == NULL);
     MUST(linkd_fault_name(LINKD_NOT_LINKABLE, 3) == NULL && linkd_fault_name(LINKD_DONE, 1) == NULL);
 }
 
@@ -213,6 +216,9 @@ static void renewed(linkd_seat *seat) {
     classes[14] = 7;
     MUST(linkd_counts(fresh, &count) == LINKD_CLOSED && count.loaders == 0 && count.switches == 0);
     MUST(linkd_counts(at, &count) == LINKD_DONE && count.loaders == 2 && count.classes == 14 && count.sites == 3);
+    MUST(count.call_sites == 3 && count.switches == 2);
+    MUST(linkd_counts_present(fresh, &count) == LINKD_CLOSED && count.classes == 0 && count.call_sites == 0);
+    MUST(linkd_counts_present(at, &count) == LINKD_DONE && count.loaders == 2 && count.classes == 14 && count.sites == 3);
     MUST(count.call_sites == 3 && count.switches == 2);
     MUST(linkd_renew(fresh, at, 3, &released, &numbers) == LINKD_CLOSED);
     MUST(linkd_renew(at, fresh, 0, &released, &numbers) == LINKD_MALFORMED);
@@ -434,6 +440,10 @@ int main(void) {
     TELLS(linkd_retire_all(at, (uint32_t[]){9, 0}, 2, &told), LINKD_RETIRE, 9, LINKD_NO_LOADER, 0);
     TELLS(linkd_retire_all(at, (uint32_t[]){0, 9}, 2, &told), LINKD_RETIRE, 0, LINKD_FIRST_LOADER, 0);
     TELLS(linkd_retire_all(at, sites, 0, &told), LINKD_DONE, 0, 0, 0);
+    TELLS(linkd_release(at, (uint32_t[]){0, 9, 8}, 3, (uint32_t[]){7}, 1, &told), LINKD_RELEASE, 0, LINKD_NO_CALL_SITE, 9);
+    TELLS(linkd_release(at, (uint32_t[]){0}, 1, (uint32_t[]){1, 7}, 2, &told), LINKD_RELEASE, 0, LINKD_NO_SWITCH, 7);
+    TELLS(linkd_release(at, (uint32_t[]){0}, 1, (uint32_t[]){1}, 1, &told), LINKD_RELEASE, 0, LINKD_GUARDED, 1);
+    TELLS(linkd_release(at, sites, 0, sites, 0, &told), LINKD_DONE, 0, 0, 0);
     TELLS(linkd_bind(at, 9, 1, &told), LINKD_UNKNOWN_SITE, 0, 0, 9);
     TELLS(linkd_bind(at, 1, 1, &told), LINKD_NOT_DYNAMIC, 0, 0, 0);
     TELLS(linkd_bind(at, 2, 9, &told), LINKD_CALL_SITE, 0, LINKD_UNKNOWN_CALL_SITE, 0);

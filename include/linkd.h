@@ -32,7 +32,7 @@ extern "C" {
 #endif
 
 /* Grows with each change of this header; linkd_version() tells it of the library. */
-#define LINKD_VERSION 7
+#define LINKD_VERSION 8
 
 typedef struct linkd linkd;
 typedef struct linkd_seat linkd_seat;
@@ -63,6 +63,7 @@ enum linkd_status {
     LINKD_DELEGATE = 16,       /* fault is a linkd_delegate_fault */
     LINKD_LOADERS_FULL = 17,   /* there are as many as the linker may have */
     LINKD_RETIRE = 19,         /* fault is a linkd_retire_fault */
+    LINKD_RELEASE = 20,        /* fault is a linkd_release_fault */
     LINKD_NO_CLASS_FILE = 32,  /* the bytes are no class file: fault is a linkd_class_fault */
     LINKD_MALFORMED = 33,      /* a kind, type, target or link that is none, a number that is too large, or another linker than a renewal's */
     LINKD_CLOSED = 34,         /* the linker or the memo isn't open, the seat was never refreshed, the view never taken, or no renewal begun */
@@ -106,12 +107,12 @@ enum linkd_delegate_fault {
 };
 
 enum linkd_call_site_fault {
-    LINKD_UNKNOWN_CALL_SITE = 1,
+    LINKD_UNKNOWN_CALL_SITE = 1, /* never made, or released */
     LINKD_CONSTANT = 2,
     LINKD_WRONG_TYPE = 3,
     LINKD_UNKNOWN_METHOD = 4,
     LINKD_NOT_STATIC = 5,
-    LINKD_UNKNOWN_SWITCH = 6,
+    LINKD_UNKNOWN_SWITCH = 6,  /* never made, or released */
     LINKD_TOO_DEEP = 7,
     LINKD_CALL_SITES_FULL = 8, /* there are as many as the linker may have; of a new switch point, as many of these */
     LINKD_INVOKER_ORDER = 9 /* place is the call site that the target invokes */
@@ -123,6 +124,14 @@ enum linkd_retire_fault {
     LINKD_INHERITED = 3,    /* place is the least class of a loader that stays that has an ancestor in this one */
     LINKD_RECORDED = 4,     /* place is the least loader that stays and records a class of this one */
     LINKD_TARGETED = 5      /* place is the least call site whose target names a method of one of its classes */
+};
+
+/* Why call sites and switch points aren't let go. A target names what stands on a side that isn't taken, too. */
+enum linkd_release_fault {
+    LINKD_NO_CALL_SITE = 1, /* place is the first call site in the array that was never made, or is released */
+    LINKD_NO_SWITCH = 2,    /* place is the first switch point in the array that was never made, or is released */
+    LINKD_INVOKED = 3,      /* place is the least call site that stays and whose target invokes one of the call sites */
+    LINKD_GUARDED = 4       /* place is the least call site that stays and whose target guards by one of the switch points */
 };
 
 /* Why bytes are no class file (chapter 4). */
@@ -183,7 +192,7 @@ enum linkd_unlinked {
     LINKD_WANTS_CALLER_HOST = 2, /* the nest host of the caller's class isn't */
     LINKD_WANTS_METHOD_HOST = 3, /* the nest host of the method's class isn't */
     LINKD_UNBOUND = 4,           /* an invokedynamic without a call site */
-    LINKD_GONE = 5,
+    LINKD_GONE = 5,              /* the site's class is retired, or the call site to which it is bound is released */
     LINKD_NO_SITE = 6
 };
 
@@ -241,7 +250,8 @@ typedef struct linkd_invocation {
     uint32_t opcode; /* 182 invokevirtual, 183 invokespecial, 184 invokestatic, 185 invokeinterface, 186 invokedynamic (6.5) */
 } linkd_invocation;
 
-/* How many of each a linker has ever had, retired ones among them: the numbers below are theirs. */
+/* How many of each a linker has ever had, retired and released ones among them: the numbers below are theirs. Or how many of them are present:
+ * see at linkd_counts_present. */
 typedef struct linkd_count {
     uint32_t loaders;
     uint32_t classes;
@@ -250,7 +260,8 @@ typedef struct linkd_count {
     uint32_t switches;
 } linkd_count;
 
-/* What the host has let go, in any order: it asks for none of them again. A number that was never given is passed over. */
+/* What the host has let go, in any order: it asks for none of them again. A number that was never given, or that linkd_release has taken, is
+ * passed over. */
 typedef struct linkd_released {
     const uint32_t *call_sites;
     size_t call_site_count;
@@ -348,6 +359,13 @@ uint32_t linkd_retire(linkd *at, uint32_t loader, linkd_told *told);
  * at each link that rests on a class which loses a receiver. Where it is refused it looks no link up, but looks at the classes, the records and
  * the targets once more for each loader up to the one that is told. */
 uint32_t linkd_retire_all(linkd *at, const uint32_t *loaders, size_t count, linkd_told *told);
+/* The call sites and the switch points go at once: all of them or none. What the target of a call site names is its own no more, so that
+ * holds no loader. A site that is bound to a call site that went is LINKD_GONE; after a renewal it is LINKD_UNBOUND. No number is given again.
+ * Only what stays holds one: call sites that invoke each other go, and so does a switch point with the call sites that guard by it. One that
+ * comes twice goes once; where there are none nothing changes. LINKD_RELEASE, of which linkd_release_fault says the place.
+ * It takes one look at each call site's target that there is, and one evaluation for each site that was bound to a call site that went. */
+uint32_t linkd_release(linkd *at, const uint32_t *call_sites, size_t call_site_count, const uint32_t *switches, size_t switch_count,
+                       linkd_told *told);
 /* Links the sites from scratch, 1 to 256 of them, and installs their links: all of them or none. In this order: LINKD_BATCH_SIZE;
  * LINKD_UNKNOWN_SITE or LINKD_REPEATED, whose place is the first site that wasn't requested or comes a second time; LINKD_NOT_READY,
  * whose place is the first site that has no link now: a linkd_call there is LINKD_UNLINKED. */
@@ -398,9 +416,13 @@ uint32_t linkd_awaited(linkd *at, uint32_t site, uint8_t *out, size_t capacity, 
  * it dropped. */
 uint32_t linkd_last_work(linkd *at, uint64_t *work);
 
-/* How many loaders, classes, sites, call sites and switch points there ever were, retired ones among them. Where it is LINKD_CLOSED each
- * count is written as 0. */
+/* How many loaders, classes, sites, call sites and switch points there ever were, retired and released ones among them. Where it is
+ * LINKD_CLOSED each count is written as 0. */
 uint32_t linkd_counts(linkd *at, linkd_count *counts);
+/* How many of these are present: those that a renewal would take over now, if nothing were handed to it as released. So a host knows whether a
+ * renewal is worth it. This call takes memory, and looks at each that there ever was. Where it isn't done each count is written as 0.
+ * LINKD_MEMORY. */
+uint32_t linkd_counts_present(linkd *at, linkd_count *counts);
 
 /* Any command of docs/FORMATS.md, as text. The answer is kept until the next one, and its length written; linkd_take copies it.
  * LINKD_CLOSED; LINKD_MEMORY: the command was obeyed, or nothing has changed. What the command prepare prepares is kept until the linker
@@ -412,10 +434,11 @@ uint32_t linkd_take(linkd *at, uint8_t *out, size_t capacity, size_t *length);
 
 /* Opens the linker `fresh`, which isn't open, over what stays of the linker `at`, which is left as it is: of what is retired or not used any
  * more something stays in a linker, so a process in which loaders come and go, or call sites and switch points are made over and over, goes
- * over to a fresh one from time to time. What stays are the loaders that aren't retired, with
- * their classes and the sites in these, and of the call sites and switch points those that aren't released, a call site also where a site
- * that stays is bound to it or the target of a later one that stays invokes it, and a switch point also where the target of a call site
- * that stays guards by it. They keep their order and get new numbers, from 0 on; a site that stays has its link there, too, if it had one.
+ * over to a fresh one from time to time. What stays are the loaders that aren't retired, with their classes and the sites in these, and the call
+ * sites and switch points that linkd_release hasn't taken and that aren't handed in as released here. Of those that are handed in a call site
+ * stays where a site that stays is bound to it or the target of a later one that stays invokes it, and a switch point where the target of a
+ * call site that stays guards by it. They keep their order and get new numbers, from 0 on; a site that stays has its link there, too, if it
+ * had one. A site that was bound to a call site that linkd_release has taken isn't bound there.
  * In each array the new number of each old one is written in its place, or LINKD_NO_NUMBER; behind as many as linkd_counts says it is as
  * before. max_sites: as linkd_open. Of each other kind `fresh` may have as many as `at`. What linkd_named, linkd_take and the command prepare
  * kept isn't taken over.
@@ -454,7 +477,7 @@ static inline uint32_t linkd_renew(linkd *at, linkd *fresh, uint32_t max_sites, 
  *  - all these calls are given one linker, which isn't closed in between (some others are refused, not all: see at linkd_renewal_take);
  *  - from the begin on the host asks the linker for nothing that it has released: no new target names it, and no site is bound to it;
  *  - after the finish events go to `fresh` alone: what the linker accepts then the fresh one never has.
- * No other event is refused for what is released, retirements and invalidations among them.
+ * No other event is refused for what is released, retirements, releases and invalidations among them.
  * Several renewals of one linker may be under way at a time, each in its own block. None sees the others, and each finish gives a linker of
  * its own, with its own numbers. */
 
@@ -613,6 +636,7 @@ static inline const char *linkd_status_name(uint32_t status) {
         LINKD_NAMED(LINKD_DELEGATE);
         LINKD_NAMED(LINKD_LOADERS_FULL);
         LINKD_NAMED(LINKD_RETIRE);
+        LINKD_NAMED(LINKD_RELEASE);
         LINKD_NAMED(LINKD_NO_CLASS_FILE);
         LINKD_NAMED(LINKD_MALFORMED);
         LINKD_NAMED(LINKD_CLOSED);
@@ -665,6 +689,16 @@ static inline const char *linkd_retire_fault_name(uint32_t fault) {
     }
 }
 
+static inline const char *linkd_release_fault_name(uint32_t fault) {
+    switch (fault) {
+        LINKD_NAMED(LINKD_NO_CALL_SITE);
+        LINKD_NAMED(LINKD_NO_SWITCH);
+        LINKD_NAMED(LINKD_INVOKED);
+        LINKD_NAMED(LINKD_GUARDED);
+        default: return NULL;
+    }
+}
+
 static inline const char *linkd_class_fault_name(uint32_t fault) {
     switch (fault) {
         LINKD_NAMED(LINKD_TOO_LARGE);
@@ -712,6 +746,7 @@ static inline const char *linkd_fault_name(uint32_t status, uint32_t fault) {
         case LINKD_CALL_SITE: return linkd_call_site_fault_name(fault);
         case LINKD_DELEGATE: return linkd_delegate_fault_name(fault);
         case LINKD_RETIRE: return linkd_retire_fault_name(fault);
+        case LINKD_RELEASE: return linkd_release_fault_name(fault);
         case LINKD_NO_CLASS_FILE: return linkd_class_fault_name(fault);
         default: return NULL;
     }

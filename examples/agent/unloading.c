@@ -85,7 +85,8 @@ static bool retire_listed(const uint32_t *numbers, uint32_t count) {
     return false;
 }
 
-/* All that the machine has collected go at once, but for those that a loader holds that stays. */
+/* All that the machine has collected go at once, but for those that a loader holds that stays. The agent makes no call sites. A host that does
+ * releases those of the collected loaders here first (linkd_release), since their targets hold loaders. */
 static void retire_gone(void) {
     uint32_t count, *numbers = malloc(world.loader_count * sizeof *numbers);
     if (numbers == NULL) {

@@ -30,8 +30,8 @@ numbered! {
         WantsMethodHost = 3: "it wants the method's nest host",
         /// An invokedynamic without a call site.
         Unbound = 4: "it is bound to no call site",
-        /// The class of the site is retired.
-        Gone = 5: "its class is retired",
+        /// The class of the site is retired, or the call site to which it is bound is released.
+        Gone = 5: "its class is retired, or its call site is released",
         /// Nothing is requested under this number.
         NoSite = 6: "it isn't requested",
     }

@@ -1,6 +1,6 @@
 //! Why the linker refuses.
 use crate::raw::Told;
-use crate::{CallSiteId, ClassId, Link, LoaderId, SiteId};
+use crate::{CallSiteId, ClassId, Link, LoaderId, SiteId, SwitchId};
 use std::fmt;
 
 /// An enum of the header's numbers: its variants, each with its number and with what it says to a reader.
@@ -118,7 +118,7 @@ numbered! {
 numbered! {
     /// Why a call site isn't made, or has no new target.
     CallSiteFault {
-        /// There is no such call site.
+        /// There is no such call site, or it is released.
         UnknownCallSite = 1: "unknown call site",
         /// A constant call site keeps its target.
         Constant = 2: "it is constant",
@@ -128,7 +128,7 @@ numbered! {
         UnknownMethod = 4: "unknown method",
         /// The method isn't static.
         NotStatic = 5: "a method isn't static",
-        /// There is no such switch point.
+        /// There is no such switch point, or it is released.
         UnknownSwitch = 6: "unknown switch point",
         /// The target is deeper than 64, or has more than 255 parts.
         TooDeep = 7: "the target is too deep or too large",
@@ -163,6 +163,31 @@ impl fmt::Display for RetireFault {
             RetireFault::Inherited(class) => write!(to, "{class} has an ancestor of it"),
             RetireFault::Recorded(loader) => write!(to, "{loader} records a class of it"),
             RetireFault::Targeted(call_site) => write!(to, "{call_site} names a method of it"),
+        }
+    }
+}
+
+/// Why call sites and switch points aren't released.
+#[derive(Clone, Copy, Debug, PartialEq, Eq, Hash)]
+#[non_exhaustive]
+pub enum ReleaseFault {
+    /// This call site, the first of those that were given, was never made, or is released.
+    UnknownCallSite(CallSiteId),
+    /// This switch point, the first of those that were given, was never made, or is released.
+    UnknownSwitch(SwitchId),
+    /// The target of this call site, which stays, invokes one of the call sites.
+    Invoked(CallSiteId),
+    /// The target of this call site, which stays, guards by one of the switch points.
+    Guarded(CallSiteId),
+}
+
+impl fmt::Display for ReleaseFault {
+    fn fmt(&self, to: &mut fmt::Formatter<'_>) -> fmt::Result {
+        match self {
+            ReleaseFault::UnknownCallSite(call_site) => write!(to, "there is no {call_site}"),
+            ReleaseFault::UnknownSwitch(point) => write!(to, "there is no {point}"),
+            ReleaseFault::Invoked(call_site) => write!(to, "{call_site} invokes one of the call sites"),
+            ReleaseFault::Guarded(call_site) => write!(to, "{call_site} guards by one of the switch points"),
         }
     }
 }
@@ -230,6 +255,8 @@ pub enum Error {
         /// Why it can't.
         fault: RetireFault,
     },
+    /// Call sites and switch points aren't released.
+    Release(ReleaseFault),
     /// A type, a target or a link that is none, or a number that is too large.
     Malformed,
     /// Since a renewal began an event has named what was released and is gone. The renewal can't be finished.
@@ -275,6 +302,7 @@ impl fmt::Display for Error {
             Error::LoadersFull => to.write_str("there is no room for more loaders"),
             Error::Retire(fault) => write!(to, "the loader isn't retired: {fault}"),
             Error::RetireAll { loader, fault } => write!(to, "{loader} isn't retired, nor are the others: {fault}"),
+            Error::Release(fault) => write!(to, "nothing is released: {fault}"),
             Error::Malformed => to.write_str("a type, a target or a link that is none, or a number that is too large"),
             Error::Released { number, events } => write!(to, "event {events} names {number}, which was released and is gone"),
             Error::OtherLinker => to.write_str("the renewal has begun with another linker"),
@@ -293,6 +321,17 @@ fn retire_fault(told: &Told) -> Option<RetireFault> {
         3 => RetireFault::Inherited(ClassId(told.place)),
         4 => RetireFault::Recorded(LoaderId(told.place)),
         5 => RetireFault::Targeted(CallSiteId(told.place)),
+        _ => return None,
+    })
+}
+
+/// The error of a release, by its number.
+fn release_fault(told: &Told) -> Option<ReleaseFault> {
+    Some(match told.fault {
+        1 => ReleaseFault::UnknownCallSite(CallSiteId(told.place)),
+        2 => ReleaseFault::UnknownSwitch(SwitchId(told.place)),
+        3 => ReleaseFault::Invoked(CallSiteId(told.place)),
+        4 => ReleaseFault::Guarded(CallSiteId(told.place)),
         _ => return None,
     })
 }
@@ -318,6 +357,7 @@ fn named(status: u32, told: &Told) -> Option<Error> {
         16 => Error::Delegate(DelegateFault::of(told.fault)?),
         17 => Error::LoadersFull,
         19 => Error::Retire(retire_fault(told)?),
+        20 => Error::Release(release_fault(told)?),
         32 => Error::NoClassFile { fault: ClassFault::of(told.fault)?, place: told.place, cause: told.cause, pc: told.at },
         33 => Error::Malformed,
         37 => Error::Released { number: told.place, events: told.number },

@@ -29,7 +29,7 @@ mod seat;
 mod view;
 
 pub use answer::{Answer, Link, Outcome, Row, Target, Throwable, Unlinked};
-pub use error::{CallSiteFault, ClassFault, DefineFault, DelegateFault, Error, NotLinkable, RetireFault};
+pub use error::{CallSiteFault, ClassFault, DefineFault, DelegateFault, Error, NotLinkable, ReleaseFault, RetireFault};
 pub use invocation::{Instruction, Invocation};
 pub use limits::Limits;
 pub use linker::{CallSiteKind, Linker};

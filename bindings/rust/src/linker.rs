@@ -220,6 +220,19 @@ impl Linker {
         })
     }
 
+    /// The call sites and the switch points go at once: all or none. A site that is bound to one of these call sites is
+    /// [`Unlinked::Gone`](crate::Unlinked::Gone), and what their targets name holds no loader any more. Only what stays holds one, so call sites
+    /// that invoke each other go. One that comes twice goes once; where there are none nothing changes.
+    ///
+    /// [`Error::Release`].
+    pub fn release(&mut self, call_sites: &[CallSiteId], switches: &[SwitchId]) -> Result<(), Error> {
+        let mut told = Told::default();
+        let sites: Vec<u32> = call_sites.iter().map(|call_site| call_site.0).collect();
+        let points: Vec<u32> = switches.iter().map(|switch| switch.0).collect();
+        let status = unsafe { raw::linkd_release(self.at(), sites.as_ptr(), sites.len(), points.as_ptr(), points.len(), &mut told) };
+        done(status, &told)
+    }
+
     /// Links the sites from scratch, 1 to 256 of them: all or none.
     pub fn install(&mut self, sites: &[SiteId]) -> Result<(), Error> {
         let mut told = Told::default();

@@ -1,6 +1,6 @@
 //! The calls of `include/linkd.h`, of this version. Nothing compares these declarations with the header but the crate's tests.
 
-pub const VERSION: u32 = 7;
+pub const VERSION: u32 = 8;
 
 /// A linker, a seat, a memo, a view or a renewal, in a block of a size that the library tells.
 #[repr(C)]
@@ -110,6 +110,14 @@ extern "C" {
     pub fn linkd_bind(at: *mut Opaque, site: u32, call_site: u32, told: *mut Told) -> u32;
     pub fn linkd_retire(at: *mut Opaque, loader: u32, told: *mut Told) -> u32;
     pub fn linkd_retire_all(at: *mut Opaque, loaders: *const u32, count: usize, told: *mut Told) -> u32;
+    pub fn linkd_release(
+        at: *mut Opaque,
+        call_sites: *const u32,
+        call_site_count: usize,
+        switches: *const u32,
+        switch_count: usize,
+        told: *mut Told,
+    ) -> u32;
     pub fn linkd_install(at: *mut Opaque, sites: *const u32, count: usize, told: *mut Told) -> u32;
     pub fn linkd_install_links(at: *mut Opaque, rows: *const LinkRow, count: usize, told: *mut Told, present: *mut Link) -> u32;
     pub fn linkd_dropped(at: *mut Opaque, out: *mut u32, capacity: usize, length: *mut usize) -> u32;

@@ -4,8 +4,8 @@ mod file;
 
 use linkd::{
     Answer, CallSiteFault, CallSiteId, CallSiteKind, ClassFault, ClassId, DefineFault, DelegateFault, Error, Instruction, Invocation,
-    Limits, Link, Linker, LoaderId, NotLinkable, Outcome, Released, Renewal, RetireFault, SiteId, SwitchId, Target, Throwable, Unlinked,
-    NEWEST_KNOWN,
+    Limits, Link, Linker, LoaderId, NotLinkable, Outcome, ReleaseFault, Released, Renewal, RetireFault, SiteId, SwitchId, Target,
+    Throwable, Unlinked, NEWEST_KNOWN,
 };
 use std::sync::{Arc, Mutex};
 
@@ -206,6 +206,36 @@ fn loaders_that_record_each_other_go_at_once() -> Result<(), Error> {
     assert_eq!((linker.call(site, Some(b)), linker.call(site, Some(c))), (answers(a), Answer::BadReceiver));
     assert_eq!(linker.retire_all(&[second]), Err(Error::RetireAll { loader: second, fault: RetireFault::UnknownLoader }));
     linker.install(&[site])?;
+    Ok(())
+}
+
+/// The first call site's target names a method of loader 1, the second invokes the first, and the third guards by the switch point.
+#[test]
+fn call_sites_go_before_the_loader_that_they_hold() -> Result<(), Error> {
+    let World { mut linker, m, .. } = world()?;
+    let loader = linker.new_loader()?;
+    linker.delegate(loader, OBJECT.as_bytes(), LoaderId::FIRST)?;
+    let n = linker.define_in(loader, &file::class("N", Some(OBJECT), &[(PUBLIC_STATIC, "n", vec![])]))?;
+    let point = linker.new_switch()?;
+    let (mutable, method) = (CallSiteKind::Mutable, Target::Method(m, 1));
+    let plain = linker.new_call_site(mutable, b"()V", &Target::Method(n, 0))?;
+    let invoking = linker.new_call_site(mutable, b"()V", &Target::Invoker(plain))?;
+    let target = Box::new(method.clone());
+    let guarded = linker.new_call_site(mutable, b"()V", &Target::Guard(point, target.clone(), target))?;
+    assert_eq!(linker.retire(loader), Err(Error::Retire(RetireFault::Targeted(plain))));
+    assert_eq!(linker.release(&[plain], &[]), Err(Error::Release(ReleaseFault::Invoked(invoking))));
+    assert_eq!(linker.release(&[plain, invoking], &[point]), Err(Error::Release(ReleaseFault::Guarded(guarded))));
+    linker.release(&[], &[])?;
+    linker.release(&[plain, invoking, plain], &[])?;
+    linker.retire(loader)?;
+    let unknown = Error::Release(ReleaseFault::UnknownCallSite(invoking));
+    assert_eq!(linker.release(&[invoking, plain], &[]), Err(unknown.clone()));
+    assert_eq!(unknown.to_string(), "nothing is released: there is no call site 1");
+    let gone = Err(Error::CallSite(CallSiteFault::UnknownCallSite));
+    assert_eq!(linker.set_target(plain, &method), gone);
+    assert_eq!(linker.new_call_site(mutable, b"()V", &method)?.number(), 3);
+    linker.release(&[guarded], &[point])?;
+    assert_eq!(linker.release(&[], &[point]), Err(Error::Release(ReleaseFault::UnknownSwitch(point))));
     Ok(())
 }
 

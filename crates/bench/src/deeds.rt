@@ -24,6 +24,8 @@ pub(crate) enum Change {
     Delegate(&'static str),
     /// Loader 1 is retired.
     Retire,
+    /// Call site 0 and the switch points 0 and 1 are released.
+    Release,
     /// The request of the first place in the method.
     Request(MethodAt),
     /// A mutable call site of the type ()V: a guard on the switch point, of two methods.
@@ -77,7 +79,7 @@ pub(crate) const RECEIVERS: &[Deed] = &[
     ("install", Ask::Apply(Change::InstallDirect((1, 0)))),
 ];
 
-/// A site that is bound to a call site, whose target is a guard of two equal methods and then of two methods.
+/// A site that is bound to a call site, whose target is a guard of two equal methods and then of two methods; and then the release of that.
 pub(crate) const GUARDS: &[Deed] = &[
     ("java/lang/Object", Ask::Apply(Change::Define(0, OBJECT))),
     ("T", Ask::Apply(Change::Define(0, T))),
@@ -95,6 +97,11 @@ pub(crate) const GUARDS: &[Deed] = &[
     ("links", Ask::Links),
     ("call", Ask::Call(None)),
     ("invalidation", Ask::Apply(Change::Invalidate(1))),
+    ("install", Ask::Apply(Change::InstallPlain((1, 1)))),
+    ("release", Ask::Apply(Change::Release)),
+    ("links", Ask::Links),
+    ("call", Ask::Call(None)),
+    ("release", Ask::Apply(Change::Release)),
 ];
 
 /// A site in a class of loader 1, on A.f, with A of loader 0 and B of loader 1 below it; and then the retirement of loader 1.
@@ -153,6 +160,16 @@ pub(crate) fn invalidation(alloc: Global, point: u32) -> Result<Event, AllocErro
     Ok(Event::Invalidate(Seq::of(points)))
 }
 
+/// The release of call site 0 and the switch points 0 and 1.
+fn release(alloc: Global) -> Result<Event, AllocError> {
+    let mut call_sites = Vec::new(alloc);
+    call_sites.push(CallSiteId::new(0))?;
+    let mut points = Vec::new(alloc);
+    points.push(SwitchId::new(0))?;
+    points.push(SwitchId::new(1))?;
+    Ok(Event::Release(Seq::of(call_sites), Seq::of(points)))
+}
+
 /// Site 0 with this.
 fn at_site<L: Copy + Drop>(alloc: Global, link: L) -> Result<Seq<(SiteNo, L)>, AllocError> {
     let mut rows = Vec::new(alloc);
@@ -184,6 +201,7 @@ fn small_event(alloc: Global, change: &Change) -> Result<Event, AllocError> {
             Ok(Event::Delegate(LoaderId::new(1), name, LoaderId::new(0)))
         }
         Change::Retire => Ok(Event::Retire(LoaderId::new(1))),
+        Change::Release => release(alloc),
         Change::Request(at) => Ok(request(*at)),
         Change::CallSite(point, first, fallback) => {
             call_site(alloc, guard(alloc, *point, *first, *fallback)?)

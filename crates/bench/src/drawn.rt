@@ -1,5 +1,6 @@
-//! Obeys the commands of the input on one core, and prints what each is answered: the lines of `linkd run`, and `retire` with the numbers of
-//! loaders that are to go at once, which is no line of `linkd`. bench/drawn.py draws such commands, and compares.
+//! Obeys the commands of the input on one core, and prints what each is answered: the lines of `linkd run`, and what is no line of `linkd`:
+//! `retire` with the numbers of loaders that are to go at once, and `release` with those of call sites and, behind a `/`, of switch points.
+//! bench/drawn.py draws such commands, and compares.
 
 ghost use Rattle.std.specs.Prelude.{IfOk};
 ghost use Rattle.serde_json.specs.View.{view};
@@ -8,26 +9,70 @@ ghost use Rattle.jl_session.specs.Obeying.{IsEventData};
 use jl_json::{event_refusal_value, reply_value};
 use jl_names::Seq;
 use jl_session::{Session, text_of};
-use jl_types::{Event, LoaderId, Refusal, Reply};
+use jl_types::{CallSiteId, Event, LoaderId, Refusal, Reply, SwitchId};
 use serde_json::Value;
 use std::alloc::{AllocError, Global};
 use std::io;
 use std::str::from_utf8;
 
-/// The loaders of the line, where it says that such are to go at once.
-fn going(alloc: Global, line: &str) -> Result<Option<Vec<LoaderId>>, AllocError> {
-    let mut words = line.split(' ');
-    if words.next() != Some("retire") {
-        return Ok(None);
-    }
-    let mut loaders = Vec::new(alloc);
-    for word in words {
+/// The numbers among the words of the line, those before a `/` or those behind it.
+fn numbers(alloc: Global, line: &str, are_behind: bool) -> Result<Vec<u32>, AllocError> {
+    let mut numbers = Vec::new(alloc);
+    let mut is_behind = false;
+    for word in line.split(' ') {
+        if word == "/" {
+            is_behind = true;
+        }
         let Ok(number) = word.parse::<u32>() else {
-            return Ok(None);
+            continue;
         };
-        loaders.push(LoaderId::new(number))?;
+        if is_behind == are_behind {
+            numbers.push(number)?;
+        }
     }
-    Ok(Some(loaders))
+    Ok(numbers)
+}
+
+/// The retirement of the loaders of the line.
+fn retirement(alloc: Global, line: &str) -> Result<Event, AllocError> {
+    let named = numbers(alloc, line, false)?;
+    let mut loaders = Vec::new(alloc);
+    for number in named.as_slice() {
+        loaders.push(LoaderId::new(*number))?;
+    }
+    Ok(Event::RetireAll(Seq::of(loaders)))
+}
+
+/// The call sites of the line.
+fn call_sites(alloc: Global, line: &str) -> Result<Seq<CallSiteId>, AllocError> {
+    let named = numbers(alloc, line, false)?;
+    let mut call_sites = Vec::new(alloc);
+    for number in named.as_slice() {
+        call_sites.push(CallSiteId::new(*number))?;
+    }
+    Ok(Seq::of(call_sites))
+}
+
+/// The switch points of the line.
+fn switch_points(alloc: Global, line: &str) -> Result<Seq<SwitchId>, AllocError> {
+    let named = numbers(alloc, line, true)?;
+    let mut points = Vec::new(alloc);
+    for number in named.as_slice() {
+        points.push(SwitchId::new(*number))?;
+    }
+    Ok(Seq::of(points))
+}
+
+/// The event of the line, where it is no line of `linkd`.
+fn going(alloc: Global, line: &str) -> Result<Option<Event>, AllocError> {
+    match line.split(' ').next() {
+        Some("retire") => Ok(Some(retirement(alloc, line)?)),
+        Some("release") => {
+            let call_sites = call_sites(alloc, line)?;
+            Ok(Some(Event::Release(call_sites, switch_points(alloc, line)?)))
+        }
+        _ => Ok(None),
+    }
 }
 
 /// The answer to an event that came to this.
@@ -40,13 +85,9 @@ fn event_value(alloc: Global, outcome: &Result<Reply, Refusal>) -> Result<Value,
     }
 }
 
-/// The text of the answer to the retirement of these loaders.
-fn retire(
-    alloc: Global,
-    session: &mut Session,
-    loaders: Vec<LoaderId>,
-) -> Result<Vec<u8>, AllocError> {
-    let outcome = session.submit(alloc, Event::RetireAll(Seq::of(loaders)));
+/// The text of the answer to the event.
+fn submit(alloc: Global, session: &mut Session, event: Event) -> Result<Vec<u8>, AllocError> {
+    let outcome = session.submit(alloc, event);
     let answer = event_value(alloc, &outcome)?;
     text_of(alloc, &answer)
 }
@@ -54,7 +95,7 @@ fn retire(
 /// The text of the answer to a line.
 fn answer(alloc: Global, session: &mut Session, line: &str) -> Result<Vec<u8>, AllocError> {
     match going(alloc, line)? {
-        Some(loaders) => retire(alloc, session, loaders),
+        Some(event) => submit(alloc, session, event),
         None => session.answer_text(alloc, line.as_bytes()),
     }
 }

@@ -1,32 +1,36 @@
 -- What an event of call sites or switch points finds there that no fault speaks against.
-use Rattle.std.specs.Prelude.{◌≡◌, ℕ, ◌<◌, Bool, true, false, not, ◌&&◌, ◌||◌, nat_lt, nat_le, List, [], ◌∷◌, length, slice_get, Option, Some, None}
+use Rattle.std.specs.Prelude.{◌≡◌, ℕ, ◌<◌, Bool, true, false, not, ◌&&◌, ◌||◌, nat_lt, nat_le, List, [], ◌∷◌, length, find, Option, Some, None, is_none}
+use Rattle.std.specs.Prelude.{option_map}
 use Rattle.std.specs.Prelude.{if◌then◌else◌}
 use Rattle.std.specs.Bool.{then_some}
 use Rattle.std.specs.List.{list_any}
-use Rattle.std.proofs.Common.{refl}
+use Rattle.std.proofs.Common.{refl, ap}
 use Rattle.std.proofs.lemmas.Bool.{and_from, leb-false, lt-ltb}
-use Rattle.std.proofs.lemmas.Option.{slice_get_within}
-use Rattle.jl_types.specs.declared.refusal.CallSiteFault.TheVariants.{WrongType, UnknownSwitch, TooDeep, Full, Constant, InvokerOrder}
+use Rattle.jl_types.specs.declared.refusal.CallSiteFault.TheVariants.{UnknownCallSite, WrongType, UnknownSwitch, TooDeep, Full, Constant, InvokerOrder}
+use Rattle.jl_types.specs.declared.refusal.ReleaseFault.TheVariants.{UnknownCallSite as UnknownSite, UnknownSwitch as UnknownPoint}
 use Rattle.jl_types.specs.Values.Target.{Target, Method, Guard, Invoker, depth}
-use Rattle.jl_types.specs.Values.World.{World, CallSite}
+use Rattle.jl_types.specs.Values.World.{World, CallSite, Sites, unreleased, is_missing}
 use Rattle.jl_types.specs.Linkage.Resolution.{first_of}
 use Rattle.jl_types.specs.Linkage.Targets.{parts, invokes_type, part_fault, target_fault}
+use Rattle.jl_types.specs.Events.Release.{release_fault}
 use Rattle.jl_types.specs.Events.Verdict.{is_constant, new_call_site_fault, set_target_fault, invalidate_fault}
 use Rattle.jl_types.proofs.Firsts.{first_none, test_none}
 use Rattle.jl_callsites.specs.Known.{is_known}
+use Rattle.jl_callsites.proofs.Rows.{was_made, all_made, none_passes}
 
 points_in_part : (w : World) (c : ℕ) (ty : List ℕ) (t : Target) → part_fault w c ty t ≡ None → is_known (length w.sites.switches) c t ≡ true
 points_in_part w c ty (Method m) e = refl
 points_in_part w c ty (Guard p first fallback) e =
     let n = length w.sites.switches in
-    let guard = first_none (then_some (nat_le n p) UnknownSwitch) (part_fault w c ty first ∷ part_fault w c ty fallback ∷ []) e in
+    let guard = first_none (then_some (is_missing w.sites.switches p) UnknownSwitch) (part_fault w c ty first ∷ part_fault w c ty fallback ∷ []) e in
     let one = first_none (part_fault w c ty first) (part_fault w c ty fallback ∷ []) guard.1 in
-    and_from (nat_lt p n) (is_known n c first && is_known n c fallback) (lt-ltb p n (leb-false n p (test_none (nat_le n p) UnknownSwitch guard.0)))
+    and_from (nat_lt p n) (is_known n c first && is_known n c fallback) (lt-ltb p n (was_made w.sites.switches p (test_none (is_missing w.sites.switches p) UnknownSwitch guard.0)))
     (and_from (is_known n c first) (is_known n c fallback)
     (points_in_part w c ty first one.0) (points_in_part w c ty fallback (first_none (part_fault w c ty fallback) [] one.1).0))
 points_in_part w c ty (Invoker d) e =
     lt-ltb d c (leb-false c d (test_none (nat_le c d) (InvokerOrder d)
-    (first_none (then_some (nat_le c d) (InvokerOrder d)) (then_some (not (invokes_type w.sites ty d)) WrongType ∷ []) e).0))
+    (first_none (then_some (nat_le c d) (InvokerOrder d))
+    (then_some (is_missing w.sites.call_sites d) UnknownCallSite ∷ then_some (not (invokes_type w.sites ty d)) WrongType ∷ []) e).0))
 
 points_in_target : (w : World) (c : ℕ) (ty : List ℕ) (t : Target) → target_fault w c ty t ≡ None → is_known (length w.sites.switches) c t ≡ true
 points_in_target w c ty t e =
@@ -45,9 +49,10 @@ module _ (most_call_sites : ℕ) (w : World) (ty : List ℕ) (t : Target) (e : n
   site_points = points_in_target w (length w.sites.call_sites) ty t (first_none (target_fault w (length w.sites.call_sites) ty t) [] faults.1).0
 
 module _ (w : World) (c : ℕ) (t : Target) where
-  pub target_there : (found : Option CallSite) → slice_get w.sites.call_sites c ≡ found → set_target_fault w c found t ≡ None → c < length w.sites.call_sites
+  pub target_there : (found : Option CallSite) → unreleased w.sites.call_sites c ≡ found → set_target_fault w c found t ≡ None
+      → is_missing w.sites.call_sites c ≡ false
   target_there None is e = cc
-  target_there (Some site) is e = slice_get_within w.sites.call_sites c site is
+  target_there (Some site) is e = ap is_none is
 
   pub target_points : (found : Option CallSite) → set_target_fault w c found t ≡ None → is_known (length w.sites.switches) c t ≡ true
   target_points None e = cc
@@ -58,4 +63,23 @@ module _ (w : World) (c : ℕ) (t : Target) where
       unless_constant false h = points_in_target w c site.ty t h
 
 pub points_there : (w : World) (points : List ℕ) → invalidate_fault w points ≡ None → list_any (nat_le (length w.sites.switches)) points ≡ false
-points_there w points e = test_none (list_any (nat_le (length w.sites.switches)) points) UnknownSwitch e
+points_there w points e = all_made w.sites.switches points (test_none (list_any (is_missing w.sites.switches) points) UnknownSwitch e)
+
+-- ---- a release
+
+no_option : {A B : Type 0} (F : A → B) (o : Option A) → option_map F o ≡ None → o ≡ None
+no_option F None e = refl
+no_option F (Some x) e = cc
+
+module _ (sites : Sites) (call_sites points : List ℕ) (e : release_fault sites call_sites points ≡ None) where
+  first : (find (is_missing sites.call_sites) call_sites ≡ None) × (find (is_missing sites.switches) points ≡ None)
+  first =
+      let site = first_none (option_map UnknownSite (find (is_missing sites.call_sites) call_sites)) _ e in
+      let point = first_none (option_map UnknownPoint (find (is_missing sites.switches) points)) _ site.1 in
+      (no_option UnknownSite (find (is_missing sites.call_sites) call_sites) site.0, no_option UnknownPoint (find (is_missing sites.switches) points) point.0)
+
+  pub released_there : list_any (is_missing sites.call_sites) call_sites ≡ false
+  released_there = none_passes (is_missing sites.call_sites) call_sites first.0
+
+  pub released_points : list_any (is_missing sites.switches) points ≡ false
+  released_points = none_passes (is_missing sites.switches) points first.1

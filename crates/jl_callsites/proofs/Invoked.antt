@@ -1,10 +1,10 @@
 -- What an invoker stands for, by the target of its call site.
-use Rattle.std.specs.Prelude.{◌≡◌, ℕ, ◌<◌, nat_lt, Bool, true, false, slice_get, Option, Some, None, option_map, option_and_then, if◌then◌else◌}
+use Rattle.std.specs.Prelude.{◌≡◌, ℕ, ◌<◌, nat_lt, Bool, true, false, Option, Some, None, option_map, option_and_then, if◌then◌else◌}
 use Rattle.std.proofs.Common.{refl, ap, sym, ◌∙◌}
 use Rattle.std.proofs.lemmas.Bool.{ltb-true, ltb-false}
 use Rattle.std.proofs.lemmas.Option.{same_Some}
 use Rattle.jl_types.specs.Values.Target.{Target}
-use Rattle.jl_types.specs.Values.World.{Sites, CallSite}
+use Rattle.jl_types.specs.Values.World.{Sites, CallSite, unreleased}
 use Rattle.jl_types.specs.Linkage.Targets.{run_below, evaluated}
 use Rattle.jl_callsites.specs.Earlier.{earlier_target}
 use Rattle.jl_callsites.proofs.Walks.{invoked_runs, later_runs}
@@ -13,7 +13,7 @@ use Rattle.jl_callsites.proofs.Turns.{turns_at, fewer_turns}
 -- call site d comes before c and has this target
 record IsEarlier (sites : Sites) (d c : ℕ) (u : Target) : Type 0 where
   row : CallSite
-  at : slice_get sites.call_sites d ≡ Some row
+  at : unreleased sites.call_sites d ≡ Some row
   target : row.target ≡ u
   before : d < c
 
@@ -21,13 +21,13 @@ module _ (sites : Sites) (d c : ℕ) where
   is_earlier : (u : Target) → earlier_target sites d c ≡ Some u → IsEarlier sites d c u
   is_earlier u = by_order (nat_lt d c) refl
     where
-      by_row : d < c → (o : Option CallSite) → slice_get sites.call_sites d ≡ o → option_map (λ site. site.target) o ≡ Some u → IsEarlier sites d c u
+      by_row : d < c → (o : Option CallSite) → unreleased sites.call_sites d ≡ o → option_map (λ site. site.target) o ≡ Some u → IsEarlier sites d c u
       by_row lt None at e = cc
       by_row lt (Some row) at e = record { row = row; at = at; target = same_Some row.target u e; before = lt }
 
-      by_order : (b : Bool) → nat_lt d c ≡ b → (if b then option_map (λ site. site.target) (slice_get sites.call_sites d) else None) ≡ Some u
+      by_order : (b : Bool) → nat_lt d c ≡ b → (if b then option_map (λ site. site.target) (unreleased sites.call_sites d) else None) ≡ Some u
           → IsEarlier sites d c u
-      by_order true is e = by_row (ltb-true d c is) (slice_get sites.call_sites d) refl e
+      by_order true is e = by_row (ltb-true d c is) (unreleased sites.call_sites d) refl e
       by_order false is e = cc
 
   pub earlier_runs : (u : Target) → earlier_target sites d c ≡ Some u → evaluated sites d u ≡ run_below sites c d
@@ -43,11 +43,11 @@ module _ (sites : Sites) (d c : ℕ) where
   pub none_earlier : earlier_target sites d c ≡ None → run_below sites c d ≡ None
   none_earlier = by_order (nat_lt d c) refl
     where
-      by_row : d < c → (o : Option CallSite) → slice_get sites.call_sites d ≡ o → option_map (λ site. site.target) o ≡ None → run_below sites c d ≡ None
+      by_row : d < c → (o : Option CallSite) → unreleased sites.call_sites d ≡ o → option_map (λ site. site.target) o ≡ None → run_below sites c d ≡ None
       by_row lt None at e = invoked_runs sites c d lt ∙ ap (option_and_then (λ site. evaluated sites d site.target)) at
       by_row lt (Some row) at e = cc
 
-      by_order : (b : Bool) → nat_lt d c ≡ b → (if b then option_map (λ site. site.target) (slice_get sites.call_sites d) else None) ≡ None
+      by_order : (b : Bool) → nat_lt d c ≡ b → (if b then option_map (λ site. site.target) (unreleased sites.call_sites d) else None) ≡ None
           → run_below sites c d ≡ None
-      by_order true is e = by_row (ltb-true d c is) (slice_get sites.call_sites d) refl e
+      by_order true is e = by_row (ltb-true d c is) (unreleased sites.call_sites d) refl e
       by_order false is e = later_runs sites c d (ltb-false d c is)

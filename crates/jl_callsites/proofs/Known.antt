@@ -1,7 +1,7 @@
--- Every guard of a call site's target has its switch point and every invoker its call site, whatever changes, and which changes leave
--- what runs as it was.
-use Rattle.std.specs.Prelude.{◌≡◌, ◌≢◌, ℕ, zero, suc, ◌<◌, ◌≤◌, ◌+◌, Bool, true, false, ◌&&◌, nat_lt, List, [], ◌∷◌, ◌++◌, length, slice_get}
-use Rattle.std.specs.Prelude.{slice_set, Option, Some, None, is_some, option_and_then, if◌then◌else◌}
+-- Every guard of a call site's target has a switch point that was made and every invoker an earlier call site, whatever changes, and which
+-- changes leave what runs as it was.
+use Rattle.std.specs.Prelude.{◌≡◌, ◌≢◌, ℕ, zero, suc, ◌<◌, ◌+◌, Bool, true, false, ◌&&◌, nat_lt, List, [], ◌∷◌, ◌++◌, length, slice_get}
+use Rattle.std.specs.Prelude.{slice_set, Option, Some, None, is_none, option_and_then}
 use Rattle.std.specs.Option.{option_map_or}
 use Rattle.std.proofs.Common.{refl, ap, sym, subst, ◌∙◌, arith, length-append}
 use Rattle.std.proofs.lemmas.Option.{same_Some, slice_get_within}
@@ -10,61 +10,87 @@ use Rattle.std.proofs.lemmas.Bool.{and_from, ltb-true, lt-ltb, both_ways}
 use Rattle.jl_types.specs.declared.target.CallSiteKind.{CallSiteKind}
 use Rattle.jl_types.specs.declared.key.Key.TheVariants as key
 use Rattle.jl_types.specs.Values.Target.{Target, Method, Guard, Invoker}
-use Rattle.jl_types.specs.Values.World.{Sites, CallSite}
-use Rattle.jl_types.specs.Linkage.Targets.{is_valid, run_by, run_below, evaluated, method_of}
+use Rattle.jl_types.specs.Values.World.{Sites, CallSite, unreleased, is_missing}
+use Rattle.jl_types.specs.Linkage.Targets.{is_valid, evaluated, method_of}
 use Rattle.jl_types.specs.Events.Footprints.{has_key, way_by, way_below, path}
+use Rattle.jl_types.specs.Events.Release.{without}
 use Rattle.jl_types.specs.Events.Verdict.{retargeted}
 use Rattle.jl_types.proofs.Bools.{first_test, second_test}
 use Rattle.jl_types.proofs.Lists.{before_end}
 use Rattle.jl_callsites.specs.Faults.{with_site, with_target, with_switch}
 use Rattle.jl_callsites.specs.Known.{is_known, all_known, are_known, RunAsBefore, OthersRunAsBefore}
-use Rattle.jl_callsites.proofs.Walks.{invoked_runs, on_path, on_target_way, all_invalid, known_invalid, target_walks, site_walks, kept_on}
+use Rattle.jl_callsites.proofs.Rows.{set_other}
+use Rattle.jl_callsites.proofs.Walks.{on_path, on_target_way, all_invalid, known_invalid, target_walks, site_walks, kept_on}
 
 -- ---- all of them
 
 at_number : (points : ℕ) (t : Target) (a b : ℕ) → a ≡ b → is_known points a t ≡ true → is_known points b t ≡ true
 at_number points t a b same h = ap (λ n. is_known points n t) (sym same) ∙ h
 
-more_known : (points n : ℕ) (sites : List CallSite) (site : CallSite) → all_known points n sites ≡ true → is_known points (n + length sites) site.target ≡ true
-    → all_known points n (sites ++ site ∷ []) ≡ true
+more_known : (points n : ℕ) (rows : List (Option CallSite)) (site : CallSite) → all_known points n rows ≡ true
+    → is_known points (n + length rows) site.target ≡ true
+    → all_known points n (rows ++ Some site ∷ []) ≡ true
 more_known points n [] site h k = and_from (is_known points n site.target) true (at_number points site.target (n + 0) n (omega arith) k) refl
-more_known points n (s ∷ sites) site h k =
-    and_from (is_known points n s.target) (all_known points (n + 1) (sites ++ site ∷ []))
-    (first_test (is_known points n s.target) (all_known points (n + 1) sites) h)
-    (more_known points (n + 1) sites site (second_test (is_known points n s.target) (all_known points (n + 1) sites) h)
-    (at_number points site.target (n + length (s ∷ sites)) ((n + 1) + length sites) (omega arith) k))
+more_known points n (None ∷ rows) site h k =
+    more_known points (n + 1) rows site h (at_number points site.target (n + suc (length rows)) ((n + 1) + length rows) (omega arith) k)
+more_known points n (Some s ∷ rows) site h k =
+    and_from (is_known points n s.target) (all_known points (n + 1) (rows ++ Some site ∷ []))
+    (first_test (is_known points n s.target) (all_known points (n + 1) rows) h)
+    (more_known points (n + 1) rows site (second_test (is_known points n s.target) (all_known points (n + 1) rows) h)
+    (at_number points site.target (n + suc (length rows)) ((n + 1) + length rows) (omega arith) k))
 
-pub one_more_known : (points : ℕ) (sites : List CallSite) (site : CallSite) → all_known points 0 sites ≡ true
-    → is_known points (length sites) site.target ≡ true
-    → all_known points 0 (sites ++ site ∷ []) ≡ true
-one_more_known points sites site h k = more_known points 0 sites site h (at_number points site.target (length sites) (0 + length sites) (omega arith) k)
+pub one_more_known : (points : ℕ) (rows : List (Option CallSite)) (site : CallSite) → all_known points 0 rows ≡ true
+    → is_known points (length rows) site.target ≡ true
+    → all_known points 0 (rows ++ Some site ∷ []) ≡ true
+one_more_known points rows site h k = more_known points 0 rows site h (at_number points site.target (length rows) (0 + length rows) (omega arith) k)
 
-set_known : (points n : ℕ) (sites : List CallSite) (c : ℕ) (site : CallSite) → all_known points n sites ≡ true → is_known points (n + c) site.target ≡ true
-    → all_known points n (slice_set sites c site) ≡ true
+set_known : (points n : ℕ) (rows : List (Option CallSite)) (c : ℕ) (site : CallSite) → all_known points n rows ≡ true
+    → is_known points (n + c) site.target ≡ true
+    → all_known points n (slice_set rows c (Some site)) ≡ true
 set_known points n [] c site h k = h
-set_known points n (s ∷ sites) zero site h k =
-    and_from (is_known points n site.target) (all_known points (n + 1) sites) (at_number points site.target (n + 0) n (omega arith) k)
-    (second_test (is_known points n s.target) (all_known points (n + 1) sites) h)
-set_known points n (s ∷ sites) (suc c) site h k =
-    and_from (is_known points n s.target) (all_known points (n + 1) (slice_set sites c site))
-    (first_test (is_known points n s.target) (all_known points (n + 1) sites) h)
-    (set_known points (n + 1) sites c site (second_test (is_known points n s.target) (all_known points (n + 1) sites) h)
+set_known points n (None ∷ rows) zero site h k =
+    and_from (is_known points n site.target) (all_known points (n + 1) rows) (at_number points site.target (n + 0) n (omega arith) k) h
+set_known points n (Some s ∷ rows) zero site h k =
+    and_from (is_known points n site.target) (all_known points (n + 1) rows) (at_number points site.target (n + 0) n (omega arith) k)
+    (second_test (is_known points n s.target) (all_known points (n + 1) rows) h)
+set_known points n (None ∷ rows) (suc c) site h k =
+    set_known points (n + 1) rows c site h (at_number points site.target (n + suc c) ((n + 1) + c) (omega arith) k)
+set_known points n (Some s ∷ rows) (suc c) site h k =
+    and_from (is_known points n s.target) (all_known points (n + 1) (slice_set rows c (Some site)))
+    (first_test (is_known points n s.target) (all_known points (n + 1) rows) h)
+    (set_known points (n + 1) rows c site (second_test (is_known points n s.target) (all_known points (n + 1) rows) h)
     (at_number points site.target (n + suc c) ((n + 1) + c) (omega arith) k))
 
-pub retargeted_known : (points : ℕ) (sites : List CallSite) (c : ℕ) (t : Target) → all_known points 0 sites ≡ true → is_known points c t ≡ true
-    → all_known points 0 (retargeted sites c t) ≡ true
-retargeted_known points sites c t h k = by_site (slice_get sites c)
+pub retargeted_known : (points : ℕ) (rows : List (Option CallSite)) (c : ℕ) (t : Target) → all_known points 0 rows ≡ true → is_known points c t ≡ true
+    → all_known points 0 (retargeted rows c t) ≡ true
+retargeted_known points rows c t h k = by_site (unreleased rows c)
   where
-    by_site : (o : Option CallSite) → all_known points 0 (option_map_or (λ site. slice_set sites c (record site { target = t })) o sites) ≡ true
+    by_site : (o : Option CallSite) → all_known points 0 (option_map_or (λ site. slice_set rows c (Some (record site { target = t }))) o rows) ≡ true
     by_site None = h
-    by_site (Some site) = set_known points 0 sites c (record site { target = t }) h (at_number points t c (0 + c) (omega arith) k)
+    by_site (Some site) = set_known points 0 rows c (record site { target = t }) h (at_number points t c (0 + c) (omega arith) k)
 
-pub as_many_retargeted : (sites : List CallSite) (c : ℕ) (t : Target) → length (retargeted sites c t) ≡ length sites
-as_many_retargeted sites c t = by_site (slice_get sites c)
+pub as_many_retargeted : (rows : List (Option CallSite)) (c : ℕ) (t : Target) → length (retargeted rows c t) ≡ length rows
+as_many_retargeted rows c t = by_site (unreleased rows c)
   where
-    by_site : (o : Option CallSite) → length (option_map_or (λ site. slice_set sites c (record site { target = t })) o sites) ≡ length sites
+    by_site : (o : Option CallSite) → length (option_map_or (λ site. slice_set rows c (Some (record site { target = t }))) o rows) ≡ length rows
     by_site None = refl
-    by_site (Some site) = length-set sites c (record site { target = t })
+    by_site (Some site) = length-set rows c (Some (record site { target = t }))
+
+-- one that is released is passed over
+one_known : (points n : ℕ) (rows : List (Option CallSite)) (c : ℕ) → all_known points n rows ≡ true → all_known points n (slice_set rows c None) ≡ true
+one_known points n [] c h = h
+one_known points n (None ∷ rows) zero h = h
+one_known points n (Some s ∷ rows) zero h = second_test (is_known points n s.target) (all_known points (n + 1) rows) h
+one_known points n (None ∷ rows) (suc c) h = one_known points (n + 1) rows c h
+one_known points n (Some s ∷ rows) (suc c) h =
+    and_from (is_known points n s.target) (all_known points (n + 1) (slice_set rows c None))
+    (first_test (is_known points n s.target) (all_known points (n + 1) rows) h)
+    (one_known points (n + 1) rows c (second_test (is_known points n s.target) (all_known points (n + 1) rows) h))
+
+pub released_known : (points : ℕ) (rows : List (Option CallSite)) (going : List ℕ) → all_known points 0 rows ≡ true
+    → all_known points 0 (without rows going) ≡ true
+released_known points rows [] h = h
+released_known points rows (k ∷ going) h = released_known points (slice_set rows k None) going (one_known points 0 rows k h)
 
 more_points : (points c : ℕ) (t : Target) → is_known points c t ≡ true → is_known (points + 1) c t ≡ true
 more_points points c (Method m) h = refl
@@ -77,83 +103,51 @@ more_points points c (Guard p first fallback) h =
     (more_points points c fallback (second_test (is_known points c first) (is_known points c fallback) rest)))
 more_points points c (Invoker d) h = h
 
-all_more_points : (points n : ℕ) (sites : List CallSite) → all_known points n sites ≡ true → all_known (points + 1) n sites ≡ true
+all_more_points : (points n : ℕ) (rows : List (Option CallSite)) → all_known points n rows ≡ true → all_known (points + 1) n rows ≡ true
 all_more_points points n [] h = refl
-all_more_points points n (s ∷ sites) h =
-    and_from (is_known (points + 1) n s.target) (all_known (points + 1) (n + 1) sites)
-    (more_points points n s.target (first_test (is_known points n s.target) (all_known points (n + 1) sites) h))
-    (all_more_points points (n + 1) sites (second_test (is_known points n s.target) (all_known points (n + 1) sites) h))
+all_more_points points n (None ∷ rows) h = all_more_points points (n + 1) rows h
+all_more_points points n (Some s ∷ rows) h =
+    and_from (is_known (points + 1) n s.target) (all_known (points + 1) (n + 1) rows)
+    (more_points points n s.target (first_test (is_known points n s.target) (all_known points (n + 1) rows) h))
+    (all_more_points points (n + 1) rows (second_test (is_known points n s.target) (all_known points (n + 1) rows) h))
 
 pub one_switch_more : (sites : Sites) → are_known sites ≡ true → are_known (with_switch sites) ≡ true
 one_switch_more sites h =
-    subst (λ n. all_known n 0 sites.call_sites ≡ true) (sym (length-append sites.switches (true ∷ [])))
+    subst (λ n. all_known n 0 sites.call_sites ≡ true) (sym (length-append sites.switches (Some true ∷ [])))
     (all_more_points (length sites.switches) 0 sites.call_sites h)
 
-known_from : (points n : ℕ) (sites : List CallSite) (c : ℕ) (site : CallSite) → slice_get sites c ≡ Some site → all_known points n sites ≡ true
+known_from : (points n : ℕ) (rows : List (Option CallSite)) (c : ℕ) (site : CallSite) → unreleased rows c ≡ Some site → all_known points n rows ≡ true
     → is_known points (n + c) site.target ≡ true
 known_from points n [] c site e h = cc
-known_from points n (s ∷ sites) zero site e h =
+known_from points n (None ∷ rows) zero site e h = cc
+known_from points n (Some s ∷ rows) zero site e h =
     at_number points site.target n (n + 0) (omega arith)
-    (ap (λ (t : CallSite). is_known points n t.target) (sym (same_Some s site e)) ∙ first_test (is_known points n s.target) (all_known points (n + 1) sites) h)
-known_from points n (s ∷ sites) (suc c) site e h =
+    (ap (λ (t : CallSite). is_known points n t.target) (sym (same_Some s site e)) ∙ first_test (is_known points n s.target) (all_known points (n + 1) rows) h)
+known_from points n (None ∷ rows) (suc c) site e h =
+    at_number points site.target ((n + 1) + c) (n + suc c) (omega arith) (known_from points (n + 1) rows c site e h)
+known_from points n (Some s ∷ rows) (suc c) site e h =
     at_number points site.target ((n + 1) + c) (n + suc c) (omega arith)
-    (known_from points (n + 1) sites c site e (second_test (is_known points n s.target) (all_known points (n + 1) sites) h))
+    (known_from points (n + 1) rows c site e (second_test (is_known points n s.target) (all_known points (n + 1) rows) h))
 
-pub known_at : (points : ℕ) (sites : List CallSite) (c : ℕ) (site : CallSite) → slice_get sites c ≡ Some site → all_known points 0 sites ≡ true
+pub known_at : (points : ℕ) (rows : List (Option CallSite)) (c : ℕ) (site : CallSite) → unreleased rows c ≡ Some site → all_known points 0 rows ≡ true
     → is_known points c site.target ≡ true
-known_at points sites c site e h = at_number points site.target (0 + c) c (omega arith) (known_from points 0 sites c site e h)
-
--- ---- each call site runs a method
-
-there_is : (c : ℕ) (sites : List CallSite) → c < length sites → slice_get sites c ≡ None → ⊥
-there_is c [] lt e = absurd (omega arith)
-there_is zero (s ∷ sites) lt e = cc
-there_is (suc c) (s ∷ sites) lt e = there_is c sites (omega arith) e
-
-module _ (sites : Sites) (known : are_known sites ≡ true) where
-  part_runs : (n : ℕ) → ((c : ℕ) → c < n → is_some (run_below sites n c) ≡ true) → (t : Target) → is_known (length sites.switches) n t ≡ true
-      → is_some (run_by sites (run_below sites n) t) ≡ true
-  part_runs n earlier (Method m) h = refl
-  part_runs n earlier (Guard p first fallback) h =
-      let k = length sites.switches in
-      let rest = second_test (nat_lt p k) (is_known k n first && is_known k n fallback) h in
-      by_valid (is_valid sites p)
-      (part_runs n earlier first (first_test (is_known k n first) (is_known k n fallback) rest))
-      (part_runs n earlier fallback (second_test (is_known k n first) (is_known k n fallback) rest))
-    where
-      by_valid : (b : Bool) → is_some (run_by sites (run_below sites n) first) ≡ true → is_some (run_by sites (run_below sites n) fallback) ≡ true
-          → is_some (if b then run_by sites (run_below sites n) first else run_by sites (run_below sites n) fallback) ≡ true
-      by_valid true one two = one
-      by_valid false one two = two
-  part_runs n earlier (Invoker c) h = earlier c (ltb-true c n h)
-
-  row_runs : (c : ℕ) → c < length sites.call_sites → ((d : ℕ) → d < c → is_some (run_below sites c d) ≡ true) → is_some (method_of sites c) ≡ true
-  row_runs c lt earlier = by_row (slice_get sites.call_sites c) refl
-    where
-      by_row : (o : Option CallSite) → slice_get sites.call_sites c ≡ o → is_some (option_and_then (λ site. evaluated sites c site.target) o) ≡ true
-      by_row None at = absurd (there_is c sites.call_sites lt at)
-      by_row (Some site) at = part_runs c earlier site.target (known_at (length sites.switches) sites.call_sites c site at known)
-
-  all_run : (n : ℕ) → n ≤ length sites.call_sites → (c : ℕ) → c < n → is_some (method_of sites c) ≡ true
-  all_run zero le c lt = absurd (omega arith)
-  all_run (suc n) le c lt =
-      row_runs c (omega arith) (λ d less. ap is_some (invoked_runs sites c d less) ∙ all_run n (omega arith) d (omega arith))
-
-  -- where its switch points and earlier call sites are there
-  pub runs_some : (c : ℕ) → c < length sites.call_sites → is_some (method_of sites c) ≡ true
-  runs_some c lt = all_run (length sites.call_sites) (omega arith) c lt
+known_at points rows c site e h = at_number points site.target (0 + c) c (omega arith) (known_from points 0 rows c site e h)
 
 -- ---- what runs
 
 within : (sites : Sites) (p : ℕ) → is_valid sites p ≡ true → p < length sites.switches
 within sites p = by_switch (slice_get sites.switches p) refl
   where
-    by_switch : (o : Option Bool) → slice_get sites.switches p ≡ o → option_map_or (λ valid. valid) o false ≡ true → p < length sites.switches
+    by_switch : (o : Option (Option Bool)) → slice_get sites.switches p ≡ o
+        → option_map_or (λ valid. valid) (option_and_then (λ row. row) o) false ≡ true
+        → p < length sites.switches
     by_switch None is h = cc
     by_switch (Some b) is h = slice_get_within sites.switches p b is
 
 still_valid : (sites : Sites) (p : ℕ) → p < length sites.switches → is_valid (with_switch sites) p ≡ is_valid sites p
-still_valid sites p lt = ap (λ (o : Option Bool). option_map_or (λ valid. valid) o false) (before_end sites.switches true p lt)
+still_valid sites p lt =
+    ap (λ (o : Option (Option Bool)). option_map_or (λ valid. valid) (option_and_then (λ row. row) o) false)
+    (before_end sites.switches (Some true) p lt)
 
 -- one switch point more
 pub switch_walks : (sites : Sites) → are_known sites ≡ true → (c : ℕ)
@@ -177,31 +171,28 @@ site_more_walks sites kind ty t c lt =
     (λ d site at. all_invalid sites (with_site sites kind ty t) (λ p e. e) site.target)
     c
     (kept_on sites (with_site sites kind ty t) (c + 1) (path sites c) (on_path sites c)
-    (λ d less h. before_end sites.call_sites (record { kind = kind; ty = ty; target = t }) d (omega arith)) (λ p valid h. valid))
+    (λ d less h. ap (option_and_then (λ (row : Option CallSite). row))
+    (before_end sites.call_sites (Some (record { kind = kind; ty = ty; target = t })) d (omega arith)))
+    (λ p valid h. valid))
 
 pub site_runs : (sites : Sites) (kind : CallSiteKind) (ty : List ℕ) (t : Target) → RunAsBefore sites (with_site sites kind ty t)
 site_runs sites kind ty t = record { same = λ c lt. (site_more_walks sites kind ty t c lt).0 }
 
 -- another target
-other_set : {A : Type 0} (xs : List A) (c : ℕ) (x : A) (d : ℕ) → d ≢ c → slice_get (slice_set xs c x) d ≡ slice_get xs d
-other_set [] c x d ne = refl
-other_set (y ∷ xs) zero x zero ne = absurd (ne refl)
-other_set (y ∷ xs) zero x (suc d) ne = refl
-other_set (y ∷ xs) (suc c) x zero ne = refl
-other_set (y ∷ xs) (suc c) x (suc d) ne = other_set xs c x d (λ e. ne (ap suc e))
-
-same_set : (sites : List CallSite) (c : ℕ) (site old : CallSite) → slice_get sites c ≡ Some old → slice_get (slice_set sites c site) c ≡ Some site
+same_set : (rows : List (Option CallSite)) (c : ℕ) (site old : CallSite) → unreleased rows c ≡ Some old
+    → unreleased (slice_set rows c (Some site)) c ≡ Some site
 same_set [] c site old e = cc
-same_set (s ∷ sites) zero site old e = refl
-same_set (s ∷ sites) (suc c) site old e = same_set sites c site old e
+same_set (row ∷ rows) zero site old e = refl
+same_set (row ∷ rows) (suc c) site old e = same_set rows c site old e
 
-other_row : (sites : Sites) (c : ℕ) (t : Target) (d : ℕ) → d ≢ c → slice_get (retargeted sites.call_sites c t) d ≡ slice_get sites.call_sites d
-other_row sites c t d ne = by_site (slice_get sites.call_sites c)
+other_row : (sites : Sites) (c : ℕ) (t : Target) (d : ℕ) → d ≢ c → unreleased (retargeted sites.call_sites c t) d ≡ unreleased sites.call_sites d
+other_row sites c t d ne = by_site (unreleased sites.call_sites c)
   where
     by_site : (o : Option CallSite)
-        → slice_get (option_map_or (λ site. slice_set sites.call_sites c (record site { target = t })) o sites.call_sites) d ≡ slice_get sites.call_sites d
+        → unreleased (option_map_or (λ site. slice_set sites.call_sites c (Some (record site { target = t }))) o sites.call_sites) d
+        ≡ unreleased sites.call_sites d
     by_site None = refl
-    by_site (Some site) = other_set sites.call_sites c (record site { target = t }) d ne
+    by_site (Some site) = ap (option_and_then (λ (row : Option CallSite). row)) (set_other sites.call_sites c (Some (record site { target = t })) d ne)
 
 -- of a call site that isn't on the way
 pub other_walks : (sites : Sites) (c : ℕ) (t : Target) (d : ℕ) → has_key (path sites d) (key.Target c) ≡ false
@@ -218,8 +209,9 @@ other_walks sites c t d none =
 pub others_run : (sites : Sites) (c : ℕ) (t : Target) → OthersRunAsBefore sites (with_target sites c t) c
 others_run sites c t = record { same = λ d none. (other_walks sites c t d none).0 }
 
-pub target_runs : (sites : Sites) (c : ℕ) (t : Target) → c < length sites.call_sites → method_of (with_target sites c t) c ≡ evaluated sites c t
-target_runs sites c t lt = by_site (slice_get sites.call_sites c) refl
+pub target_runs : (sites : Sites) (c : ℕ) (t : Target) → is_missing sites.call_sites c ≡ false
+    → method_of (with_target sites c t) c ≡ evaluated sites c t
+target_runs sites c t there = by_site (unreleased sites.call_sites c) refl
   where
     new : Sites
     new = with_target sites c t
@@ -230,9 +222,9 @@ target_runs sites c t lt = by_site (slice_get sites.call_sites c) refl
         (kept_on sites new c (way_by sites (way_below sites c) t) (on_target_way sites c t)
         (λ d less h. other_row sites c t d (λ is. absurd (omega arith))) (λ p valid h. valid))).runs
 
-    by_site : (o : Option CallSite) → slice_get sites.call_sites c ≡ o
+    by_site : (o : Option CallSite) → unreleased sites.call_sites c ≡ o
         → option_and_then (λ s. evaluated new c s.target)
-        (slice_get (option_map_or (λ site. slice_set sites.call_sites c (record site { target = t })) o sites.call_sites) c) ≡ evaluated sites c t
-    by_site None e = absurd (there_is c sites.call_sites lt e)
+        (unreleased (option_map_or (λ site. slice_set sites.call_sites c (Some (record site { target = t }))) o sites.call_sites) c) ≡ evaluated sites c t
+    by_site None e = absurd (both_ways (is_missing sites.call_sites c) there (ap is_none e))
     by_site (Some site) e =
         ap (option_and_then (λ s. evaluated new c s.target)) (same_set sites.call_sites c (record site { target = t }) site e) ∙ same

@@ -1,4 +1,5 @@
 -- faults and sizes of targets
+pub mod Rows
 pub mod Worlds
 pub mod Sizes
 pub mod Accepted
@@ -9,5 +10,7 @@ pub mod Known
 pub mod Invoked
 -- what holds no loader
 pub mod Spared
+-- what is let go
+pub mod Releasing
 -- threads
 pub mod Crossing

@@ -7,7 +7,7 @@ use Rattle.std.proofs.lemmas.List.Folds.{list_any_at}
 use Rattle.std.proofs.lemmas.List.Quantifiers.{position-Some}
 use Rattle.jl_types.specs.Values.Target.{Target, Method, Guard, Invoker}
 use Rattle.jl_types.specs.Values.World.{Classes, CallSite}
-use Rattle.jl_types.specs.Events.Retirement.{is_listed, names_from, targeted}
+use Rattle.jl_types.specs.Events.Retirement.{is_listed, has_target, names_from, targeted}
 use Rattle.jl_types.proofs.Retiring.{any_of_one}
 use Rattle.jl_callsites.specs.Targeted.{names_any}
 
@@ -20,14 +20,18 @@ module _ (cs : Classes) (loaders : List ℕ) (l : ℕ) (there : is_listed loader
   ]
   any_named (Invoker c) e = cc
 
+  any_row : (row : Option CallSite) → has_target (names_from cs l) row ≡ true → has_target (names_any cs loaders) row ≡ true
+  any_row None e = cc
+  any_row (Some site) e = any_named site.target e
+
   -- where no target names a class of one of the loaders, none holds this one
-  pub spared : (sites : List CallSite) → list_any (λ site. names_any cs loaders site.target) sites ≡ false → targeted cs sites l ≡ None
+  pub spared : (rows : List (Option CallSite)) → list_any (has_target (names_any cs loaders)) rows ≡ false → targeted cs rows l ≡ None
   spared [] none = refl
-  spared (first ∷ sites) none = by_place (targeted cs (first ∷ sites) l) refl
+  spared (first ∷ rows) none = by_place (targeted cs (first ∷ rows) l) refl
     where
-      by_place : (o : Option ℕ) → targeted cs (first ∷ sites) l ≡ o → o ≡ None
+      by_place : (o : Option ℕ) → targeted cs (first ∷ rows) l ≡ o → o ≡ None
       by_place None at = refl
       by_place (Some i) at =
-          let one = position-Some (λ (site : CallSite). names_from cs l site.target) (first ∷ sites) i first at in
-          absurd (both_ways (list_any (λ site. names_any cs loaders site.target) (first ∷ sites)) none
-          (list_any_at (λ (site : CallSite). names_any cs loaders site.target) (first ∷ sites) i first one.0 (any_named (get_or (first ∷ sites) i first).target one.1)))
+          let one = position-Some (has_target (names_from cs l)) (first ∷ rows) i first at in
+          absurd (both_ways (list_any (has_target (names_any cs loaders)) (first ∷ rows)) none
+          (list_any_at (has_target (names_any cs loaders)) (first ∷ rows) i first one.0 (any_row (get_or (first ∷ rows) i first) one.1)))

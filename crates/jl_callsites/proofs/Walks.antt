@@ -1,5 +1,5 @@
 -- By which call sites and valid points a call site comes to what it runs, and which changes leave both.
-use Rattle.std.specs.Prelude.{◌≡◌, ℕ, zero, suc, ◌+◌, ◌<◌, ◌≤◌, ◌==◌, ◌&&◌, Bool, true, false, nat_lt, List, [], ◌∷◌, length, slice_get}
+use Rattle.std.specs.Prelude.{◌≡◌, ℕ, zero, suc, ◌+◌, ◌<◌, ◌≤◌, ◌==◌, ◌&&◌, Bool, true, false, nat_lt, List, [], ◌∷◌, length}
 use Rattle.std.specs.Prelude.{Option, Some, None, option_and_then, if◌then◌else◌}
 use Rattle.std.specs.List.{AllByRecursion}
 use Rattle.std.specs.Option.{option_map_or}
@@ -10,7 +10,7 @@ use Rattle.std.proofs.lemmas.Cmp.{nat_eq_equiv}
 use Rattle.jl_types.specs.declared.key.Key.{Key}
 use Rattle.jl_types.specs.declared.key.Key.TheVariants as key
 use Rattle.jl_types.specs.Values.Target.{Target, Method, Guard, Invoker}
-use Rattle.jl_types.specs.Values.World.{Sites, CallSite}
+use Rattle.jl_types.specs.Values.World.{Sites, CallSite, unreleased}
 use Rattle.jl_types.specs.Linkage.Targets.{is_valid, run_by, run_below, method_of}
 use Rattle.jl_types.specs.Events.Footprints.{has_key, way_by, way_below, path}
 use Rattle.jl_types.proofs.Bools.{first_test, second_test}
@@ -32,10 +32,10 @@ module _ (sites : Sites) where
   invoked_runs (suc n) c lt = by_number (n == c) refl (invoked_runs n c)
     where
       by_number : (b : Bool) → (n == c) ≡ b → (c < n → run_below sites n c ≡ method_of sites c)
-          → (if b then option_and_then (λ site. run_by sites (run_below sites n) site.target) (slice_get sites.call_sites c) else run_below sites n c)
+          → (if b then option_and_then (λ site. run_by sites (run_below sites n) site.target) (unreleased sites.call_sites c) else run_below sites n c)
           ≡ method_of sites c
       by_number true is rest =
-          ap (λ k. option_and_then (λ site. run_by sites (run_below sites k) site.target) (slice_get sites.call_sites c)) ((Decides-eqb n c).0 is)
+          ap (λ k. option_and_then (λ site. run_by sites (run_below sites k) site.target) (unreleased sites.call_sites c)) ((Decides-eqb n c).0 is)
       by_number false is rest = rest (less_or_same c n lt is)
 
   -- and comes by what that one comes by
@@ -44,10 +44,10 @@ module _ (sites : Sites) where
   invoked_way (suc n) c lt = by_number (n == c) refl (invoked_way n c)
     where
       by_number : (b : Bool) → (n == c) ≡ b → (c < n → way_below sites n c ≡ path sites c)
-          → (if b then key.Target c ∷ option_map_or (λ site. way_by sites (way_below sites n) site.target) (slice_get sites.call_sites c) [] else way_below
+          → (if b then key.Target c ∷ option_map_or (λ site. way_by sites (way_below sites n) site.target) (unreleased sites.call_sites c) [] else way_below
           sites n c) ≡ path sites c
       by_number true is rest =
-          ap (λ k. key.Target c ∷ option_map_or (λ site. way_by sites (way_below sites k) site.target) (slice_get sites.call_sites c) [])
+          ap (λ k. key.Target c ∷ option_map_or (λ site. way_by sites (way_below sites k) site.target) (unreleased sites.call_sites c) [])
           ((Decides-eqb n c).0 is)
       by_number false is rest = rest (less_or_same c n lt is)
 
@@ -57,7 +57,7 @@ module _ (sites : Sites) where
   later_runs (suc n) c le = by_number (n == c) refl (later_runs n c (omega arith))
     where
       by_number : (b : Bool) → (n == c) ≡ b → run_below sites n c ≡ None
-          → (if b then option_and_then (λ site. run_by sites (run_below sites n) site.target) (slice_get sites.call_sites c) else run_below sites n c) ≡ None
+          → (if b then option_and_then (λ site. run_by sites (run_below sites n) site.target) (unreleased sites.call_sites c) else run_below sites n c) ≡ None
       by_number true is rest = let same = (Decides-eqb n c).0 is in absurd (omega arith)
       by_number false is rest = rest
 
@@ -66,7 +66,7 @@ module _ (sites : Sites) where
   later_way (suc n) c le = by_number (n == c) refl (later_way n c (omega arith))
     where
       by_number : (b : Bool) → (n == c) ≡ b → way_below sites n c ≡ []
-          → (if b then key.Target c ∷ option_map_or (λ site. way_by sites (way_below sites n) site.target) (slice_get sites.call_sites c) [] else way_below
+          → (if b then key.Target c ∷ option_map_or (λ site. way_by sites (way_below sites n) site.target) (unreleased sites.call_sites c) [] else way_below
           sites n c) ≡ []
       by_number true is rest = let same = (Decides-eqb n c).0 is in absurd (omega arith)
       by_number false is rest = rest
@@ -99,8 +99,8 @@ module _ (sites : Sites) where
   on_part n earlier (Invoker c) = earlier c
 
   on_target : (n c : ℕ) → ((d : ℕ) → AllByRecursion (IsOn sites n) (way_below sites n d))
-      → AllByRecursion (IsOn sites n) (option_map_or (λ site. way_by sites (way_below sites n) site.target) (slice_get sites.call_sites c) [])
-  on_target n c earlier = by_row (slice_get sites.call_sites c)
+      → AllByRecursion (IsOn sites n) (option_map_or (λ site. way_by sites (way_below sites n) site.target) (unreleased sites.call_sites c) [])
+  on_target n c earlier = by_row (unreleased sites.call_sites c)
     where
       by_row : (o : Option CallSite) → AllByRecursion (IsOn sites n) (option_map_or (λ site. way_by sites (way_below sites n) site.target) o [])
       by_row None = tt
@@ -112,7 +112,7 @@ module _ (sites : Sites) where
     where
       by_number : (b : Bool) → (n == c) ≡ b → ((d : ℕ) → AllByRecursion (IsOn sites n) (way_below sites n d))
           → AllByRecursion (IsOn sites (suc n))
-          (if b then key.Target c ∷ option_map_or (λ site. way_by sites (way_below sites n) site.target) (slice_get sites.call_sites c) [] else way_below sites
+          (if b then key.Target c ∷ option_map_or (λ site. way_by sites (way_below sites n) site.target) (unreleased sites.call_sites c) [] else way_below sites
           n c)
       by_number true is rest = let same = (Decides-eqb n c).0 is in (omega arith, on_more n (suc n) (omega arith) _ (on_target n c rest))
       by_number false is rest = on_more n (suc n) (omega arith) (way_below sites n c) (rest c)
@@ -129,7 +129,7 @@ module _ (old new : Sites) where
   -- what is on a way is there afterwards: the call site with its target, and that the point is valid
   abbrev pub Keeps : Key → Type 0
   Keeps (key.Receivers c) = Unit {0}
-  Keeps (key.Target c) = slice_get new.call_sites c ≡ slice_get old.call_sites c
+  Keeps (key.Target c) = unreleased new.call_sites c ≡ unreleased old.call_sites c
   Keeps (key.Valid p) = is_valid new p ≡ true
 
   -- no invalid point of the target's guards becomes valid
@@ -200,20 +200,20 @@ module _ (old new : Sites) where
           }
   part_walks n earlier (Invoker c) off on = let one = earlier c on in record { runs = one.runs; way = one.way }
 
-  module _ (fine : (c : ℕ) (site : CallSite) → slice_get old.call_sites c ≡ Some site → StaysInvalid site.target) where
+  module _ (fine : (c : ℕ) (site : CallSite) → unreleased old.call_sites c ≡ Some site → StaysInvalid site.target) where
     -- a call site with its target, over those with numbers below n
     record Row (n c : ℕ) : Type 0 where
-      runs : option_and_then (λ site. run_by new (run_below new n) site.target) (slice_get new.call_sites c)
-          ≡ option_and_then (λ site. run_by old (run_below old n) site.target) (slice_get old.call_sites c)
-      way : option_map_or (λ site. way_by new (way_below new n) site.target) (slice_get new.call_sites c) []
-          ≡ option_map_or (λ site. way_by old (way_below old n) site.target) (slice_get old.call_sites c) []
+      runs : option_and_then (λ site. run_by new (run_below new n) site.target) (unreleased new.call_sites c)
+          ≡ option_and_then (λ site. run_by old (run_below old n) site.target) (unreleased old.call_sites c)
+      way : option_map_or (λ site. way_by new (way_below new n) site.target) (unreleased new.call_sites c) []
+          ≡ option_map_or (λ site. way_by old (way_below old n) site.target) (unreleased old.call_sites c) []
 
     row_walks : (n c : ℕ) → ((d : ℕ) → AllByRecursion Keeps (way_below old n d) → Earlier n d)
-        → slice_get new.call_sites c ≡ slice_get old.call_sites c
-        → AllByRecursion Keeps (option_map_or (λ site. way_by old (way_below old n) site.target) (slice_get old.call_sites c) []) → Row n c
-    row_walks n c earlier same on = by_row (slice_get old.call_sites c) refl on
+        → unreleased new.call_sites c ≡ unreleased old.call_sites c
+        → AllByRecursion Keeps (option_map_or (λ site. way_by old (way_below old n) site.target) (unreleased old.call_sites c) []) → Row n c
+    row_walks n c earlier same on = by_row (unreleased old.call_sites c) refl on
       where
-        by_row : (o : Option CallSite) → slice_get old.call_sites c ≡ o
+        by_row : (o : Option CallSite) → unreleased old.call_sites c ≡ o
             → AllByRecursion Keeps (option_map_or (λ site. way_by old (way_below old n) site.target) o []) → Row n c
         by_row None at on = record {
           runs =
@@ -240,39 +240,39 @@ module _ (old new : Sites) where
       where
         by_number : (b : Bool) → (n == c) ≡ b → ((d : ℕ) → AllByRecursion Keeps (way_below old n d) → Earlier n d)
             → AllByRecursion Keeps
-            (if b then key.Target c ∷ option_map_or (λ site. way_by old (way_below old n) site.target) (slice_get old.call_sites c) [] else way_below old n c)
+            (if b then key.Target c ∷ option_map_or (λ site. way_by old (way_below old n) site.target) (unreleased old.call_sites c) [] else way_below old n c)
             → Earlier (suc n) c
         by_number true is rest on =
             let r = row_walks n c rest on.0 on.1 in
             record {
               runs =
                   ap (λ (b : Bool). if b then option_and_then (λ site. run_by new (run_below new n) site.target)
-                  (slice_get new.call_sites c) else run_below new n c) is
+                  (unreleased new.call_sites c) else run_below new n c) is
                   ∙ r.runs
                   ∙ sym (ap (λ (b : Bool). if b then option_and_then (λ site. run_by old (run_below old n) site.target)
-                  (slice_get old.call_sites c) else run_below old n c) is);
+                  (unreleased old.call_sites c) else run_below old n c) is);
               way =
                   ap (λ (b : Bool). if b then key.Target c ∷ option_map_or (λ site. way_by new (way_below new n) site.target)
-                  (slice_get new.call_sites c) [] else way_below new n c) is
+                  (unreleased new.call_sites c) [] else way_below new n c) is
                   ∙ ap (λ (ks : List Key). key.Target c ∷ ks) r.way
                   ∙ sym (ap (λ (b : Bool). if b then key.Target c ∷ option_map_or (λ site. way_by old (way_below old n) site.target)
-                  (slice_get old.call_sites c) [] else way_below old n c) is);
+                  (unreleased old.call_sites c) [] else way_below old n c) is);
             }
         by_number false is rest on =
             let e = rest c on in
             record {
               runs =
                   ap (λ (b : Bool). if b then option_and_then (λ site. run_by new (run_below new n) site.target)
-                  (slice_get new.call_sites c) else run_below new n c) is
+                  (unreleased new.call_sites c) else run_below new n c) is
                   ∙ e.runs
                   ∙ sym (ap (λ (b : Bool). if b then option_and_then (λ site. run_by old (run_below old n) site.target)
-                  (slice_get old.call_sites c) else run_below old n c) is);
+                  (unreleased old.call_sites c) else run_below old n c) is);
               way =
                   ap (λ (b : Bool). if b then key.Target c ∷ option_map_or (λ site. way_by new (way_below new n) site.target)
-                  (slice_get new.call_sites c) [] else way_below new n c) is
+                  (unreleased new.call_sites c) [] else way_below new n c) is
                   ∙ e.way
                   ∙ sym (ap (λ (b : Bool). if b then key.Target c ∷ option_map_or (λ site. way_by old (way_below old n) site.target)
-                  (slice_get old.call_sites c) [] else way_below old n c) is);
+                  (unreleased old.call_sites c) [] else way_below old n c) is);
             }
 
     -- a target of call site c
@@ -287,7 +287,7 @@ module _ (old new : Sites) where
 
   -- what is on a way is kept
   pub kept_on : (n : ℕ) (ks : List Key) → AllByRecursion (IsOn old n) ks
-      → ((d : ℕ) → d < n → has_key ks (key.Target d) ≡ true → slice_get new.call_sites d ≡ slice_get old.call_sites d)
+      → ((d : ℕ) → d < n → has_key ks (key.Target d) ≡ true → unreleased new.call_sites d ≡ unreleased old.call_sites d)
       → ((p : ℕ) → is_valid old p ≡ true → has_key ks (key.Valid p) ≡ true → is_valid new p ≡ true)
       → AllByRecursion Keeps ks
   kept_on n [] on rows points = tt

@@ -1,5 +1,5 @@
 -- The faults of call sites and switch points are those at any world of the same classes and sites.
-use Rattle.std.specs.Prelude.{◌≡◌, ℕ, Bool, true, false, nat_lt, nat_le, ◌||◌, List, [], ◌∷◌, length, slice_get, Option, Some, None, option_map, if◌then◌else◌}
+use Rattle.std.specs.Prelude.{◌≡◌, ℕ, Bool, true, false, nat_lt, nat_le, ◌||◌, List, [], ◌∷◌, length, Option, Some, None, option_map, if◌then◌else◌}
 use Rattle.std.specs.Bool.{then_some}
 use Rattle.std.proofs.Common.{refl, ap, sym}
 use Rattle.jl_types.specs.declared.limits.Limits.{Limits}
@@ -11,21 +11,21 @@ use Rattle.jl_types.specs.declared.refusal.CallSiteFault.TheVariants.{UnknownSwi
 use Rattle.jl_types.specs.declared.refusal.Refusal.{Refusal}
 use Rattle.jl_types.specs.declared.refusal.Refusal.TheVariants.{CallSite}
 use Rattle.jl_types.specs.Values.Target.{Target, Method, Guard, Invoker, depth}
-use Rattle.jl_types.specs.Values.World.{World, CallSite as CallSiteRow}
+use Rattle.jl_types.specs.Values.World.{World, CallSite as CallSiteRow, unreleased, is_missing}
 use Rattle.jl_types.specs.Linkage.Resolution.{first_of}
 use Rattle.jl_types.specs.Linkage.Targets.{parts, part_fault, target_fault}
 use Rattle.jl_types.specs.Events.Verdict.{unless, is_constant, new_call_site_fault}
 use Rattle.jl_types.specs.Events.Verdict as events
 use Rattle.jl_callsites.specs.Faults.{world_of, new_site_fault, set_target_fault, new_switch_fault, invalidate_fault, with_site, with_target}
 use Rattle.jl_callsites.specs.Faults.{with_switch, with_invalid}
-use Rattle.jl_callsites.specs.Laws.{ComesTo}
+use Rattle.jl_callsites.specs.Laws.{ComesTo, Releases}
 
 -- what else is in the world isn't looked at
 pub part_fault_same : (w : World) (c : ℕ) (ty : List ℕ) (t : Target) → part_fault (world_of w.classes w.sites) c ty t ≡ part_fault w c ty t
 part_fault_same w c ty (Method m) = refl
 part_fault_same w c ty (Guard p first fallback) = λ i.
     first_of (
-    then_some (nat_le (length w.sites.switches) p) UnknownSwitch
+    then_some (is_missing w.sites.switches p) UnknownSwitch
     ∷ part_fault_same w c ty first i
     ∷ part_fault_same w c ty fallback i
     ∷ [])
@@ -54,8 +54,8 @@ set_target_fault_at w c t (Some site) = constant_or (is_constant site.kind)
     constant_or false = target_fault_same w c site.ty t
 
 pub set_target_fault_same : (w : World) (c : ℕ) (t : Target) → set_target_fault w.classes w.sites c t ≡ events.set_target_fault w c
-    (slice_get w.sites.call_sites c) t
-set_target_fault_same w c t = set_target_fault_at w c t (slice_get w.sites.call_sites c)
+    (unreleased w.sites.call_sites c) t
+set_target_fault_same w c t = set_target_fault_at w c t (unreleased w.sites.call_sites c)
 
 -- ---- the events
 
@@ -89,3 +89,6 @@ new_switch_comes_to limits w = record {
 pub invalidate_comes_to : (limits : Limits) (w : World) (points : List ℕ)
     → ComesTo limits w (event.Invalidate points) (invalidate_fault w.sites points) made.Nothing (with_invalid w.sites points)
 invalidate_comes_to limits w points = record { verdict = refl; step = refl }
+
+pub release_comes_to : (limits : Limits) (w : World) (call_sites points : List ℕ) → Releases limits w call_sites points
+release_comes_to limits w call_sites points = record { verdict = refl; step = refl }

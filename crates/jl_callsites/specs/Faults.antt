@@ -1,13 +1,13 @@
 -- Why call sites and switch points aren't made or changed, and what they are afterwards. No fault looks at requested places or
 -- at bindings, so a world of these classes and sites stands for each that has them.
-use Rattle.std.specs.Prelude.{ℕ, true, not, nat_le, List, [], ◌∷◌, ◌++◌, length, slice_get, Option}
+use Rattle.std.specs.Prelude.{ℕ, true, not, nat_le, List, [], ◌∷◌, ◌++◌, length, Option, Some}
 use Rattle.std.specs.Bool.{then_some}
 use Rattle.jl_types.specs.declared.ids.MethodId.{MethodId}
 use Rattle.jl_types.specs.declared.target.CallSiteKind.{CallSiteKind}
 use Rattle.jl_types.specs.declared.refusal.CallSiteFault.{CallSiteFault}
-use Rattle.jl_types.specs.declared.refusal.CallSiteFault.TheVariants.{Full, UnknownMethod, NotStatic, WrongType, InvokerOrder}
+use Rattle.jl_types.specs.declared.refusal.CallSiteFault.TheVariants.{Full, UnknownCallSite, UnknownMethod, NotStatic, WrongType, InvokerOrder}
 use Rattle.jl_types.specs.Values.Target.{Target}
-use Rattle.jl_types.specs.Values.World.{World, Classes, Sites}
+use Rattle.jl_types.specs.Values.World.{World, Classes, Sites, unreleased, is_missing}
 use Rattle.jl_types.specs.Values.Members.{is_static}
 use Rattle.jl_types.specs.Linkage.Resolution.{first_of}
 use Rattle.jl_types.specs.Linkage.Targets.{may_be_named, is_of_type, invokes_type}
@@ -25,7 +25,7 @@ abbrev pub new_site_fault : ℕ → Classes → Sites → List ℕ → Target �
 new_site_fault most_call_sites cs sites ty t = new_call_site_fault most_call_sites (world_of cs sites) ty t
 
 abbrev pub set_target_fault : Classes → Sites → ℕ → Target → Option CallSiteFault
-set_target_fault cs sites c t = events.set_target_fault (world_of cs sites) c (slice_get sites.call_sites c) t
+set_target_fault cs sites c t = events.set_target_fault (world_of cs sites) c (unreleased sites.call_sites c) t
 
 -- where there are at most so many switch points
 abbrev pub new_switch_fault : ℕ → Sites → Option CallSiteFault
@@ -46,6 +46,7 @@ method_fault cs ty m = first_of (
 abbrev pub invoker_fault : Sites → ℕ → List ℕ → ℕ → Option CallSiteFault
 invoker_fault sites c ty d = first_of (
     then_some (nat_le c d) (InvokerOrder d)
+    ∷ then_some (is_missing sites.call_sites d) UnknownCallSite
     ∷ then_some (not (invokes_type sites ty d)) WrongType
     ∷ [])
 
@@ -54,7 +55,7 @@ invoker_fault sites c ty d = first_of (
 -- one call site more
 abbrev pub with_site : Sites → CallSiteKind → List ℕ → Target → Sites
 with_site sites kind ty t =
-    record sites { call_sites = sites.call_sites ++ record { kind = kind; ty = ty; target = t } ∷ [] }
+    record sites { call_sites = sites.call_sites ++ Some (record { kind = kind; ty = ty; target = t }) ∷ [] }
 
 -- another target
 abbrev pub with_target : Sites → ℕ → Target → Sites
@@ -62,7 +63,7 @@ with_target sites c t = record sites { call_sites = retargeted sites.call_sites 
 
 -- one switch point more, which is valid
 abbrev pub with_switch : Sites → Sites
-with_switch sites = record sites { switches = sites.switches ++ true ∷ [] }
+with_switch sites = record sites { switches = sites.switches ++ Some true ∷ [] }
 
 -- none of these is valid
 abbrev pub with_invalid : Sites → List ℕ → Sites

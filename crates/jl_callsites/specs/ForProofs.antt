@@ -1,6 +1,6 @@
 -- Means of proof. What is promised doesn't rest on how these say it.
-use Rattle.std.specs.Prelude.{ℕ, ◌+◌, ◌*◌, Bool, List, refl}
-use Rattle.std.specs.Coded.{Coded, code_by, coded×, coded_ℕ, coded_bool, coded_list}
+use Rattle.std.specs.Prelude.{ℕ, ◌+◌, ◌*◌, Bool, List, Option, refl}
+use Rattle.std.specs.Coded.{Coded, code_by, coded×, coded_ℕ, coded_bool, coded_list, coded_option}
 use Rattle.jl_types.specs.declared.target.CallSiteKind.{CallSiteKind}
 use Rattle.jl_types.specs.contracts.target.CallSiteKind as kind
 use Rattle.jl_types.specs.Values.Target.{Target, Method, Guard, Invoker}
@@ -21,5 +21,5 @@ call_site_code =
 
 abbrev pub sites_code : Coded Sites
 sites_code =
-    code_by (List CallSite × List Bool) (coded× (coded_list call_site_code) (coded_list coded_bool))
+    code_by (List (Option CallSite) × List (Option Bool)) (coded× (coded_list (coded_option call_site_code)) (coded_list (coded_option coded_bool)))
     (λ s. (s.call_sites, s.switches)) (λ p. record { call_sites = p.0; switches = p.1 }) (λ _. refl)

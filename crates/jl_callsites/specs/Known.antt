@@ -1,5 +1,6 @@
--- Every guard of a call site's target has its switch point, every invoker its call site, and which changes leave what runs as it was.
-use Rattle.std.specs.Prelude.{◌≡◌, ℕ, ◌<◌, ◌+◌, Bool, true, false, ◌&&◌, nat_lt, List, [], ◌∷◌, length}
+-- Every guard of a call site's target names a switch point that was made, every invoker an earlier call site, and which changes leave what
+-- runs as it was.
+use Rattle.std.specs.Prelude.{◌≡◌, ℕ, ◌<◌, ◌+◌, Bool, true, false, ◌&&◌, nat_lt, List, [], ◌∷◌, length, Option, Some, None}
 use Rattle.jl_types.specs.declared.key.Key.TheVariants as key
 use Rattle.jl_types.specs.Values.Target.{Target, Method, Guard, Invoker}
 use Rattle.jl_types.specs.Values.World.{CallSite, Sites}
@@ -12,12 +13,13 @@ is_known points c (Method m) = true
 is_known points c (Guard p first fallback) = nat_lt p points && (is_known points c first && is_known points c fallback)
 is_known points c (Invoker d) = nat_lt d c
 
--- the same of the targets of call sites with numbers from c on
-abbrev pub all_known : ℕ → ℕ → List CallSite → Bool
+-- the same of the targets of call sites with numbers from c on, of which those are passed over that are released
+abbrev pub all_known : ℕ → ℕ → List (Option CallSite) → Bool
 all_known points c [] = true
-all_known points c (site ∷ sites) = is_known points c site.target && all_known points (c + 1) sites
+all_known points c (None ∷ rows) = all_known points (c + 1) rows
+all_known points c (Some site ∷ rows) = is_known points c site.target && all_known points (c + 1) rows
 
--- the switch points of each call site's target are there, and it invokes call sites before it
+-- the switch points of each call site's target were made, and it invokes call sites before it
 abbrev pub are_known : Sites → Bool
 are_known sites = all_known (length sites.switches) 0 sites.call_sites
 

@@ -4,5 +4,6 @@ pub mod Faults
 pub mod Known
 pub mod Earlier
 pub mod Targeted
+pub mod Marks
 pub mod Laws
 pub mod ForProofs

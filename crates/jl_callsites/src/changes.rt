@@ -4,6 +4,7 @@ ghost use Rattle.std.specs.Prelude.{◌≡◌, ◌<◌, ◌≤◌, ◌^◌, nat_
 ghost use Rattle.std.specs.List.{list_any};
 ghost use Rattle.jl_types.specs.declared.refusal.CallSiteFault.{CallSiteFault};
 ghost use Rattle.jl_types.specs.declared.refusal.OrMemory.TheVariants as or_memory;
+ghost use Rattle.jl_types.specs.Values.World.{is_missing};
 ghost use Rattle.jl_types.specs.Events.Verdict as events;
 ghost use Rattle.jl_types.specs.Linkage.Targets as targets;
 ghost use Rattle.jl_callsites.specs.Faults as faults;
@@ -26,8 +27,8 @@ impl Sites {
     ///
     /// `Full` where there are so many call sites already; `TooDeep` of a target that is deeper than 64 or has more than 255 parts; then
     /// the first fault of the target's parts, a guard before its parts and the first part before the fallback: `UnknownSwitch`
-    /// of a guard, `UnknownMethod`, `NotStatic` and `WrongType` (WrongMethodTypeException) of a method, and `InvokerOrder` and
-    /// `WrongType` of an invoker; else want of memory. Nothing has changed then.
+    /// of a guard, `UnknownMethod`, `NotStatic` and `WrongType` (WrongMethodTypeException) of a method, and `InvokerOrder`,
+    /// `UnknownCallSite` and `WrongType` of an invoker; else want of memory. Nothing has changed then.
     pub fn new_site(
         &mut self,
         classes: &Classes,
@@ -106,7 +107,7 @@ impl Sites {
     ///
     /// # Errors
     ///
-    /// `UnknownSwitch` where one of them isn't there. Nothing has changed then.
+    /// `UnknownSwitch` where one of them isn't there or is released. Nothing has changed then.
     pub fn invalidate_all(&mut self, points: &[SwitchId]) -> Result<(), CallSiteFault>
         ensures accepted { OnOk result (faults.invalidate_fault self.old points.now ≡ None) }
         ensures ok { OnOk result (self.new ≡ faults.with_invalid self.old points.now) }
@@ -132,7 +133,7 @@ impl Sites {
     /// The call site, which is there, runs this target from now on, whose switch points are there and which invokes earlier call
     /// sites alone: the second half of [`set_target`](Sites::set_target). Takes no memory.
     pub fn put_target(&mut self, site: CallSiteId, target: Target)
-        requires there { site < length self.old.call_sites }
+        requires there { is_missing self.old.call_sites site ≡ false }
         requires known { is_known (length self.old.switches) site target ≡ true }
         ensures put { self.new ≡ faults.with_target self.old site target }
         ensures runs { method_of self.new site ≡ targets.evaluated self.old site target }
@@ -161,7 +162,7 @@ impl Sites {
         ensures err { OnErr result (self.new ≡ self.old) }
     {
         let site = CallSiteId::new(self.call_site_count() as u32);
-        self.call_sites.push(CallSite::new(kind, ty, target))?;
+        self.call_sites.push(Some(CallSite::new(kind, ty, target)))?;
         Ok(site)
     }
 
@@ -179,33 +180,35 @@ impl Sites {
         ensures err { OnErr result (self.new ≡ self.old) }
     {
         let point = SwitchId::new(self.switch_count() as u32);
-        self.switches.push(true)?;
+        self.switches.push(Some(true))?;
         Ok(point)
     }
 }
 
 /// The call site of this number, which is there, runs this target from now on.
-fn retarget_in(call_sites: &mut Vec<CallSite>, site: CallSiteId, target: Target)
-    requires { site < length call_sites.old.items }
+fn retarget_in(call_sites: &mut Vec<Option<CallSite>>, site: CallSiteId, target: Target)
+    requires { is_missing call_sites.old.items site ≡ false }
     ensures { call_sites.new.items ≡ events.retargeted call_sites.old.items site target }
 {
     retarget(call_sites.as_mut_slice(), site, target);
 }
 
 /// The same in a slice.
-fn retarget(call_sites: &mut [CallSite], site: CallSiteId, target: Target)
-    requires { site < length call_sites.old }
+fn retarget(call_sites: &mut [Option<CallSite>], site: CallSiteId, target: Target)
+    requires { is_missing call_sites.old site ≡ false }
     ensures { call_sites.new ≡ events.retargeted call_sites.old site target }
 {
-    call_sites[site.number() as usize].retarget(target);
+    if let Some(row) = &mut call_sites[site.number() as usize] {
+        row.retarget(target);
+    }
 }
 
 /// The switch points, which are there, are invalid from now on.
-fn invalidate(switches: &mut [bool], points: &[SwitchId])
+fn invalidate(switches: &mut [Option<bool>], points: &[SwitchId])
     requires { list_any (nat_le (length switches.old)) points.now ≡ false }
     ensures { switches.new ≡ events.invalidated switches.old points.now }
 {
     for point in points {
-        switches[point.number() as usize] = false;
+        switches[point.number() as usize] = Some(false);
     }
 }

@@ -20,14 +20,27 @@ impl Sites {
 }
 
 /// The same call sites once more. Want of memory is an error.
-fn copy_call_sites(alloc: Global, call_sites: &[CallSite]) -> Result<Vec<CallSite>, AllocError>
+fn copy_call_sites(
+    alloc: Global,
+    call_sites: &[Option<CallSite>],
+) -> Result<Vec<Option<CallSite>>, AllocError>
     ensures { IfOk result (λ made. made.items ≡ call_sites.now) }
 {
     let mut made = Vec::with_capacity(alloc, call_sites.len())?;
-    for site in call_sites {
-        made.push(site.copy(alloc)?)?;
+    for row in call_sites {
+        made.push(copy_row(alloc, row)?)?;
     }
     Ok(made)
+}
+
+/// The same call site once more, unless it is released. Want of memory is an error.
+fn copy_row(alloc: Global, row: &Option<CallSite>) -> Result<Option<CallSite>, AllocError>
+    ensures { IfOk result (λ copy. copy ≡ row.now) }
+{
+    match row {
+        Some(site) => Ok(Some(site.copy(alloc)?)),
+        None => Ok(None),
+    }
 }
 
 /// The same target once more. Want of memory is an error. It goes as deep as the target, and no call site has one that is

@@ -1,34 +1,23 @@
 //! What a call site runs now (java.lang.invoke: CallSite, CallSite.dynamicInvoker, SwitchPoint.guardWithTest; JVMS SE 17 §6.5, invokedynamic).
 
-ghost use Rattle.std.specs.Prelude.{◌≡◌, ◌+◌, ◌^◌, ◌<◌, Some, length};
+ghost use Rattle.std.specs.Prelude.{◌≡◌, ◌+◌, ◌^◌, ◌<◌};
 ghost use Rattle.std.specs.Option.{option_copied};
 ghost use Rattle.jl_types.specs.Linkage.Targets as targets;
-ghost use Rattle.jl_types.specs.Linkage.Targets.{method_of};
 ghost use Rattle.jl_callsites.specs.Earlier.{earlier_target};
 
 use crate::sites::Sites;
 use jl_types::{CallSiteId, MethodId, Part, Target, Work};
 
 impl Sites {
-    /// The method that the call site, which has to be there, runs now. Takes no memory.
-    pub fn evaluate(&self, site: CallSiteId) -> MethodId
-        requires { site < length self.now.call_sites }
-        ensures { method_of self.now site ≡ Some result }
-    {
-        // Shows that the switch points of all guards are there, so that an evaluation ends at a method.
-        let _switches = self.known_switches();
-        self.method_of(site).unwrap()
-    }
-
-    /// The same with one tick: this is an evaluation of a call site. Takes no memory.
-    pub fn evaluate_counted(&self, site: CallSiteId, work: &mut Work) -> MethodId
-        requires there { site < length self.now.call_sites }
+    /// The method that the call site runs now, if there is such a call site, with one tick: this is an evaluation of a call site.
+    /// Takes no memory.
+    pub fn evaluate_counted(&self, site: CallSiteId, work: &mut Work) -> Option<MethodId>
         requires fits { work.old + 1 < 2 ^ 64 }
-        ensures method { method_of self.now site ≡ Some result }
+        ensures method { result ≡ targets.method_of self.now site }
         ensures ticks { work.new ≡ work.old + 1 }
     {
         work.tick();
-        self.evaluate(site)
+        self.method_of(site)
     }
 
     /// The method that the call site runs now, if there is such a call site. Takes no memory.

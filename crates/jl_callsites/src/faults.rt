@@ -2,6 +2,7 @@
 
 ghost use Rattle.std.specs.Prelude.{◌≡◌, ◌<◌, nat_le, nat_lt, true, false, None, length};
 ghost use Rattle.std.specs.List.{list_any};
+ghost use Rattle.jl_types.specs.Values.World.{is_missing};
 ghost use Rattle.jl_types.specs.Linkage.Targets as targets;
 ghost use Rattle.jl_callsites.specs.Faults as faults;
 ghost use Rattle.jl_callsites.specs.Faults.{world_of};
@@ -41,7 +42,7 @@ impl Sites {
         target: &Target,
     ) -> Option<CallSiteFault>
         ensures first { result ≡ faults.set_target_fault classes.now self.now site target.now }
-        ensures there { result ≡ None → site < length self.now.call_sites }
+        ensures there { result ≡ None → is_missing self.now.call_sites site ≡ false }
         ensures known { result ≡ None → is_known (length self.now.switches) site target.now ≡ true }
     {
         let Some(row) = self.call_site_at(site) else {
@@ -79,10 +80,9 @@ impl Sites {
 
     /// Whether one of the switch points isn't there.
     fn lacks_one_of(&self, points: &[SwitchId]) -> bool
-        ensures { result ≡ list_any (nat_le (length self.now.switches)) points.now }
+        ensures { result ≡ list_any (is_missing self.now.switches) points.now }
     {
-        let count = self.switch_count();
-        points.iter().any(|point| point.number() as usize >= count)
+        points.iter().any(|point| !self.has_switch(*point))
     }
 
     /// Why the call site, of this type, doesn't get this target: its size, and then its parts.
@@ -116,7 +116,7 @@ impl Sites {
         match &target.part {
             Part::Method(method) => method_fault(classes, ty, method),
             Part::Guard(point, first, fallback) => {
-                if !self.has_switch(*point) {
+                if self.lacks_switch(*point) {
                     return Some(CallSiteFault::UnknownSwitch);
                 }
                 match self.part_fault(classes, site, ty, first) {
@@ -143,8 +143,17 @@ impl Sites {
         }
         match self.call_site_at(invoked) {
             Some(row) if row.ty().as_slice() == ty => None,
-            _ => Some(CallSiteFault::WrongType),
+            Some(_) => Some(CallSiteFault::WrongType),
+            None => Some(CallSiteFault::UnknownCallSite),
         }
+    }
+
+    /// Whether there is no such switch point, or it is released.
+    fn lacks_switch(&self, point: SwitchId) -> bool
+        ensures missing { result ≡ is_missing self.now.switches point }
+        ensures known { result ≡ false → nat_lt point (length self.now.switches) ≡ true }
+    {
+        !self.has_switch(point)
     }
 }
 

@@ -1,6 +1,6 @@
 //! The laws of call sites: contracts of functions that do nothing.
 
-ghost use Rattle.std.specs.Prelude.{◌≡◌, ℕ, List, length, option_and_then};
+ghost use Rattle.std.specs.Prelude.{◌≡◌, ℕ, List, length};
 ghost use Rattle.jl_types.specs.declared.limits.Limits.{Limits};
 ghost use Rattle.jl_types.specs.declared.event.EventOf.TheVariants as event;
 ghost use Rattle.jl_types.specs.declared.event.Made.TheVariants as made;
@@ -10,10 +10,9 @@ ghost use Rattle.jl_types.specs.Values.World.{World};
 ghost use Rattle.jl_class.specs.declared.site.Kind.{Kind};
 ghost use Rattle.jl_class.specs.declared.site.Operand.TheVariants as operand;
 ghost use Rattle.jl_pool.specs.declared.reference.CallSiteSpecifier.{CallSiteSpecifier};
-ghost use Rattle.jl_types.specs.Linkage.Targets.{method_of};
-ghost use Rattle.jl_types.specs.Linkage.Stages.{by_method, by_operand, bound_to};
+ghost use Rattle.jl_types.specs.Linkage.Stages.{by_binding, by_operand, bound_to};
 ghost use Rattle.jl_callsites.specs.Faults as faults;
-ghost use Rattle.jl_callsites.specs.Laws.{ComesTo};
+ghost use Rattle.jl_callsites.specs.Laws.{ComesTo, Releases};
 
 /// What the events of call sites and switch points come to at a world: the changes of its classes and sites, whatever else is
 /// in it.
@@ -30,10 +29,11 @@ pub fn events_of_call_sites()
     ensures invalidate { (limits : Limits) (w : World) (points : List ℕ)
         → ComesTo limits w (event.Invalidate points) (faults.invalidate_fault w.sites points)
         made.Nothing (faults.with_invalid w.sites points) }
+    ensures release { (limits : Limits) (w : World) (call_sites points : List ℕ) → Releases limits w call_sites points }
 {}
 
 /// An invokedynamic runs what the call site runs to which it is bound (JVMS SE 17 §6.5).
 pub fn bound_sites_run()
     ensures { (w : World) (s d : ℕ) (kind : Kind) (specifier : CallSiteSpecifier (List ℕ)) → by_operand w s d kind (operand.CallSite specifier)
-        ≡ by_method (option_and_then (method_of w.sites) (bound_to w s)) }
+        ≡ by_binding w.sites (bound_to w s) }
 {}

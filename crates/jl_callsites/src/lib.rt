@@ -13,6 +13,7 @@ mod discard;
 mod evaluation;
 mod faults;
 mod laws;
+mod release;
 mod sites;
 mod size;
 mod targeted;

@@ -3,8 +3,10 @@
 ghost use Rattle.std.specs.Prelude.{◌≡◌, ◌<◌, ◌^◌, not, IfSome};
 ghost use Rattle.std.specs.List.{list_any};
 ghost use Rattle.jl_types.specs.Events.Retirement as retirement;
+ghost use Rattle.jl_types.specs.Events.Retirement.{has_target};
 ghost use Rattle.jl_callsites.specs.Targeted.{names_any};
 
+use crate::call_site::CallSite;
 use crate::sites::Sites;
 use jl_hierarchy::{Classes, Leaving};
 use jl_types::{CallSiteId, LoaderId, Part, Target};
@@ -24,19 +26,19 @@ impl Sites {
     /// Whether no target names a method of a class of one of the loaders, be it on a side that isn't taken: a walk over all targets.
     /// Takes no memory.
     pub fn spares(&self, classes: &Classes, leaving: &Leaving) -> bool
-        ensures { result ≡ not (list_any (λ site. names_any classes.now leaving.now site.target) self.now.call_sites) }
+        ensures { result ≡ not (list_any (has_target (names_any classes.now leaving.now)) self.now.call_sites) }
     {
         !self.targets_any(classes, leaving)
     }
 
     /// Whether some target names one.
     fn targets_any(&self, classes: &Classes, leaving: &Leaving) -> bool
-        ensures { result ≡ list_any (λ site. names_any classes.now leaving.now site.target) self.now.call_sites }
+        ensures { result ≡ list_any (has_target (names_any classes.now leaving.now)) self.now.call_sites }
     {
         self.call_sites
             .as_slice()
             .iter()
-            .any(|site| names_any(classes, leaving, site.target()))
+            .any(|row| row_names_any(classes, leaving, row))
     }
 
     /// Its place.
@@ -49,7 +51,27 @@ impl Sites {
         self.call_sites
             .as_slice()
             .iter()
-            .position(|site| names_from(classes, loader, site.target()))
+            .position(|row| row_names_from(classes, loader, row))
+    }
+}
+
+/// Whether the call site isn't released, and its target names a method of one of the loader's classes.
+fn row_names_from(classes: &Classes, loader: LoaderId, row: &Option<CallSite>) -> bool
+    ensures { result ≡ has_target (retirement.names_from classes.now loader) row.now }
+{
+    match row {
+        Some(site) => names_from(classes, loader, site.target()),
+        None => false,
+    }
+}
+
+/// Whether the call site isn't released, and its target names a method of a class of one of the loaders.
+fn row_names_any(classes: &Classes, leaving: &Leaving, row: &Option<CallSite>) -> bool
+    ensures { result ≡ has_target (names_any classes.now leaving.now) row.now }
+{
+    match row {
+        Some(site) => names_any(classes, leaving, site.target()),
+        None => false,
     }
 }
 

@@ -57,6 +57,7 @@ module _ (rows : List Class) (e : Event) (dropped_by : List ℕ) (s : ℕ) where
   outside (event.Bind site c) is f = (f, as_event (event.Bind site c) is refl)
   outside (event.Retire loader) is f = (f, as_event (event.Retire loader) is refl)
   outside (event.RetireAll loaders) is f = (f, as_event (event.RetireAll loaders) is refl)
+  outside (event.Release call_sites points) is f = (f, as_event (event.Release call_sites points) is refl)
   outside (event.Install links) is f =
       let parts = has_both s dropped_by (map (λ (row : ℕ × Link). row.0) links) f in
       (parts.0, as_event (event.Install links) is (installs_has s links ∙ parts.1))

@@ -52,6 +52,7 @@ module _ (w : World) (rows : List Class) (e : Event) (s : ℕ) where
   retires_so (event.Install links) is = as_retired (event.Install links) false is refl
   retires_so (event.Retire loader) is = as_retired (event.Retire loader) (retires_at w (event.Retire loader) s) is refl
   retires_so (event.RetireAll loaders) is = as_retired (event.RetireAll loaders) (retires_at w (event.RetireAll loaders) s) is refl
+  retires_so (event.Release call_sites points) is = as_retired (event.Release call_sites points) false is refl
 
   -- the same in the world afterwards
   pub retired_then : (told : Accepted) → event_of rows told ≡ Some e → retires_at (step w e) told s ≡ retires w e s
@@ -61,6 +62,7 @@ module _ (w : World) (rows : List Class) (e : Event) (s : ℕ) where
   retired_then (event.RetireAll loaders) is =
       ap (λ (x : Event). retires_at (step w x) (event.RetireAll loaders) s) (sym (same_Some (event.RetireAll loaders) e is))
       ∙ sym (retires_so (event.RetireAll loaders) is)
+  retired_then (event.Release call_sites points) is = sym (retires_so (event.Release call_sites points) is)
   retired_then event.NewLoader is = sym (retires_so event.NewLoader is)
   retired_then (event.Define loader c) is = sym (retires_so (event.Define loader c) is)
   retired_then (event.Delegate loader name to) is = sym (retires_so (event.Delegate loader name to) is)
@@ -87,6 +89,7 @@ module _ (w : World) (s : ℕ) where
   gone_so (event.Install links) is = cc
   gone_so (event.Retire loader) is = (gone_after w (loader ∷ []) s is, refl)
   gone_so (event.RetireAll loaders) is = (gone_after w loaders s is, refl)
+  gone_so (event.Release call_sites points) is = cc
 
 -- where each of these sites passes, and each that passes and has a link is among them, it is as good to drop all that pass
 module _ (links : List (ℕ × Link)) (test : ℕ → Bool) (sites : List ℕ) (only : (s : ℕ) → has s sites ≡ true → test s ≡ true)

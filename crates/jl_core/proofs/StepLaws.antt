@@ -104,6 +104,7 @@ defined_so w (event.Bind s c) = refl
 defined_so w (event.Install rows) = refl
 defined_so w (event.Retire loader) = refl
 defined_so w (event.RetireAll loaders) = refl
+defined_so w (event.Release call_sites points) = refl
 
 pub no_install : (s : ℕ) (told : Accepted) → ((rows : List (ℕ × Link)) → told ≡ event.Install rows → ⊥) → installs_at s told ≡ false
 no_install s event.NewLoader other = refl
@@ -118,6 +119,7 @@ no_install s (event.Bind site c) other = refl
 no_install s (event.Install rows) other = absurd (other rows refl)
 no_install s (event.Retire loader) other = refl
 no_install s (event.RetireAll loaders) other = refl
+no_install s (event.Release call_sites points) other = refl
 
 pub no_retired : (w : World) (s : ℕ) (told : Accepted) → ((loaders : List ℕ) → IsRetirement told loaders → ⊥) → retires_at w told s ≡ false
 no_retired w s event.NewLoader other = refl
@@ -132,6 +134,7 @@ no_retired w s (event.Bind site c) other = refl
 no_retired w s (event.Install rows) other = refl
 no_retired w s (event.Retire loader) other = absurd (other (loader ∷ []) (of_one loader))
 no_retired w s (event.RetireAll loaders) other = absurd (other loaders (of_several loaders))
+no_retired w s (event.Release call_sites points) other = refl
 
 -- the event is no retirement where the log keeps none
 module _ (rows : List Class) (e : Event) where
@@ -155,6 +158,7 @@ module _ (rows : List Class) (e : Event) where
   not_retirement (event.Install links) is other = as_no (event.Install links) is refl
   not_retirement (event.Retire loader) is other = absurd (other (loader ∷ []) (of_one loader))
   not_retirement (event.RetireAll loaders) is other = absurd (other loaders (of_several loaders))
+  not_retirement (event.Release call_sites points) is other = as_no (event.Release call_sites points) is refl
 
 -- how many evaluations it takes is told by the event
 module _ (old new : World) (index : List (ℕ × List Key)) (e : Event) (ks : List Key) (step_is : new ≡ events.step old e) (keys_are : ks ≡ keys old e) where
@@ -196,6 +200,7 @@ module _ (old new : World) (index : List (ℕ × List Key)) (e : Event) (ks : Li
   most_by_told (event.RetireAll loaders) is =
       let same : event.RetireAll loaders ≡ e = same_Some (event.RetireAll loaders) e is in
       left_by (event.RetireAll loaders) loaders same ∙ ap (most_to_settle old index) same
+  most_by_told (event.Release call_sites points) is = as_many (event.Release call_sites points) is refl
 
 -- ---- the event that was settled
 
@@ -239,6 +244,7 @@ module _ (w : World) (ks : List Key) (told : Accepted) (links : List (ℕ × Lin
       by_told (event.Install rows) other = refl
       by_told (event.Retire loader) other = absurd (other (loader ∷ []) (of_one loader))
       by_told (event.RetireAll loaders) other = absurd (other loaders (of_several loaders))
+      by_told (event.Release call_sites points) other = refl
 
   pub fits : (work : ℕ) → work ≤ 268435456 → work + length (touched_by index ks) < 2 ^ 64
   fits work small =

@@ -31,3 +31,4 @@ module _ (rows : List Class) (e : Event) (s : ℕ) where
   installs_so (event.Install links) is = as_event (event.Install links) (installs_at s (event.Install links)) is refl
   installs_so (event.Retire loader) is = as_event (event.Retire loader) false is refl
   installs_so (event.RetireAll loaders) is = as_event (event.RetireAll loaders) false is refl
+  installs_so (event.Release call_sites points) is = as_event (event.Release call_sites points) false is refl

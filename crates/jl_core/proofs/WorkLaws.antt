@@ -76,6 +76,7 @@ module _ (h : List Event) (w : World) (links : ℕ → Option Link) (index : Lis
       as_much (most_to_settle w index (event.Retire loader)) (bound h (event.Retire loader)) (retirement_so (event.Retire loader) (loader ∷ []))
   are_bounded (event.RetireAll loaders) =
       as_much (most_to_settle w index (event.RetireAll loaders)) (bound h (event.RetireAll loaders)) (retirement_so (event.RetireAll loaders) loaders)
+  are_bounded (event.Release call_sites points) = by_touched (event.Release call_sites points) (touched_so (event.Release call_sites points))
 
 -- what it takes to judge an event is no more than it may take
 at_least_none : (n : ℕ) → 0 ≤ n
@@ -97,6 +98,7 @@ judged_in_bound h (event.Bind s c) = at_least_none (bound h (event.Bind s c))
 judged_in_bound h (event.Install rows) = no_more (most_to_judge (world_after h) (event.Install rows)) (bound h (event.Install rows)) refl
 judged_in_bound h (event.Retire loader) = at_least_none (bound h (event.Retire loader))
 judged_in_bound h (event.RetireAll loaders) = at_least_none (bound h (event.RetireAll loaders))
+judged_in_bound h (event.Release call_sites points) = at_least_none (bound h (event.Release call_sites points))
 
 -- of the events that led to a core
 pub most_of_accepted : (old new : State) (e : Event) (reply : Reply) → IsAccepted old new e reply → most_of_last (events new) ≡ bound (events old) e

@@ -17,7 +17,8 @@ use crate::log::Entry;
 use crate::slots::with_sites;
 use jl_cache::Cache;
 use jl_deps::{
-    Index, Keys, keys_of_definition, keys_of_points, keys_of_retirement, keys_of_target,
+    Index, Keys, keys_of_definition, keys_of_points, keys_of_release, keys_of_retirement,
+    keys_of_target,
 };
 use jl_events::{Accepted, catch_up_world};
 use jl_journal::{Journal, Share};
@@ -227,6 +228,7 @@ fn keys_told(
         Accepted::RetireAll(loaders) => {
             keys_of_retirement(alloc, &world.classes, loaders.as_slice())
         }
+        Accepted::Release(call_sites, _) => keys_of_release(alloc, call_sites.as_slice()),
         _ => Ok(Seq::of(Vec::new(alloc))),
     }
 }

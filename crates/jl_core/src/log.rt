@@ -113,7 +113,8 @@ fn tells_classes(event: &Accepted) -> bool
         | Accepted::Bind(_, _)
         | Accepted::Install(_)
         | Accepted::Retire(_)
-        | Accepted::RetireAll(_) => false,
+        | Accepted::RetireAll(_)
+        | Accepted::Release(_, _) => false,
     }
 }
 

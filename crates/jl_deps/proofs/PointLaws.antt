@@ -1,5 +1,6 @@
 -- The valid points of an invalidation.
 use Rattle.std.specs.Prelude.{◌≡◌, ℕ, ◌<◌, ◌==◌, ◌&&◌, ◌||◌, Bool, true, false, cond, List, [], ◌∷◌, ◌++◌, filter, length, slice_get, Option, Some, None}
+use Rattle.std.specs.Prelude.{option_and_then}
 use Rattle.std.specs.List.{range_with_len}
 use Rattle.std.specs.Option.{option_map_or}
 use Rattle.std.specs.Bool.{one_answer}
@@ -33,7 +34,9 @@ valid_rise sites points =
 there : (sites : Sites) (p : ℕ) → is_valid sites p ≡ true → p < length sites.switches
 there sites p valid = by_slot (slice_get sites.switches p) refl valid
   where
-    by_slot : (o : Option Bool) → slice_get sites.switches p ≡ o → option_map_or (λ valid. valid) o false ≡ true → p < length sites.switches
+    by_slot : (o : Option (Option Bool)) → slice_get sites.switches p ≡ o
+        → option_map_or (λ valid. valid) (option_and_then (λ row. row) o) false ≡ true
+        → p < length sites.switches
     by_slot None is e = cc
     by_slot (Some b) is e = slice_get_within sites.switches p b is
 

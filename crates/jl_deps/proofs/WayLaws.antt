@@ -1,9 +1,9 @@
 -- What an invoker comes by.
-use Rattle.std.specs.Prelude.{◌≡◌, ℕ, ◌<◌, ◌≤◌, List, [], ◌∷◌, ◌++◌, filter_map, slice_get, Option, Some, None}
+use Rattle.std.specs.Prelude.{◌≡◌, ℕ, ◌<◌, ◌≤◌, List, [], ◌∷◌, ◌++◌, filter_map, Option, Some, None}
 use Rattle.std.specs.Option.{option_map_or}
 use Rattle.std.proofs.Common.{ap, sym, ◌∙◌, append-nil, append_assoc}
 use Rattle.jl_types.specs.Values.Target.{Target, Invoker}
-use Rattle.jl_types.specs.Values.World.{Sites, CallSite}
+use Rattle.jl_types.specs.Values.World.{Sites, CallSite, unreleased}
 use Rattle.jl_types.specs.declared.key.Key.{Key}
 use Rattle.jl_types.specs.declared.key.Key.TheVariants as key
 use Rattle.jl_types.specs.Events.Footprints.{call_site_in, point_in}
@@ -12,11 +12,11 @@ use Rattle.jl_deps.specs.Ways.{way}
 
 module _ (sites : Sites) (n c : ℕ) where
   -- the call site, and what its target comes by
-  pub way_invoked : (row : CallSite) → c < n → slice_get sites.call_sites c ≡ Some row → way sites n (Invoker c) ≡ key.Target c ∷ way sites c row.target
+  pub way_invoked : (row : CallSite) → c < n → unreleased sites.call_sites c ≡ Some row → way sites n (Invoker c) ≡ key.Target c ∷ way sites c row.target
   way_invoked row lt at =
       invoked_way sites n c lt ∙ ap (λ (o : Option CallSite). key.Target c ∷ option_map_or (λ site. way sites c site.target) o []) at
 
-  pub way_absent : c < n → slice_get sites.call_sites c ≡ None → way sites n (Invoker c) ≡ key.Target c ∷ []
+  pub way_absent : c < n → unreleased sites.call_sites c ≡ None → way sites n (Invoker c) ≡ key.Target c ∷ []
   way_absent lt at = invoked_way sites n c lt ∙ ap (λ (o : Option CallSite). key.Target c ∷ option_map_or (λ site. way sites c site.target) o []) at
 
   pub way_later : n ≤ c → way sites n (Invoker c) ≡ []
@@ -50,17 +50,17 @@ module _ (sites : Sites) (n c : ℕ) (target : Target) (is : target ≡ Invoker 
 
   module _ (lt : c < n) where
     -- of one that isn't there itself alone
-    pub absent_call_site : slice_get sites.call_sites c ≡ None → (before after all : List ℕ) → after ≡ before ++ c ∷ []
+    pub absent_call_site : unreleased sites.call_sites c ≡ None → (before after all : List ℕ) → after ≡ before ++ c ∷ []
         → before ++ filter_map call_site_in (way sites n target) ≡ all → after ≡ all
     absent_call_site at before after all pushed e =
         sym (append-nil after) ∙ goes_on before after all (way sites n target) [] c (ap (way sites n) is ∙ way_absent sites n c lt at) pushed e
 
-    pub absent_point : slice_get sites.call_sites c ≡ None → (before all : List ℕ) → before ++ filter_map point_in (way sites n target) ≡ all → before ≡ all
+    pub absent_point : unreleased sites.call_sites c ≡ None → (before all : List ℕ) → before ++ filter_map point_in (way sites n target) ≡ all → before ≡ all
     absent_point at before all e =
         sym (append-nil before) ∙ passes before all (way sites n target) [] c (ap (way sites n) is ∙ way_absent sites n c lt at) e
 
     -- of an earlier one itself, and then what its target comes by
-    pub goes_by : (row : CallSite) (next : Target) → slice_get sites.call_sites c ≡ Some row → next ≡ row.target
+    pub goes_by : (row : CallSite) (next : Target) → unreleased sites.call_sites c ≡ Some row → next ≡ row.target
         → way sites n target ≡ key.Target c ∷ way sites c next
     goes_by row next at made =
         ap (way sites n) is ∙ way_invoked sites n c row lt at ∙ ap (λ (t : Target). key.Target c ∷ way sites c t) (sym made)

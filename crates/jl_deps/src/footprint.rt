@@ -234,7 +234,7 @@ fn of_call_site(
 }
 
 /// Adds the targets of these call sites. Want of memory is an error.
-fn push_targets(keys: &mut Vec<Key>, call_sites: &[CallSiteId]) -> Result<(), AllocError>
+pub(crate) fn push_targets(keys: &mut Vec<Key>, call_sites: &[CallSiteId]) -> Result<(), AllocError>
     ensures { OnOk result (keys.new.items ≡ keys.old.items ++ map key.Target call_sites.now) }
 {
     for call_site in call_sites {

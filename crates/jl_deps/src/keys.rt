@@ -8,7 +8,7 @@ ghost use Rattle.jl_types.specs.Linkage.Targets as targets;
 ghost use Rattle.jl_types.specs.declared.key.Key.TheVariants as key;
 ghost use Rattle.jl_types.specs.Events.Footprints as footprints;
 
-use crate::footprint::push_points;
+use crate::footprint::{push_points, push_targets};
 use jl_callsites::Sites;
 use jl_class::ClassFile;
 use jl_hierarchy::Classes;
@@ -18,7 +18,7 @@ use jl_types::{CallSiteId, ClassId, Event, Key, LoaderId, SwitchId};
 use std::alloc::{AllocError, Global};
 use std::slice::from_ref;
 
-/// What an event changes of what links rest on: keys, rising, none of them twice.
+/// What an event changes of what links rest on: keys. Those of a release come as it lists them, and all others rise, none of them twice.
 pub type Keys = Seq<Key>;
 
 /// What the event, which the world is to accept, changes of what links rest on. Want of memory is an error.
@@ -31,6 +31,7 @@ pub fn keys_of(alloc: Global, world: &World, event: &Event) -> Result<Keys, Allo
         Event::Invalidate(points) => keys_of_points(alloc, &world.sites, points.as_slice()),
         Event::Retire(loader) => keys_of_retirement(alloc, &world.classes, from_ref(loader)),
         Event::RetireAll(loaders) => keys_of_retirement(alloc, &world.classes, loaders.as_slice()),
+        Event::Release(call_sites, _) => keys_of_release(alloc, call_sites.as_slice()),
         _ => Ok(Seq::of(Vec::new(alloc))),
     }
 }
@@ -81,6 +82,16 @@ pub fn keys_of_target(alloc: Global, site: CallSiteId) -> Result<Keys, AllocErro
 {
     let mut keys = Vec::new(alloc);
     keys.push(Key::Target(site))?;
+    Ok(Seq::of(keys))
+}
+
+/// What a release of these call sites changes. The switch points that go with them change nothing more, since only targets that go guard
+/// by them. Want of memory is an error.
+pub fn keys_of_release(alloc: Global, call_sites: &[CallSiteId]) -> Result<Keys, AllocError>
+    ensures { IfOk result (λ keys. keys ≡ map key.Target call_sites.now) }
+{
+    let mut keys = Vec::with_capacity(alloc, call_sites.len())?;
+    push_targets(&mut keys, call_sites)?;
     Ok(Seq::of(keys))
 }
 

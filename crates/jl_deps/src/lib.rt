@@ -16,6 +16,7 @@ pub use footprint::{footprint_of, footprint_of_linked};
 pub use index::Index;
 pub use kept::Footprint;
 pub use keys::{
-    Keys, keys_of, keys_of_definition, keys_of_points, keys_of_retirement, keys_of_target,
+    Keys, keys_of, keys_of_definition, keys_of_points, keys_of_release, keys_of_retirement,
+    keys_of_target,
 };
 pub use laws::only_touched_sites_change;

@@ -26,6 +26,7 @@ rows_stay w (event.Bind site call_site) c row is = is
 rows_stay w (event.Install links) c row is = is
 rows_stay w (event.Retire loader) c row is = is
 rows_stay w (event.RetireAll loaders) c row is = is
+rows_stay w (event.Release call_sites points) c row is = is
 
 -- ---- where the classes stay
 
@@ -51,6 +52,7 @@ module _ (rows more : List Class) (stay : (c : ℕ) (row : Class) → slice_get 
   event_still (event.Install links) e = refl
   event_still (event.Retire loader) e = refl
   event_still (event.RetireAll loaders) e = refl
+  event_still (event.Release call_sites points) e = refl
 
 -- a definition names the class that it made
 pub defines : (cs : Classes) (loader : ℕ) (file : ClassFile)
@@ -72,3 +74,4 @@ no_class (event.Bind s c) other = refl
 no_class (event.Install rows) other = refl
 no_class (event.Retire loader) other = refl
 no_class (event.RetireAll loaders) other = refl
+no_class (event.Release call_sites points) other = refl

@@ -13,9 +13,10 @@ use Rattle.jl_types.specs.declared.refusal.CallSiteFault.TheVariants.{Full}
 use Rattle.jl_types.specs.declared.refusal.Refusal.{Refusal}
 use Rattle.jl_types.specs.declared.refusal.Refusal.TheVariants as refusal
 use Rattle.jl_types.specs.Values.Target.{Target}
-use Rattle.jl_types.specs.Values.World.{World}
+use Rattle.jl_types.specs.Values.World.{World, unreleased, is_missing}
 use Rattle.jl_types.specs.Events.Definitions.{define_fault, delegate_fault}
 use Rattle.jl_types.specs.Events.Retirement.{MayRetire}
+use Rattle.jl_types.specs.Events.Release.{release_fault}
 use Rattle.jl_types.proofs.Retiring.{may_retire}
 use Rattle.jl_relink.proofs.Closing.{free_loader, free_loaders}
 use Rattle.jl_types.specs.Events.Verdict.{unless, new_call_site_fault, set_target_fault, invalidate_fault, bind_fault, install_fault}
@@ -75,16 +76,16 @@ module _ (w : World) where
     site_points = free.site_points ok.limits.call_sites w ty t site_free
 
   module _ (c : ℕ) (t : Target) (ok : IsAcceptable w (event.SetTarget c t)) where
-    target_free : set_target_fault w c (slice_get w.sites.call_sites c) t ≡ None
+    target_free : set_target_fault w c (unreleased w.sites.call_sites c) t ≡ None
     target_free =
-        none_of refusal.CallSite (set_target_fault w c (slice_get w.sites.call_sites c) t)
-        (no_fault (option_map refusal.CallSite (set_target_fault w c (slice_get w.sites.call_sites c) t)) made.Nothing ok.accepted)
+        none_of refusal.CallSite (set_target_fault w c (unreleased w.sites.call_sites c) t)
+        (no_fault (option_map refusal.CallSite (set_target_fault w c (unreleased w.sites.call_sites c) t)) made.Nothing ok.accepted)
 
-    pub target_there : c < length w.sites.call_sites
-    target_there = free.target_there w c t (slice_get w.sites.call_sites c) refl target_free
+    pub target_there : is_missing w.sites.call_sites c ≡ false
+    target_there = free.target_there w c t (unreleased w.sites.call_sites c) refl target_free
 
     pub target_points : is_known (length w.sites.switches) c t ≡ true
-    target_points = free.target_points w c t (slice_get w.sites.call_sites c) target_free
+    target_points = free.target_points w c t (unreleased w.sites.call_sites c) target_free
 
   pub switch_room : IsAcceptable w event.NewSwitch → length w.sites.switches < 2 ^ 20
   switch_room ok =
@@ -111,3 +112,15 @@ module _ (w : World) where
 
   pub retirements_free : (loaders : List ℕ) → IsAcceptable w (event.RetireAll loaders) → MayRetire w.classes loaders
   retirements_free loaders ok = may_retire w loaders (free_loaders ok.limits w loaders ok.accepted)
+
+  module _ (call_sites points : List ℕ) (ok : IsAcceptable w (event.Release call_sites points)) where
+    release_free : release_fault w.sites call_sites points ≡ None
+    release_free =
+        none_of refusal.Release (release_fault w.sites call_sites points)
+        (no_fault (option_map refusal.Release (release_fault w.sites call_sites points)) made.Nothing ok.accepted)
+
+    pub released_there : list_any (is_missing w.sites.call_sites) call_sites ≡ false
+    released_there = free.released_there w.sites call_sites points release_free
+
+    pub released_points : list_any (is_missing w.sites.switches) points ≡ false
+    released_points = free.released_points w.sites call_sites points release_free

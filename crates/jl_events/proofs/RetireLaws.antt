@@ -8,7 +8,7 @@ use Rattle.jl_types.specs.declared.refusal.RetireFault.{RetireFault}
 use Rattle.jl_types.specs.declared.refusal.RetireFault.TheVariants.{Targeted}
 use Rattle.jl_types.specs.Values.World.{World}
 use Rattle.jl_types.specs.Linkage.Resolution.{first_of}
-use Rattle.jl_types.specs.Events.Retirement.{MayRetire, retire_fault}
+use Rattle.jl_types.specs.Events.Retirement.{MayRetire, has_target, retire_fault}
 use Rattle.jl_types.specs.Events.Verdict.{retire_all_fault}
 use Rattle.jl_types.proofs.Retiring.{free_all}
 use Rattle.jl_callsites.specs.Targeted.{names_any}
@@ -20,7 +20,7 @@ not_true false e = refl
 
 -- where neither the classes nor the call sites hold one of the loaders, all may go
 pub none_held : (w : World) (loaders : List ℕ) → MayRetire w.classes loaders
-    → not (list_any (λ site. names_any w.classes loaders site.target) w.sites.call_sites) ≡ true → retire_all_fault w loaders ≡ None
+    → not (list_any (has_target (names_any w.classes loaders)) w.sites.call_sites) ≡ true → retire_all_fault w loaders ≡ None
 none_held w loaders may none =
     free_all w loaders (λ l there.
     (λ i. first_of (may l there i ∷ option_map Targeted (spared w.classes loaders l there w.sites.call_sites (not_true _ none) i) ∷ [])))

@@ -6,7 +6,7 @@ ghost use Rattle.jl_events.specs.Changes.{IsNext};
 use crate::accepted::Accepted;
 use crate::changes::{
     add_binding, add_call_site, add_delegation, add_loader, add_place, add_switch, put_invalid,
-    put_target, retire_all, retire_loader,
+    put_released, put_target, retire_all, retire_loader,
 };
 use jl_relink::World;
 use std::alloc::{AllocError, Global};
@@ -72,5 +72,9 @@ fn catch_up_owned(
         Accepted::Install(_) => Ok(()),
         Accepted::Retire(loader) => retire_loader(world, alloc, *loader),
         Accepted::RetireAll(loaders) => retire_all(world, alloc, loaders.as_slice()),
+        Accepted::Release(call_sites, points) => {
+            put_released(world, call_sites.as_slice(), points.as_slice());
+            Ok(())
+        }
     }
 }

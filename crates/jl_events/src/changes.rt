@@ -156,3 +156,11 @@ pub(crate) fn retire_all(
     world.classes.retire(alloc, loaders)?;
     Ok(())
 }
+
+/// The call sites and switch points go (java.lang.invoke: CallSite, SwitchPoint). Takes no memory.
+pub(crate) fn put_released(world: &mut World, call_sites: &[CallSiteId], points: &[SwitchId])
+    requires { IsAcceptable world.old (event.Release call_sites.now points.now) }
+    ensures { IsMoved world.old world.new (event.Release call_sites.now points.now) made.Nothing }
+{
+    world.sites.put_released(call_sites, points);
+}

@@ -7,6 +7,7 @@ ghost use Rattle.jl_types.specs.declared.event.Made.{Made};
 ghost use Rattle.jl_types.specs.declared.refusal.Refusal.TheVariants as refusal;
 ghost use Rattle.jl_types.specs.Events.Definitions.{delegate_fault};
 ghost use Rattle.jl_types.specs.Events.Retirement.{retire_fault};
+ghost use Rattle.jl_types.specs.Events.Release.{release_fault};
 ghost use Rattle.jl_types.specs.Events.Verdict.{retire_all_fault};
 ghost use Rattle.jl_types.specs.Events.Verdict as events;
 ghost use Rattle.jl_types.specs.Events.Verdict.{verdict};
@@ -19,7 +20,9 @@ use jl_callsites::discard_target;
 use jl_class::ClassFile;
 use jl_hierarchy::{Classes, Leaving};
 use jl_relink::World;
-use jl_types::{CallSiteFault, Event, Limits, LoaderId, Refusal, RetireFault, Work};
+use jl_types::{
+    CallSiteFault, CallSiteId, Event, Limits, LoaderId, Refusal, RetireFault, SwitchId, Work,
+};
 use std::alloc::Global;
 use std::slice::from_ref;
 
@@ -85,6 +88,10 @@ pub fn judged(
         Event::RetireAll(loaders) => {
             let refusal = retirement_refusal(alloc, world, loaders.as_slice());
             unless(refusal, Event::RetireAll(loaders))
+        }
+        Event::Release(call_sites, points) => {
+            let refusal = release_refusal(alloc, world, call_sites.as_slice(), points.as_slice());
+            unless(refusal, Event::Release(call_sites, points))
         }
     }
 }
@@ -193,6 +200,19 @@ fn first_held(world: &World, loaders: &[LoaderId]) -> Option<Refusal>
         }
     }
     None
+}
+
+/// Why the call sites and switch points aren't let go.
+fn release_refusal(
+    alloc: Global,
+    world: &World,
+    call_sites: &[CallSiteId],
+    points: &[SwitchId],
+) -> Option<Refusal>
+    ensures { result ≡ option_map refusal.Release (release_fault world.now.sites call_sites.now points.now) }
+{
+    let fault = world.sites.release_fault(alloc, call_sites, points)?;
+    Some(Refusal::Release(fault))
 }
 
 /// The refusal that is this fault.

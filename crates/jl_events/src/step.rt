@@ -8,7 +8,7 @@ ghost use Rattle.jl_events.specs.Changes.{IsAcceptable, IsStepped};
 use crate::accepted::Accepted;
 use crate::changes::{
     add_binding, add_call_site, add_class, add_delegation, add_loader, add_place, add_switch,
-    put_invalid, put_target, retire_all, retire_loader,
+    put_invalid, put_released, put_target, retire_all, retire_loader,
 };
 use jl_cache::kept_rows;
 use jl_class::ClassFile;
@@ -87,6 +87,7 @@ fn step_owned(
         Event::Install(rows) => install(alloc, rows.as_slice()),
         Event::Retire(loader) => retire(world, alloc, loader),
         Event::RetireAll(loaders) => retire_each(world, alloc, loaders),
+        Event::Release(call_sites, points) => Ok(release(world, call_sites, points)),
     }
 }
 
@@ -215,4 +216,17 @@ fn retire_each(
 {
     retire_all(world, alloc, loaders.as_slice())?;
     Ok((Accepted::RetireAll(loaders), Made::Nothing))
+}
+
+/// The same for a release, which takes no memory.
+fn release(
+    world: &mut World,
+    call_sites: Seq<CallSiteId>,
+    points: Seq<SwitchId>,
+) -> (Accepted, Made)
+    requires { IsAcceptable world.old (events.Release call_sites points) }
+    ensures { IsStepped world.old world.new (events.Release call_sites points) result.0 result.1 }
+{
+    put_released(world, call_sites.as_slice(), points.as_slice());
+    (Accepted::Release(call_sites, points), Made::Nothing)
 }

@@ -285,3 +285,4 @@ refusal_seen {K = K} list first second r o is same = subst (HasSeen list) (sym i
     by_refusal refusal.LoadersFull = tt
     by_refusal (refusal.Retire fault) = tt
     by_refusal (refusal.RetireAll loader fault) = tt
+    by_refusal (refusal.Release fault) = tt

@@ -29,7 +29,8 @@ use Rattle.jl_types.specs.Linkage.Resolution.{Resolved, by_access, if_accessible
 use Rattle.jl_types.specs.Linkage.Selection.{is_init}
 use Rattle.jl_types.specs.Linkage.Stages.{Stage, Waits, Fails, Calls, Selects, Selector, ByVirtual, ByInterface, BySpecial}
 use Rattle.jl_types.specs.Linkage.Stages.{stage, stage_at, stage_of, by_operand}
-use Rattle.jl_types.specs.Linkage.Stages.{ResolvedCall, by_resolution, by_kind, by_method, selecting, invocation_at, bound_method}
+use Rattle.jl_types.specs.Linkage.Stages.{ResolvedCall, by_resolution, by_kind, by_method, by_binding, selecting, invocation_at, bound_to}
+use Rattle.jl_types.specs.Linkage.Targets.{method_of}
 use Rattle.jl_types.specs.Linkage.Links.{scratch, link_of}
 use Rattle.jl_host.specs.Awaiting.{nest_host_named, missing_named, awaited_by_answer, awaited_by, awaited_at, awaited}
 
@@ -195,11 +196,15 @@ module _ (w : World) (s : ℕ) (missing : Missing) where
 
     by_named : (kind : Kind) (named : Operand (List ℕ)) → by_operand w s d kind named ≡ awaits → HasName (awaited_by w.classes d named)
     by_named kind (operand.Method ref) e = by_reference kind ref (resolved w.classes d ref) refl e
-    by_named kind (operand.CallSite specifier) e = no_binding (bound_method w s) e
+    by_named kind (operand.CallSite specifier) e = no_binding (bound_to w s) e
       where
-        no_binding : (o : Option MethodId) → by_method o ≡ awaits → HasName None
+        no_method : (o : Option MethodId) → by_method o ≡ awaits → HasName None
+        no_method None e = cc
+        no_method (Some m) e = cc
+
+        no_binding : (o : Option ℕ) → by_binding w.sites o ≡ awaits → HasName None
         no_binding None e = cc
-        no_binding (Some m) e = cc
+        no_binding (Some c) e = no_method (method_of w.sites c) e
 
     by_invocation : (o : Option Site) → stage_of w s d o ≡ awaits → HasName (option_and_then (λ site. awaited_by w.classes d site.operand) o)
     by_invocation None e = cc

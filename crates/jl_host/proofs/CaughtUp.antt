@@ -105,6 +105,7 @@ same_installs rows (event.Bind site c) e s is = ap (installs s) (same_Some (even
 same_installs rows (event.Install links) e s is = ap (installs s) (same_Some (event.Install links) e is)
 same_installs rows (event.Retire loader) e s is = ap (installs s) (same_Some (event.Retire loader) e is)
 same_installs rows (event.RetireAll loaders) e s is = ap (installs s) (same_Some (event.RetireAll loaders) e is)
+same_installs rows (event.Release call_sites points) e s is = ap (installs s) (same_Some (event.Release call_sites points) e is)
 
 module _ (rows : List Class) (s : ℕ) where
   same_touch : (entry : Entry) (o : Option Event) → event_of rows entry.event ≡ o → (rest : List (Event × Reply))

@@ -37,7 +37,7 @@ use Rattle.jl_types.specs.declared.link.TableKind.TheVariants as table
 use Rattle.jl_types.specs.declared.refusal.CallSiteFault.TheVariants.{UnknownMethod, UnknownSwitch, TooDeep, Full, Constant}
 use Rattle.jl_types.specs.declared.refusal.Refusal.TheVariants as refusal
 use Rattle.jl_types.specs.Values.Target.{Target, Method, Guard, Invoker, depth}
-use Rattle.jl_types.specs.Values.World.{World, Class, Classes, Sites, CallSite, nothing_yet}
+use Rattle.jl_types.specs.Values.World.{World, Class, Classes, Sites, CallSite, nothing_yet, unreleased, is_missing}
 use Rattle.jl_types.specs.Values.Members.{is_present, is_interface, is_private, is_public, is_static, is_abstract, is_called, lookup}
 use Rattle.jl_types.specs.Values.Members.{methods_of, method_at, method_test, declared}
 use Rattle.jl_types.specs.Values.Ancestry.{is_ancestor, is_proper_ancestor, superclasses, superinterfaces, receivers}
@@ -49,13 +49,14 @@ use Rattle.jl_types.specs.Linkage.Overriding.{can_override}
 use Rattle.jl_types.specs.Linkage.Selection.{found_or, overriding, chosen_of, chosen, ending, virtual_outcome, interface_ending, special_outcome}
 use Rattle.jl_types.specs.Linkage.Selection.{is_init, special_start, instance_methods, special_in_class, special_in_interface, special_found, special_choice}
 use Rattle.jl_types.specs.Linkage.Stages.{Selector, ByVirtual, ByInterface, BySpecial, ResolvedCall, Stage, Waits, Fails, Calls, Selects}
-use Rattle.jl_types.specs.Linkage.Stages.{selecting, by_kind, by_resolution, by_method, bound_to, bound_method, invocation_at}
+use Rattle.jl_types.specs.Linkage.Stages.{selecting, by_kind, by_resolution, by_method, by_binding, bound_to, invocation_at}
 use Rattle.jl_types.specs.Linkage.Stages.{by_operand, stage_of, stage_at, stage}
 use Rattle.jl_types.specs.Linkage.Targets.{is_valid, run_by, run_below, method_of, parts, may_be_named, part_fault, target_fault}
 use Rattle.jl_types.specs.Linkage.Links.{outcome_by, outcome, table_rows, table_or_mega, runs, virtual_link, link_by, link_of, scratch}
 use Rattle.jl_types.specs.Events.Event.{Event}
 use Rattle.jl_types.specs.Events.Definitions.{class_made}
 use Rattle.jl_types.specs.Events.Verdict.{is_constant, new_call_site_fault, set_target_fault, retargeted, verdict, step}
+use Rattle.jl_types.specs.Events.Release.{without}
 use Rattle.jl_types.specs.Events.History.{world_after}
 use Rattle.jl_types.proofs.Bools.{first_test, second_test}
 use Rattle.jl_types.proofs.Firsts.{first_none, test_none}
@@ -359,8 +360,19 @@ NamesDeclarable (Invoker c) = ⊤
 abbrev IsDeclarableSite : CallSite → Type 0
 IsDeclarableSite site = NamesDeclarable site.target
 
+-- unless it is released
+abbrev IsDeclarableRow : Option CallSite → Type 0
+IsDeclarableRow row = IfSome row IsDeclarableSite
+
+unreleased_declarable : (rows : List (Option CallSite)) (c : ℕ) → AllByRecursion IsDeclarableRow rows → IsDeclarableRow (unreleased rows c)
+unreleased_declarable rows c all = by_row (slice_get rows c) refl
+  where
+    by_row : (o : Option (Option CallSite)) → slice_get rows c ≡ o → IsDeclarableRow (option_and_then (λ row. row) o)
+    by_row None at = tt
+    by_row (Some row) at = all_at IsDeclarableRow rows c row at all
+
 -- what a target stands for, what call sites stand for that come before another one, and what a call site runs
-module _ (sites : Sites) (all : AllByRecursion IsDeclarableSite sites.call_sites) where
+module _ (sites : Sites) (all : AllByRecursion IsDeclarableRow sites.call_sites) where
   target_runs : (run : ℕ → Option MethodId) → ((c : ℕ) → IfSome (run c) IsDeclarable) → (t : Target) → NamesDeclarable t
       → IfSome (run_by sites run t) IsDeclarable
   target_runs run each (Method m) is = is
@@ -374,21 +386,20 @@ module _ (sites : Sites) (all : AllByRecursion IsDeclarableSite sites.call_sites
   target_runs run each (Invoker c) is = each c
 
   site_runs : (run : ℕ → Option MethodId) → ((c : ℕ) → IfSome (run c) IsDeclarable) → (c : ℕ)
-      → IfSome (option_and_then (λ site. run_by sites run site.target) (slice_get sites.call_sites c)) IsDeclarable
-  site_runs run each c = by_site (slice_get sites.call_sites c) refl
+      → IfSome (option_and_then (λ site. run_by sites run site.target) (unreleased sites.call_sites c)) IsDeclarable
+  site_runs run each c = by_site (unreleased sites.call_sites c) (unreleased_declarable sites.call_sites c all)
     where
-      by_site : (o : Option CallSite) → slice_get sites.call_sites c ≡ o
-          → IfSome (option_and_then (λ site. run_by sites run site.target) o) IsDeclarable
-      by_site None at = tt
-      by_site (Some site) at = target_runs run each site.target (all_at IsDeclarableSite sites.call_sites c site at all)
+      by_site : (row : Option CallSite) → IsDeclarableRow row → IfSome (option_and_then (λ site. run_by sites run site.target) row) IsDeclarable
+      by_site None is = tt
+      by_site (Some site) is = target_runs run each site.target is
 
   below_runs : (n c : ℕ) → IfSome (run_below sites n c) IsDeclarable
   below_runs zero c = tt
   below_runs (suc n) c = by_test (n == c) (below_runs n) (site_runs (run_below sites n) (below_runs n) c)
     where
       by_test : (b : Bool) → ((d : ℕ) → IfSome (run_below sites n d) IsDeclarable)
-          → IfSome (option_and_then (λ site. run_by sites (run_below sites n) site.target) (slice_get sites.call_sites c)) IsDeclarable
-          → IfSome (if b then option_and_then (λ site. run_by sites (run_below sites n) site.target) (slice_get sites.call_sites c)
+          → IfSome (option_and_then (λ site. run_by sites (run_below sites n) site.target) (unreleased sites.call_sites c)) IsDeclarable
+          → IfSome (if b then option_and_then (λ site. run_by sites (run_below sites n) site.target) (unreleased sites.call_sites c)
           else run_below sites n c) IsDeclarable
       by_test true earlier here = here
       by_test false earlier here = earlier c
@@ -436,7 +447,7 @@ module _ (w : World) (few : AllByRecursion IsFew w.classes.rows) where
       within_few w.classes few m (passes_within (λ method. not (begins_special method.name)) (methods_of w.classes m.class) m.index
       (second_test (is_present w.classes m.class) (method_test (λ method. not (begins_special method.name)) w.classes m) may))
   named_in_part c ty (Guard p first fallback) e =
-      let guard = first_none (then_some (nat_le (length w.sites.switches) p) UnknownSwitch) (part_fault w c ty first ∷ part_fault w c ty fallback ∷ []) e in
+      let guard = first_none (then_some (is_missing w.sites.switches p) UnknownSwitch) (part_fault w c ty first ∷ part_fault w c ty fallback ∷ []) e in
       let one = first_none (part_fault w c ty first) (part_fault w c ty fallback ∷ []) guard.1 in
       (named_in_part c ty first one.0, named_in_part c ty fallback (first_none (part_fault w c ty fallback) [] one.1).0)
   named_in_part c ty (Invoker d) e = tt
@@ -468,17 +479,22 @@ with_last P [] x all is = (is, tt)
 with_last P (y ∷ xs) x all is = (all.0, with_last P xs x all.1 is)
 
 -- so it is once a call site has a new target
-all_retargeted : (sites : List CallSite) (c : ℕ) (t : Target) → AllByRecursion IsDeclarableSite sites → NamesDeclarable t
-    → AllByRecursion IsDeclarableSite (retargeted sites c t)
-all_retargeted sites c t all is = by_site (slice_get sites c)
+all_retargeted : (rows : List (Option CallSite)) (c : ℕ) (t : Target) → AllByRecursion IsDeclarableRow rows → NamesDeclarable t
+    → AllByRecursion IsDeclarableRow (retargeted rows c t)
+all_retargeted rows c t all is = by_site (unreleased rows c)
   where
-    by_site : (o : Option CallSite) → AllByRecursion IsDeclarableSite (option_map_or (λ site. slice_set sites c (record site { target = t })) o sites)
+    by_site : (o : Option CallSite) → AllByRecursion IsDeclarableRow (option_map_or (λ site. slice_set rows c (Some (record site { target = t }))) o rows)
     by_site None = all
-    by_site (Some site) = all_set IsDeclarableSite sites c (record site { target = t }) is all
+    by_site (Some site) = all_set IsDeclarableRow rows c (Some (record site { target = t })) is all
+
+-- and once some are released
+all_without : (rows : List (Option CallSite)) (going : List ℕ) → AllByRecursion IsDeclarableRow rows → AllByRecursion IsDeclarableRow (without rows going)
+all_without rows [] all = all
+all_without rows (c ∷ going) all = all_without (slice_set rows c None) going (all_set IsDeclarableRow rows c None tt all)
 
 -- what a world's classes declare and what its call sites' targets name
 abbrev AreDeclarable : World → Type 0
-AreDeclarable w = AllByRecursion IsFew w.classes.rows × AllByRecursion IsDeclarableSite w.sites.call_sites
+AreDeclarable w = AllByRecursion IsFew w.classes.rows × AllByRecursion IsDeclarableRow w.sites.call_sites
 
 declarable_after : (limits : Limits) (w : World) → AreDeclarable w → (e : Event) → IsOk (verdict limits w e) → has_read_file e ≡ true
     → AreDeclarable (step w e)
@@ -492,14 +508,14 @@ declarable_after limits w all (event.Delegate loader name to) accepted read = al
 declarable_after limits w all (event.Request place) accepted read = all
 declarable_after limits w all (event.NewCallSite kind ty t) accepted read = (
   all.0,
-  with_last IsDeclarableSite w.sites.call_sites (record { kind = kind; ty = ty; target = t }) all.1
+  with_last IsDeclarableRow w.sites.call_sites (Some (record { kind = kind; ty = ty; target = t })) all.1
       (named_when_new w all.0 limits.call_sites ty t (no_fault refusal.CallSite (new_call_site_fault limits.call_sites w ty t) _ accepted)),
 )
 declarable_after limits w all (event.SetTarget c t) accepted read = (
   all.0,
   all_retargeted w.sites.call_sites c t all.1
-      (named_when_set w all.0 c t (slice_get w.sites.call_sites c)
-      (no_fault refusal.CallSite (set_target_fault w c (slice_get w.sites.call_sites c) t) _ accepted)),
+      (named_when_set w all.0 c t (unreleased w.sites.call_sites c)
+      (no_fault refusal.CallSite (set_target_fault w c (unreleased w.sites.call_sites c) t) _ accepted)),
 )
 declarable_after limits w all event.NewSwitch accepted read = all
 declarable_after limits w all (event.Invalidate points) accepted read = all
@@ -507,6 +523,7 @@ declarable_after limits w all (event.Bind s c) accepted read = all
 declarable_after limits w all (event.Install rows) accepted read = all
 declarable_after limits w all (event.Retire loader) accepted read = all
 declarable_after limits w all (event.RetireAll loaders) accepted read = all
+declarable_after limits w all (event.Release call_sites points) accepted read = (all.0, all_without w.sites.call_sites call_sites all.1)
 
 from : (limits : Limits) (h : List Event) (w : World) → AreDeclarable w
     → ((n : ℕ) (e : Event) → slice_get h n ≡ Some e → IsOk (verdict limits (fold step w (take n h)) e)) → list_all has_read_file h ≡ true
@@ -520,14 +537,14 @@ from limits (e ∷ h) w all each files =
 -- ---- a site
 
 module _ (w : World) (all : AreDeclarable w) (s : ℕ) where
-  bound_declarable : IsDeclarableStage (by_method (bound_method w s))
+  bound_declarable : IsDeclarableStage (by_binding w.sites (bound_to w s))
   bound_declarable = by_site (bound_to w s)
     where
       of_method : (o : Option MethodId) → IfSome o IsDeclarable → IsDeclarableStage (by_method o)
       of_method None is = tt
       of_method (Some m) is = is
 
-      by_site : (o : Option ℕ) → IsDeclarableStage (by_method (option_and_then (method_of w.sites) o))
+      by_site : (o : Option ℕ) → IsDeclarableStage (by_binding w.sites o)
       by_site None = tt
       by_site (Some c) = of_method (method_of w.sites c) (call_site_runs w.sites all.1 c)
 

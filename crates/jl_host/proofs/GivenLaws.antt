@@ -185,6 +185,7 @@ refused_status (refusal.Delegate f) e = omega (arith, e)
 refused_status refusal.LoadersFull e = omega (arith, e)
 refused_status (refusal.Retire f) e = omega (arith, e)
 refused_status (refusal.RetireAll l f) e = omega (arith, e)
+refused_status (refusal.Release f) e = omega (arith, e)
 
 accepts_by : (old next : State) (links : List (ℕ × Link)) (outcome : Result Reply Refusal) → IsApplied old (event.Install links) outcome next
     → done ≡ status_of outcome → Accepts (world_of old) links

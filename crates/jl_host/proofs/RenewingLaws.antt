@@ -48,6 +48,7 @@ none_installed (event.Bind s c) none e = cc
 none_installed (event.Install rows) none e = cc
 none_installed (event.Retire l) none e = cc
 none_installed (event.RetireAll ls) none e = cc
+none_installed (event.Release cs ps) none e = cc
 
 module _ (w : World) (entry : Entry) (old new : Fresh) (none : installs_of entry.event ≡ None) where
   added : IsCarried w entry old.numbers new.numbers old.core new.core → IsAdded w entry old.numbers new.numbers old.core new.core

@@ -12,6 +12,7 @@ use Rattle.jl_types.specs.declared.refusal.CallSiteFault.TheVariants as site
 use Rattle.jl_types.specs.declared.refusal.NotLinkable.TheVariants.{ArrayReceiver, PolymorphicSignature}
 use Rattle.jl_types.specs.declared.refusal.PrepareFault.TheVariants as preparation
 use Rattle.jl_types.specs.declared.refusal.Refusal.TheVariants as refusal
+use Rattle.jl_types.specs.declared.refusal.ReleaseFault.TheVariants as release
 use Rattle.jl_types.specs.declared.refusal.RetireFault.TheVariants as retirement
 use Rattle.jl_types.specs.declared.answer.Answer.TheVariants as answer
 use Rattle.jl_types.specs.declared.answer.Fast.TheVariants.{Now, Miss}
@@ -48,8 +49,8 @@ refusals : map status_of_refusal (refusal.Define definition.Full ∷ refusal.Unk
     ∷ refusal.CallSite site.Full ∷ refusal.NotDynamic ∷ refusal.AlreadyBound 0 ∷ refusal.TypeMismatch ∷ refusal.Stale 0 link.Mega ∷ refusal.NotReady 0
     ∷ refusal.UnknownSite 0
     ∷ refusal.Repeated 0 ∷ refusal.BatchSize ∷ refusal.Memory ∷ refusal.Delegate delegation.NotRecorded ∷ refusal.LoadersFull
-    ∷ refusal.Retire retirement.FirstLoader ∷ refusal.RetireAll 7 retirement.FirstLoader ∷ [])
-    ≡ 1 ∷ 2 ∷ 3 ∷ 4 ∷ 5 ∷ 6 ∷ 7 ∷ 8 ∷ 9 ∷ 10 ∷ 11 ∷ 12 ∷ 13 ∷ 14 ∷ 15 ∷ 16 ∷ 17 ∷ 19 ∷ 19 ∷ []
+    ∷ refusal.Retire retirement.FirstLoader ∷ refusal.RetireAll 7 retirement.FirstLoader ∷ refusal.Release (release.Guarded 7) ∷ [])
+    ≡ 1 ∷ 2 ∷ 3 ∷ 4 ∷ 5 ∷ 6 ∷ 7 ∷ 8 ∷ 9 ∷ 10 ∷ 11 ∷ 12 ∷ 13 ∷ 14 ∷ 15 ∷ 16 ∷ 17 ∷ 19 ∷ 19 ∷ 20 ∷ []
 refusals = refl
 
 unprepared : map status_of_unprepared (preparation.NotReady 0 ∷ preparation.UnknownSite 0 ∷ preparation.Repeated 0 ∷ preparation.BatchSize ∷ preparation.Memory
@@ -109,6 +110,11 @@ told_retirements : map five (told_of_refusal (refusal.Retire retirement.UnknownL
     ≡ (0 ∷ 1 ∷ 0 ∷ 0 ∷ 0 ∷ []) ∷ (0 ∷ 4 ∷ 7 ∷ 0 ∷ 0 ∷ []) ∷ (6 ∷ 1 ∷ 0 ∷ 0 ∷ 0 ∷ []) ∷ (0 ∷ 2 ∷ 0 ∷ 0 ∷ 0 ∷ []) ∷ (6 ∷ 3 ∷ 7 ∷ 0 ∷ 0 ∷ [])
     ∷ (6 ∷ 4 ∷ 7 ∷ 0 ∷ 0 ∷ []) ∷ (6 ∷ 5 ∷ 7 ∷ 0 ∷ 0 ∷ []) ∷ []
 told_retirements = refl
+
+told_releases : map (λ f. five (told_of_refusal (refusal.Release f)))
+    (release.UnknownCallSite 7 ∷ release.UnknownSwitch 7 ∷ release.Invoked 7 ∷ release.Guarded 7 ∷ [])
+    ≡ (0 ∷ 1 ∷ 7 ∷ 0 ∷ 0 ∷ []) ∷ (0 ∷ 2 ∷ 7 ∷ 0 ∷ 0 ∷ []) ∷ (0 ∷ 3 ∷ 7 ∷ 0 ∷ 0 ∷ []) ∷ (0 ∷ 4 ∷ 7 ∷ 0 ∷ 0 ∷ []) ∷ []
+told_releases = refl
 
 told_files : map (λ f. five (told_of_file f)) (file.TooLarge ∷ file.BadMagic ∷ file.BadVersion ∷ file.Truncated ∷ file.Pool pool.Truncated
     ∷ file.Pool (pool.BadTag 9)

@@ -89,6 +89,8 @@ module _ (n m : Numbers) (same : AreLookedUpSame n m) where
   event_same (event.Install rows) = refl
   event_same (event.Retire loader) = λ i. option_map event.Retire (same.loaders loader i)
   event_same (event.RetireAll loaders) = λ i. Some (event.RetireAll (filter_map (λ l. same.loaders l i) loaders))
+  event_same (event.Release call_sites points) =
+      λ i. Some (event.Release (filter_map (λ c. same.call_sites c i) call_sites) (filter_map (λ p. same.switches p i) points))
 
 pub gone_still : (w : World) (entry : Entry) (n : Numbers) (m : Made) → carried_event w (with_made n m None) entry ≡ carried_event w n entry
 gone_still w entry n m = by_event (event_of w.classes.rows entry.event)
@@ -133,6 +135,7 @@ installs_told rows (event.Bind s c) links is = cc
 installs_told rows (event.Install old) links is = ap (λ (rows : List (ℕ × Link)). Some (event.Install rows)) (same_Some old links is)
 installs_told rows (event.Retire loader) links is = cc
 installs_told rows (event.RetireAll loaders) links is = cc
+installs_told rows (event.Release call_sites points) links is = cc
 
 module _ (k : Flags) (w : World) (entry : Entry) (e : Event) (named : event_of w.classes.rows entry.event ≡ Some e) (old next : State)
     (accepted : IsAccepted old next e entry.reply) (read : has_read_file e ≡ true) (f g : Fresh) (beside : IsBeside k old f.core f.numbers) where

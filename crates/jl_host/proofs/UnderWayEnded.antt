@@ -49,6 +49,7 @@ refused_is_not_done (refusal.Delegate fault) e = cc
 refused_is_not_done refusal.LoadersFull e = cc
 refused_is_not_done (refusal.Retire fault) e = cc
 refused_is_not_done (refusal.RetireAll loader fault) e = cc
+refused_is_not_done (refusal.Release fault) e = cc
 
 fault_is_not_done : (renewing : Renewing) (fault : CarryFault) (status : ℕ) (told : Told) → IsToldOf renewing fault status told → (status == done) ≡ true → ⊥
 fault_is_not_done renewing Gone status told is e = apart (ap (λ (n : ℕ). n == done) (sym is.0) ∙ e)

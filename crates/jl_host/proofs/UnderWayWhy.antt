@@ -83,6 +83,7 @@ of_call_site (event.Bind s c) gone other = refl
 of_call_site (event.Install links) gone other = absurd (other links refl)
 of_call_site (event.Retire loader) gone other = cc
 of_call_site (event.RetireAll loaders) gone other = cc
+of_call_site (event.Release call_sites points) gone other = cc
 
 no_install : (rows : List Class) (a : Accepted) (links : List (ℕ × Link)) → installs_of a ≡ None → event_of rows a ≡ Some (event.Install links) → ⊥
 no_install rows event.NewLoader links none is = cc
@@ -100,6 +101,7 @@ no_install rows (event.Bind s c) links none is = cc
 no_install rows (event.Install old) links none is = cc
 no_install rows (event.Retire loader) links none is = cc
 no_install rows (event.RetireAll loaders) links none is = cc
+no_install rows (event.Release call_sites points) links none is = cc
 
 fault_on : (rows : List Class) (a : Accepted) (e : Event) (fault : CarryFault) → installs_of a ≡ None → event_of rows a ≡ Some e → IsFaultBeside e fault
     → IsFaultOn e fault

@@ -192,6 +192,9 @@ IsRetire loader = IfOpen (IsAsked (event.Retire loader))
 abbrev pub IsRetireAll : List ℕ → Option Opened → ℕ → Told → Option Opened → Type 0
 IsRetireAll loaders = IfOpenWithMemory (IsAsked (event.RetireAll loaders))
 
+abbrev pub IsRelease : List ℕ → List ℕ → Option Opened → ℕ → Told → Option Opened → Type 0
+IsRelease call_sites points = IfOpenWithMemory (IsAsked (event.Release call_sites points))
+
 -- by what the preparation of the sites came to
 abbrev pub IsInstallOf : Result Prepared PrepareFault → Opened → ℕ → Told → Opened → Type 0
 IsInstallOf (Ok prepared) old status told new = IsAsked (event.Install prepared.rows) old status told new

@@ -74,6 +74,7 @@ status_of_refusal (refusal.Delegate fault) = 16
 status_of_refusal refusal.LoadersFull = 17
 status_of_refusal (refusal.Retire fault) = 19
 status_of_refusal (refusal.RetireAll loader fault) = 19
+status_of_refusal (refusal.Release fault) = 20
 
 abbrev pub define_number : DefineFault → ℕ
 define_number definition.UnknownLoader = 1

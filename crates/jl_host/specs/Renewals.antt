@@ -8,6 +8,7 @@ use Rattle.jl_core.specs.State.{State, world_of}
 use Rattle.jl_renewal.specs.declared.released.Released.{Released}
 use Rattle.jl_renewal.specs.Numbers.{Numbers, how_many}
 use Rattle.jl_renewal.specs.Staying.{staying_sites}
+use Rattle.jl_renewal.specs.Present.{counts_present}
 use Rattle.jl_renewal.specs.Renewal.{IsRenewal}
 use Rattle.jl_host.specs.declared.renew.Counts.{Counts}
 use Rattle.jl_host.specs.Numbers.{done, sites_full, memory, malformed, closed, open_already, too_short, gone}
@@ -42,6 +43,22 @@ no_counts = record { loaders = 0; classes = 0; sites = 0; call_sites = 0; switch
 abbrev pub IsCounts : Option Opened → ℕ → Counts → Option Opened → Type 0
 IsCounts None status counts new = (status ≡ closed) × (counts ≡ no_counts) × (new ≡ None)
 IsCounts (Some old) status counts new = (status ≡ done) × (counts ≡ counts_of (world_of old.session.core)) × (new ≡ Some old)
+
+-- how many of each are present: those that a renewal takes over where the host lets none go
+abbrev pub present_of : World → Counts
+present_of w = record {
+  loaders = (counts_present w).loaders;
+  classes = (counts_present w).classes;
+  sites = (counts_present w).sites;
+  call_sites = (counts_present w).call_sites;
+  switches = (counts_present w).switches;
+}
+
+-- the linker isn't open, or memory lacked, and all counts are 0; or these are its present ones
+abbrev pub IsCountsPresent : Option Opened → ℕ → Counts → Option Opened → Type 0
+IsCountsPresent None status counts new = (status ≡ closed) × (counts ≡ no_counts) × (new ≡ None)
+IsCountsPresent (Some old) status counts new =
+    (((status ≡ done) × (counts ≡ present_of (world_of old.session.core))) ⊎ ((status ≡ memory) × (counts ≡ no_counts))) × (new ≡ Some old)
 
 -- ---- the arrays of a renewal
 

@@ -11,6 +11,8 @@ use Rattle.jl_types.specs.declared.refusal.DefineFault.{DefineFault}
 use Rattle.jl_types.specs.declared.refusal.DefineFault.TheVariants.{MissingParent, NotAnInterface, InaccessibleParent}
 use Rattle.jl_types.specs.declared.refusal.PrepareFault.{PrepareFault}
 use Rattle.jl_types.specs.declared.refusal.PrepareFault.TheVariants as preparation
+use Rattle.jl_types.specs.declared.refusal.ReleaseFault.{ReleaseFault}
+use Rattle.jl_types.specs.declared.refusal.ReleaseFault.TheVariants as release
 use Rattle.jl_types.specs.declared.refusal.RetireFault.{RetireFault}
 use Rattle.jl_types.specs.declared.refusal.RetireFault.TheVariants as retirement
 use Rattle.jl_types.specs.declared.refusal.Refusal.{Refusal}
@@ -48,6 +50,12 @@ told_of_retirement (retirement.Inherited c) = at_place 3 c
 told_of_retirement (retirement.Recorded loader) = at_place 4 loader
 told_of_retirement (retirement.Targeted c) = at_place 5 c
 
+abbrev pub told_of_release : ReleaseFault → Told
+told_of_release (release.UnknownCallSite c) = at_place 1 c
+told_of_release (release.UnknownSwitch p) = at_place 2 p
+told_of_release (release.Invoked c) = at_place 3 c
+told_of_release (release.Guarded c) = at_place 4 c
+
 abbrev pub told_of_refusal : Refusal → Told
 told_of_refusal (refusal.Define fault) = with_fault (define_number fault)
 told_of_refusal (refusal.NotLinkable reason) = with_fault (not_linkable_number reason)
@@ -68,6 +76,7 @@ told_of_refusal refusal.Memory = nothing
 told_of_refusal refusal.LoadersFull = nothing
 told_of_refusal (refusal.Retire fault) = told_of_retirement fault
 told_of_refusal (refusal.RetireAll loader fault) = record (told_of_retirement fault) { number = loader }
+told_of_refusal (refusal.Release fault) = told_of_release fault
 
 -- by what the event came to
 abbrev pub status_of : Result Reply Refusal → ℕ

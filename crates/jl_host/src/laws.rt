@@ -71,8 +71,8 @@ pub fn awaited_classes_are_named()
 
 /// A renewal in steps is under way from its begin on: whatever the linker accepts meanwhile, as entries are taken and carried over, whatever a
 /// fill answers, and where nothing is handed over. The linker that is handed over stands beside the old one as that is then, under the numbers
-/// that were written, and has its links. So by [`linking_commutes_beside`](jl_renewal::linking_commutes_beside) links from scratch and calls are
-/// the same there.
+/// that were written, and has its links. So by [`linking_commutes_beside`](jl_renewal::linking_commutes_beside) links from scratch and calls of
+/// sites that aren't gone are the same there. A site whose call site is released isn't bound there any more.
 ///
 /// The fresh linker may have as many of each kind as the old one, so a fill is never refused for want of room: what it answers is want of
 /// memory, or that the next event is one of a call site and names what was released.

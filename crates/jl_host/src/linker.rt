@@ -7,16 +7,16 @@ ghost use Rattle.jl_core.specs.State.{events, world_of};
 ghost use Rattle.jl_host.specs.Showing.{recv_of};
 ghost use Rattle.jl_host.specs.Seats.{seen_of};
 ghost use Rattle.jl_host.specs.Linkers.{IsOpen, IsOpenWith, limits_of, IsNewLoader, IsDefine, IsDefineUpTo, IsDelegate, IsRequest, IsNewCallSite, IsSetTarget, IsNewSwitch, IsInvalidate};
-ghost use Rattle.jl_host.specs.Linkers.{IsBind, IsRetire, IsRetireAll, IsInstall, IsDropped, IsTake, IsCall, IsLinkOf, IsAnswer, kind_of, IfOpen, IsAsked};
+ghost use Rattle.jl_host.specs.Linkers.{IsBind, IsRetire, IsRetireAll, IsRelease, IsInstall, IsDropped, IsTake, IsCall, IsLinkOf, IsAnswer, kind_of, IfOpen, IsAsked};
 ghost use Rattle.jl_session.specs.Sessions.{snapshot_of};
 ghost use Rattle.jl_host.specs.Targets.{IsNewCallSiteOf, IsSetTargetOf};
 ghost use Rattle.jl_host.specs.Views.{IsInstallLinks};
 ghost use Rattle.jl_host.specs.Asking.{IsLookup, IsClassName, IsMethodName, IsMethodType, IsInvocations, IsNamed, IsAwaited, IsLastWork};
-ghost use Rattle.jl_host.specs.Renewals.{IsCounts, IsRenew, arrays_of, released_of};
+ghost use Rattle.jl_host.specs.Renewals.{IsCounts, IsCountsPresent, IsRenew, arrays_of, released_of};
 ghost use Rattle.jl_host.specs.Renewing.{IsBegunOf};
 ghost use Rattle.jl_host.specs.Linkers.{Opened as OpenedValue};
 
-use crate::arrays::{copy_sites, copy_text, loaders_of, sites_of, switches_of};
+use crate::arrays::{call_sites_of, copy_sites, copy_text, loaders_of, sites_of, switches_of};
 use crate::asked::{
     copy_awaited, copy_class_name, copy_invocations_of, copy_method_name, copy_method_type,
     copy_name, find_class,
@@ -353,6 +353,31 @@ impl Linker {
         opened.ask(alloc, Event::RetireAll(Seq::of(loaders)), told)
     }
 
+    /// The call sites and the switch points go at once: all or none. The first one that isn't there is told, or the least call site that
+    /// stays and whose target names one of them. A site that is bound to one of these call sites is gone. Where there are none nothing
+    /// changes.
+    pub fn release(
+        &mut self,
+        alloc: Global,
+        call_sites: &[u32],
+        points: &[u32],
+        told: &mut Told,
+    ) -> u32
+        ensures { IsRelease call_sites.now points.now self.old result told.new self.new }
+    {
+        let Some(opened) = &mut self.opened else {
+            return unasked(CLOSED, told);
+        };
+        let Ok(call_sites) = call_sites_of(alloc, call_sites) else {
+            return unasked(MEMORY, told);
+        };
+        let Ok(points) = switches_of(alloc, points) else {
+            return unasked(MEMORY, told);
+        };
+        let event = Event::Release(Seq::of(call_sites), Seq::of(points));
+        opened.ask(alloc, event, told)
+    }
+
     /// The sites are linked from scratch, 1 to 256 of them, and their links installed: all or none.
     pub fn install(&mut self, alloc: Global, sites: &[u32], told: &mut Told) -> u32
         ensures { IsInstall sites.now self.old result told.new self.new }
@@ -544,7 +569,7 @@ impl Linker {
         }
     }
 
-    /// How many loaders, classes, sites, call sites and switch points there ever were, retired ones among them. Takes no memory.
+    /// How many loaders, classes, sites, call sites and switch points there ever were, retired and released ones among them. Takes no memory.
     pub fn counts(&mut self, counts: &mut Counts) -> u32
         ensures { IsCounts self.old result counts.new self.new }
     {
@@ -554,6 +579,26 @@ impl Linker {
         };
         *counts = opened.counts();
         DONE
+    }
+
+    /// How many of these are present: those that a renewal would take over now, if the host let none go.
+    pub fn counts_present(&mut self, alloc: Global, counts: &mut Counts) -> u32
+        ensures { IsCountsPresent self.old result counts.new self.new }
+    {
+        let Some(opened) = &self.opened else {
+            *counts = Counts::none();
+            return CLOSED;
+        };
+        match Counts::present(alloc, opened.core()) {
+            Ok(present) => {
+                *counts = present;
+                DONE
+            }
+            Err(_) => {
+                *counts = Counts::none();
+                MEMORY
+            }
+        }
     }
 
     /// Opens the other linker over a fresh core that has what stays of this one's, but for the call sites and switch points that are

@@ -3,18 +3,18 @@
 ghost use Rattle.std.specs.Prelude.{◌≡◌, ◌<◌, ◌≤◌, ◌^◌, nat_le, true, length, IfOk};
 ghost use Rattle.jl_core.specs.State.{world_of};
 ghost use Rattle.jl_host.specs.Renewals as renewals;
-ghost use Rattle.jl_host.specs.Renewals.{counts_of, no_counts, arrays_of, at_front, with_numbers};
+ghost use Rattle.jl_host.specs.Renewals.{counts_of, present_of, no_counts, arrays_of, at_front, with_numbers};
 
 use crate::arrays::{call_sites_of, switches_of};
 use jl_core::Core;
 use jl_names::Seq;
-use jl_renewal::{Released, Renumbering};
+use jl_renewal::{Released, Renumbering, counts_present};
 use std::alloc::{AllocError, Global};
 
 /// The new number of what a renewal doesn't take over.
 pub const GONE: u32 = 0xffff_ffff;
 
-/// How many there ever were of each, retired ones among them.
+/// How many there ever were of each, retired and released ones among them; or how many of them are present.
 #[repr(C)]
 #[derive(Clone, Copy, Debug, PartialEq, Eq)]
 pub struct Counts {
@@ -52,6 +52,20 @@ impl Counts {
             call_sites: world.sites.few_call_sites() as u32,
             switches: world.sites.few_switches() as u32,
         }
+    }
+
+    /// How many of the core's are present. Want of memory is an error.
+    pub(crate) fn present(alloc: Global, core: &Core) -> Result<Counts, AllocError>
+        ensures { IfOk result (λ counts. counts ≡ present_of (world_of core.now)) }
+    {
+        let present = counts_present(alloc, core.world())?;
+        Ok(Counts {
+            loaders: present.loaders,
+            classes: present.classes,
+            sites: present.sites,
+            call_sites: present.call_sites,
+            switches: present.switches,
+        })
     }
 
     /// Whether arrays of these lengths have a place for each.

@@ -9,8 +9,8 @@ use jl_code::CodeFault;
 use jl_names::Name;
 use jl_pool::PoolFault;
 use jl_types::{
-    CallSiteFault, DefineFault, DelegateFault, Made, NotLinkable, PrepareFault, Refusal, Reply,
-    RetireFault,
+    CallSiteFault, DefineFault, DelegateFault, Made, NotLinkable, PrepareFault, Refusal,
+    ReleaseFault, Reply, RetireFault,
 };
 
 /// The status of a call that did what was asked.
@@ -146,6 +146,7 @@ pub(crate) fn status_of_refusal(refusal: &Refusal) -> u32
         Refusal::LoadersFull => 17,
         Refusal::Retire(_) => 19,
         Refusal::RetireAll { .. } => 19,
+        Refusal::Release(_) => 20,
     }
 }
 
@@ -207,6 +208,18 @@ fn told_of_retirement(fault: &RetireFault) -> Told
     }
 }
 
+/// What is told of call sites and switch points that aren't let go.
+fn told_of_release(fault: &ReleaseFault) -> Told
+    ensures { result ≡ telling.told_of_release fault.now }
+{
+    match fault {
+        ReleaseFault::UnknownCallSite(call_site) => Told::at_place(1, call_site.number()),
+        ReleaseFault::UnknownSwitch(point) => Told::at_place(2, point.number()),
+        ReleaseFault::Invoked(call_site) => Told::at_place(3, call_site.number()),
+        ReleaseFault::Guarded(call_site) => Told::at_place(4, call_site.number()),
+    }
+}
+
 /// What is told of a refusal.
 fn told_of_refusal(refusal: &Refusal) -> Told
     ensures { result ≡ telling.told_of_refusal refusal.now }
@@ -237,6 +250,7 @@ fn told_of_refusal(refusal: &Refusal) -> Told
             number: loader.number(),
             ..told_of_retirement(fault)
         },
+        Refusal::Release(fault) => told_of_release(fault),
     }
 }
 

@@ -22,12 +22,14 @@ use Rattle.jl_types.specs.declared.refusal.PrepareFault.{PrepareFault}
 use Rattle.jl_types.specs.declared.refusal.PrepareFault.TheVariants as prepare
 use Rattle.jl_types.specs.declared.refusal.Refusal.{Refusal}
 use Rattle.jl_types.specs.declared.refusal.Refusal.TheVariants as refusal
+use Rattle.jl_types.specs.declared.refusal.ReleaseFault.{ReleaseFault}
+use Rattle.jl_types.specs.declared.refusal.ReleaseFault.TheVariants as release
 use Rattle.jl_types.specs.declared.refusal.RetireFault.{RetireFault}
 use Rattle.jl_types.specs.declared.refusal.RetireFault.TheVariants as retire
 use Rattle.jl_json.specs.CallAnswers.{unlinked_data, answer_data}
 use Rattle.jl_json.specs.ClassAnswers.{number_data}
 use Rattle.jl_json.specs.EventRefusals.{call_site_refusal_data, define_refusal_data, event_refusal_data, prepare_refusal_data}
-use Rattle.jl_json.specs.EventRefusals.{retire_members, retire_refusal_data, retire_all_refusal_data}
+use Rattle.jl_json.specs.EventRefusals.{retire_members, retire_refusal_data, retire_all_refusal_data, release_refusal_data}
 use Rattle.jl_json.specs.LinkAnswers.{outcome_data, table_row_data, link_data}
 use Rattle.jl_json.specs.LinkAnswers.{site_link_data, site_links_data, links_data, prepared_data}
 use Rattle.jl_json.specs.Refusals as plain
@@ -160,6 +162,13 @@ module _ (text_of : List ℕ → List ℕ) where
   retire_all_floats loader (retire.Recorded recorder) = refl
   retire_all_floats loader (retire.Targeted call_site) = refl
 
+  release_floats : (fault : ReleaseFault) → has_float (release_refusal_data fault) ≡ false
+  unfolding release_refusal_data
+  release_floats (release.UnknownCallSite call_site) = refl
+  release_floats (release.UnknownSwitch point) = refl
+  release_floats (release.Invoked call_site) = refl
+  release_floats (release.Guarded call_site) = refl
+
   pub event_refusal_floats : (r : Refusal) → has_float (event_refusal_data text_of r) ≡ false
   unfolding event_refusal_data
   event_refusal_floats (refusal.Define fault) = define_floats fault
@@ -181,6 +190,7 @@ module _ (text_of : List ℕ → List ℕ) where
   event_refusal_floats refusal.LoadersFull = refl
   event_refusal_floats (refusal.Retire fault) = retire_floats fault
   event_refusal_floats (refusal.RetireAll loader fault) = retire_all_floats loader fault
+  event_refusal_floats (refusal.Release fault) = release_floats fault
 
 pub prepare_refusal_floats : (fault : PrepareFault) → has_float (prepare_refusal_data fault) ≡ false
 unfolding prepare_refusal_data

@@ -12,7 +12,7 @@ use Rattle.serde_json.specs.Data.{Data}
 use Rattle.serde_json.specs.View.{items_of}
 use Rattle.jl_types.specs.declared.answer.Recv.{Recv}
 use Rattle.jl_types.specs.declared.answer.Recv.TheVariants.{Null, Of}
-use Rattle.jl_types.specs.declared.event.EventOf.TheVariants.{NewLoader, Define, Delegate, Request, Install, Retire, RetireAll}
+use Rattle.jl_types.specs.declared.event.EventOf.TheVariants.{NewLoader, Define, Delegate, Request, Install, Retire, RetireAll, Release}
 use Rattle.jl_types.specs.declared.event.EventOf.TheVariants.{NewCallSite, SetTarget, NewSwitch, Invalidate, Bind}
 use Rattle.jl_types.specs.declared.target.CallSiteKind.{CallSiteKind}
 use Rattle.jl_types.specs.declared.target.CallSiteKind.TheVariants.{Constant, Mutable, Volatile}
@@ -177,6 +177,7 @@ event_again written (Request place) h = ap (option_map Apply)
 event_again written (Install batch) h = ap (option_map Apply) (ap (option_map Install) (within (2 ^ 32) batch h))
 event_again written (Retire loader) h = ap (option_map Apply) (ap (option_map Retire) (within (2 ^ 32) loader h))
 event_again written (RetireAll loaders) h = absurd h
+event_again written (Release call_sites points) h = absurd h
 event_again written (NewCallSite kind ty target) h = ap (option_map Apply)
     (ap (kind_next written target) (kind_again kind)
     ∙ ap (type_next kind target) h.0

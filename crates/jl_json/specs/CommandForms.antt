@@ -8,7 +8,7 @@ use Rattle.hex.specs.Hex.{encode_lower, IsBytes}
 use Rattle.serde_json.specs.Data.{Data, null, string, object, no_members, member}
 use Rattle.jl_types.specs.declared.answer.Recv.{Recv}
 use Rattle.jl_types.specs.declared.answer.Recv.TheVariants.{Null, Of}
-use Rattle.jl_types.specs.declared.event.EventOf.TheVariants.{NewLoader, Define, Delegate, Request, Install, Retire, RetireAll}
+use Rattle.jl_types.specs.declared.event.EventOf.TheVariants.{NewLoader, Define, Delegate, Request, Install, Retire, RetireAll, Release}
 use Rattle.jl_types.specs.declared.event.EventOf.TheVariants.{NewCallSite, SetTarget, NewSwitch, Invalidate, Bind}
 use Rattle.jl_types.specs.declared.ids.MethodId.{MethodId}
 use Rattle.jl_types.specs.declared.ids.Place.{Place}
@@ -69,6 +69,7 @@ event_data written (Retire loader) =
     object (member (codes "do") (string (codes "retire"))
     (member (codes "loader") (number_data loader) no_members))
 event_data written (RetireAll loaders) = null
+event_data written (Release call_sites points) = null
 event_data written (NewCallSite kind ty target) =
     object (member (codes "do") (string (codes "callsite"))
     (member (codes "kind") (string (kind_name kind))
@@ -125,6 +126,7 @@ IsEvent written (Request place) = IsPlace place
 IsEvent written (Install batch) = batch < 2 ^ 32
 IsEvent written (Retire loader) = loader < 2 ^ 32
 IsEvent written (RetireAll loaders) = ⊥
+IsEvent written (Release call_sites points) = ⊥
 IsEvent written (NewCallSite kind ty target) =
     (name_in written ≡ Some ty) × IsMethodDescriptor ty × IsTarget target
 IsEvent written (SetTarget call_site target) = (call_site < 2 ^ 32) × IsTarget target

@@ -14,6 +14,8 @@ use Rattle.jl_types.specs.declared.refusal.PrepareFault.{PrepareFault}
 use Rattle.jl_types.specs.declared.refusal.PrepareFault.TheVariants as prepare
 use Rattle.jl_types.specs.declared.refusal.Refusal.{Refusal}
 use Rattle.jl_types.specs.declared.refusal.Refusal.TheVariants as refusal
+use Rattle.jl_types.specs.declared.refusal.ReleaseFault.{ReleaseFault}
+use Rattle.jl_types.specs.declared.refusal.ReleaseFault.TheVariants as release
 use Rattle.jl_types.specs.declared.refusal.RetireFault.{RetireFault}
 use Rattle.jl_types.specs.declared.refusal.RetireFault.TheVariants as retire
 use Rattle.jl_json.specs.ClassAnswers.{number_data, name_data}
@@ -42,6 +44,11 @@ refused_bound fault call_site =
     object (member (codes "callsite") (number_data call_site)
     (member (codes "refused") (string fault) no_members))
 
+abbrev pub refused_switch : List ℕ → ℕ → Data
+refused_switch fault point =
+    object (member (codes "refused") (string fault)
+    (member (codes "switch") (number_data point) no_members))
+
 -- ---- faults within events
 
 unfoldable pub retire_members : RetireFault → Members
@@ -63,6 +70,12 @@ retire_refusal_data fault = object (retire_members fault)
 -- of several loaders that were to go at once, the one that can't is told, too
 abbrev pub retire_all_refusal_data : ℕ → RetireFault → Data
 retire_all_refusal_data loader fault = object (put (codes "retire") (number_data loader) (retire_members fault))
+
+unfoldable pub release_refusal_data : ReleaseFault → Data
+release_refusal_data (release.UnknownCallSite call_site) = refused_bound (codes "Release.UnknownCallSite") call_site
+release_refusal_data (release.UnknownSwitch point) = refused_switch (codes "Release.UnknownSwitch") point
+release_refusal_data (release.Invoked call_site) = refused_bound (codes "Release.Invoked") call_site
+release_refusal_data (release.Guarded call_site) = refused_bound (codes "Release.Guarded") call_site
 
 abbrev pub delegate_name : DelegateFault → List ℕ
 delegate_name delegate.UnknownLoader = codes "Delegate.UnknownLoader"
@@ -126,6 +139,7 @@ module _ (text_of : List ℕ → List ℕ) where
   event_refusal_data refusal.LoadersFull = refused (codes "LoadersFull")
   event_refusal_data (refusal.Retire fault) = retire_refusal_data fault
   event_refusal_data (refusal.RetireAll loader fault) = retire_all_refusal_data loader fault
+  event_refusal_data (refusal.Release fault) = release_refusal_data fault
 
 -- the answer, with each name spelled
 abbrev pub IsRefusalData : Refusal → Data → Type 0

@@ -4,7 +4,8 @@ ghost use Rattle.std.specs.Prelude.{◌≡◌, codes, IfOk};
 ghost use Rattle.serde_json.specs.Data.{member, no_members, object, string, put as with_member};
 ghost use Rattle.serde_json.specs.View.{view, members_view};
 ghost use Rattle.jl_json.specs.ForProofs.NameReading.{name_text};
-ghost use Rattle.jl_json.specs.EventRefusals.{refused, refused_at, refused_bound, refused_for, refused_name, delegate_name, call_site_refusal_data};
+ghost use Rattle.jl_json.specs.EventRefusals.{refused, refused_at, refused_bound, refused_for, refused_name, refused_switch};
+ghost use Rattle.jl_json.specs.EventRefusals.{delegate_name, call_site_refusal_data, release_refusal_data};
 ghost use Rattle.jl_json.specs.EventRefusals.{not_linkable_name, define_refusal_data, retire_members, retire_refusal_data, retire_all_refusal_data};
 ghost use Rattle.jl_json.specs.EventRefusals.{event_refusal_data, IsRefusalData};
 ghost use Rattle.jl_json.specs.EventRefusals.{prepare_refusal_data};
@@ -15,7 +16,7 @@ use crate::text::text_of;
 use jl_names::Name;
 use jl_types::{
     CallSiteFault, CallSiteId, DefineFault, DelegateFault, Link, LoaderId, NotLinkable,
-    PrepareFault, Refusal, RetireFault, SiteNo,
+    PrepareFault, Refusal, ReleaseFault, RetireFault, SiteNo, SwitchId,
 };
 use serde_json::{Map, Value, put};
 use std::alloc::{AllocError, Global};
@@ -93,6 +94,13 @@ fn refused_bound_value(alloc: Global, fault: &str, bound: CallSiteId) -> Result<
     ensures { IfOk result (λ v. view v ≡ refused_bound fault.now bound) }
 {
     refused_about_value(alloc, fault, "callsite", Value::from(bound.number()))
+}
+
+/// A fault at a switch point.
+fn refused_switch_value(alloc: Global, fault: &str, point: SwitchId) -> Result<Value, AllocError>
+    ensures { IfOk result (λ v. view v ≡ refused_switch fault.now point) }
+{
+    refused_about_value(alloc, fault, "switch", Value::from(point.number()))
 }
 
 /// A fault about a name.
@@ -212,9 +220,26 @@ fn retire_all_refusal_value(
     Ok(Value::Object(members))
 }
 
+/// The answer that call sites and switch points aren't let go.
+#[tactic(auto, unfolding(crate::specs::EventRefusals::release_refusal_data))]
+fn release_refusal_value(alloc: Global, fault: ReleaseFault) -> Result<Value, AllocError>
+    ensures { IfOk result (λ v. view v ≡ release_refusal_data fault) }
+{
+    match fault {
+        ReleaseFault::UnknownCallSite(site) => {
+            refused_bound_value(alloc, "Release.UnknownCallSite", site)
+        }
+        ReleaseFault::UnknownSwitch(point) => {
+            refused_switch_value(alloc, "Release.UnknownSwitch", point)
+        }
+        ReleaseFault::Invoked(site) => refused_bound_value(alloc, "Release.Invoked", site),
+        ReleaseFault::Guarded(site) => refused_bound_value(alloc, "Release.Guarded", site),
+    }
+}
+
 /// The answer that an event is refused: the name of the fault, after the name of the fault that it
-/// is within, and the name, class, loader, call site, site or link that it is about; where several
-/// loaders were to go at once, the one that can't, too.
+/// is within, and the name, class, loader, call site, switch point, site or link that it is about;
+/// where several loaders were to go at once, the one that can't, too.
 ///
 /// # Errors
 ///
@@ -250,6 +275,7 @@ fn refusal_value(alloc: Global, refusal: &Refusal) -> Result<Value, AllocError>
         Refusal::LoadersFull => refused_value(alloc, "LoadersFull"),
         Refusal::Retire(fault) => retire_refusal_value(alloc, *fault),
         Refusal::RetireAll { loader, fault } => retire_all_refusal_value(alloc, *loader, *fault),
+        Refusal::Release(fault) => release_refusal_value(alloc, *fault),
     }
 }
 

@@ -62,6 +62,7 @@ module _ (limits : Limits) (w : World) (good : IsGood w.classes) (closed : IsClo
       closed_retired w.classes good.ordered closed (loader ∷ []) (may_retire w (loader ∷ []) (free_loader limits w loader accepted))
   closed_after (event.RetireAll loaders) accepted =
       closed_retired w.classes good.ordered closed loaders (may_retire w loaders (free_loaders limits w loaders accepted))
+  closed_after (event.Release call_sites points) accepted = closed
 
 at_first : IsClosed nothing_yet.classes
 at_first = record {

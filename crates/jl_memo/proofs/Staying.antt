@@ -22,7 +22,8 @@ use Rattle.jl_types.specs.Values.World.{World, Class, Classes}
 use Rattle.jl_types.specs.Values.Members.{class_test, is_retired, is_present, is_concrete, is_concrete_row, is_private}
 use Rattle.jl_types.specs.Linkage.Access.{nest_host, host_by}
 use Rattle.jl_types.specs.Linkage.Stages.{Selector, ByVirtual, ByInterface, BySpecial, ResolvedCall, Stage, Waits, Fails, Calls, Selects}
-use Rattle.jl_types.specs.Linkage.Stages.{stage, stage_at, stage_of, by_operand, by_method, bound_to, bound_method, invocation_at}
+use Rattle.jl_types.specs.Linkage.Stages.{stage, stage_at, stage_of, by_operand, by_method, by_binding, bound_to, invocation_at}
+use Rattle.jl_types.specs.Linkage.Targets.{method_of}
 use Rattle.jl_types.specs.Linkage.Calls.{answered, fits_named, answer_of, dispatch}
 use Rattle.jl_types.specs.Events.Event.{Event}
 use Rattle.jl_types.specs.Events.Retirement.{is_listed, retired}
@@ -100,6 +101,7 @@ places_stay w (event.Bind n c) s place is = is
 places_stay w (event.Install rows) s place is = is
 places_stay w (event.Retire loader) s place is = is
 places_stay w (event.RetireAll loaders) s place is = is
+places_stay w (event.Release call_sites points) s place is = is
 
 bindings_stay : (w : World) (e : Event) (s c : ℕ) → bound_to w s ≡ Some c → bound_to (step w e) s ≡ Some c
 bindings_stay w event.NewLoader s c is = is
@@ -114,6 +116,7 @@ bindings_stay w (event.Bind n d) s c is = bound_before w.bindings (n, d) s c is
 bindings_stay w (event.Install rows) s c is = is
 bindings_stay w (event.Retire loader) s c is = is
 bindings_stay w (event.RetireAll loaders) s c is = is
+bindings_stay w (event.Release call_sites points) s c is = is
 
 not_gone : (w : World) (loaders : List ℕ) (loader : ℕ) → is_retired (retired w.classes loaders) loader ≡ false → is_retired w.classes loader ≡ false
 not_gone w loaders loader is = first (is_retired w.classes loader) (is_listed loaders loader) (sym (retired_after w.classes loaders loader) ∙ is)
@@ -135,6 +138,7 @@ alive_before w (event.Bind s c) loader is = is
 alive_before w (event.Install rows) loader is = is
 alive_before w (event.Retire l) loader is = not_gone w (l ∷ []) loader is
 alive_before w (event.RetireAll loaders) loader is = not_gone w loaders loader is
+alive_before w (event.Release call_sites points) loader is = is
 
 itself : (w : World) → StaysOn w w
 itself w = record {
@@ -194,14 +198,18 @@ no_target_in cs (Calls m) c = refl
 no_target_in cs (Selects i) c = no_target_of cs i i.selector c
 
 module _ (w : World) (s c : ℕ) where
-  no_call_site : (o : Option MethodId) → selects (by_method o) ≡ true → ⊥
+  no_method : (o : Option MethodId) → selects (by_method o) ≡ true → ⊥
+  no_method None e = cc
+  no_method (Some m) e = cc
+
+  no_call_site : (o : Option ℕ) → selects (by_binding w.sites o) ≡ true → ⊥
   no_call_site None e = cc
-  no_call_site (Some m) e = cc
+  no_call_site (Some d) e = no_method (method_of w.sites d) e
 
   no_target_operand : (d : ℕ) (kind : Kind) (o : Operand (List ℕ)) → selects (by_operand w s d kind o) ≡ true
       → has_key (of_operand w s d kind o) (key.Target c) ≡ false
   no_target_operand d kind (operand.Method ref) e = no_target_in w.classes (by_operand w s d kind (operand.Method ref)) c
-  no_target_operand d kind (operand.CallSite specifier) e = absurd (no_call_site (bound_method w s) e)
+  no_target_operand d kind (operand.CallSite specifier) e = absurd (no_call_site (bound_to w s) e)
 
   no_target_invocation : (d : ℕ) (o : Option Site) → selects (stage_of w s d o) ≡ true → has_key (of_invocation w s d o) (key.Target c) ≡ false
   no_target_invocation d None e = cc

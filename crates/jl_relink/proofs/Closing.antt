@@ -14,12 +14,13 @@ use Rattle.jl_types.specs.declared.event.Made.{Made}
 use Rattle.jl_types.specs.declared.ids.Place.{Place}
 use Rattle.jl_types.specs.declared.refusal.DelegateFault.TheVariants.{UnknownLoader}
 use Rattle.jl_types.specs.declared.refusal.Refusal.{Refusal}
-use Rattle.jl_types.specs.declared.refusal.Refusal.TheVariants.{Delegate, Retire}
+use Rattle.jl_types.specs.declared.refusal.Refusal.TheVariants.{Delegate, Retire, Release}
 use Rattle.jl_types.specs.Values.World.{World, Classes}
 use Rattle.jl_types.specs.Values.Members.{is_retired, is_present, is_concrete, lookup, numbers}
 use Rattle.jl_types.specs.Values.Ancestry.{AreOrdered, is_ancestor, receivers}
 use Rattle.jl_types.specs.Events.Definitions.{is_unknown, with_record, delegate_fault, delegated}
 use Rattle.jl_types.specs.Events.Retirement.{is_of_any, retire_fault, retired, losing_receivers, retires_site}
+use Rattle.jl_types.specs.Events.Release.{release_fault}
 use Rattle.jl_types.specs.Events.Verdict.{retire_all_fault, unless, verdict, step}
 use Rattle.jl_types.specs.declared.key.Key.TheVariants as key
 use Rattle.jl_types.specs.Events.Footprints.{same_key, has_key, retires}
@@ -28,6 +29,7 @@ use Rattle.jl_types.proofs.Bools.{any-filter, any-filter-at, any-map, any-range-
 use Rattle.jl_types.proofs.Firsts.{first_none, test_none}
 use Rattle.jl_types.proofs.Grown.{above}
 use Rattle.jl_types.proofs.Orders.{IsGood, defined_good}
+use Rattle.jl_types.proofs.Releasing.{MayRelease, may_release}
 use Rattle.jl_types.proofs.Retiring.{AreFree, one_free, all_free, may_retire, present_after, receivers_left}
 use Rattle.jl_hierarchy.specs.Constancy.{AreInOrder, IsClosed}
 use Rattle.jl_hierarchy.proofs.Closed.{closed_with_record, closed_with_loader, closed_defined, closed_retired, present_still}
@@ -46,6 +48,12 @@ no_refusal (Some r) m h = cc
 -- nothing speaks against a retirement that is accepted
 pub free_loader : (limits : Limits) (w : World) (loader : ℕ) → IsOk (verdict limits w (event.Retire loader)) → AreFree w (loader ∷ [])
 free_loader limits w loader accepted = one_free w loader (no_fault Retire (retire_fault w (loader ∷ []) loader) _ accepted)
+
+-- what an accepted release says
+pub may_release_then : (limits : Limits) (w : World) (call_sites points : List ℕ) → IsOk (verdict limits w (event.Release call_sites points))
+    → MayRelease w.sites call_sites points
+may_release_then limits w call_sites points accepted =
+    may_release w.sites call_sites points (no_fault Release (release_fault w.sites call_sites points) _ accepted)
 
 pub free_loaders : (limits : Limits) (w : World) (loaders : List ℕ) → IsOk (verdict limits w (event.RetireAll loaders)) → AreFree w loaders
 free_loaders limits w loaders accepted = all_free w loaders (no_refusal (retire_all_fault w loaders) _ accepted)
@@ -89,6 +97,7 @@ module _ (w : World) (order : AreInOrder w.classes) where
   ordered_after (event.Install rows) = order.ordered
   ordered_after (event.Retire loader) = order.ordered
   ordered_after (event.RetireAll loaders) = order.ordered
+  ordered_after (event.Release call_sites points) = order.ordered
 
   pub closed_after : (limits : Limits) (e : Event) → IsOk (verdict limits w e) → IsClosed (step w e).classes
   closed_after limits event.NewLoader accepted = closed_with_loader w.classes order.closed
@@ -106,6 +115,7 @@ module _ (w : World) (order : AreInOrder w.classes) where
       closed_retired w.classes order.ordered order.closed (loader ∷ []) (may_retire w (loader ∷ []) (free_loader limits w loader accepted))
   closed_after limits (event.RetireAll loaders) accepted =
       closed_retired w.classes order.ordered order.closed loaders (may_retire w loaders (free_loaders limits w loaders accepted))
+  closed_after limits (event.Release call_sites points) accepted = order.closed
 
   present_of_others : (loaders : List ℕ) (s : ℕ) (place : Place) → slice_get w.places s ≡ Some place → retires_site w loaders s ≡ false
       → is_present w.classes place.class ≡ true → is_present (retired w.classes loaders) place.class ≡ true
@@ -128,6 +138,7 @@ module _ (w : World) (order : AreInOrder w.classes) where
   still_present (event.Install rows) s place at left is = is
   still_present (event.Retire loader) s place at left is = present_of_others (loader ∷ []) s place at left is
   still_present (event.RetireAll loaders) s place at left is = present_of_others loaders s place at left is
+  still_present (event.Release call_sites points) s place at left is = is
 
 -- ---- receivers
 

@@ -92,6 +92,13 @@ of_points (p ∷ ps) k h = elim (or_cases (same_key (key.Valid p) k) (has_key (m
   | inr more ↦ of_points ps k more
 ]
 
+of_targets : (cs : List ℕ) (k : Key) → has_key (map key.Target cs) k ≡ true → IsOther k
+of_targets [] k h = cc
+of_targets (c ∷ cs) k h = elim (or_cases (same_key (key.Target c) k) (has_key (map key.Target cs) k) h) [
+  | inl is ↦ (λ d e. let same = same_key_is (key.Target c) k is in cc)
+  | inr more ↦ of_targets cs k more
+]
+
 pub takes_one_evaluation : (w : World) (e : Event) (s : ℕ) → changes_receivers e ≡ false → touches w e s ≡ true → most_for (step w e) s ≡ 1
 takes_one_evaluation w event.NewLoader s plain h = absurd (no_keys (footprint w s) h)
 takes_one_evaluation w (event.Define loader file) s plain h = cc
@@ -115,3 +122,6 @@ takes_one_evaluation w (event.Bind n c) s plain h = absurd (no_keys (footprint w
 takes_one_evaluation w (event.Install rows) s plain h = absurd (no_keys (footprint w s) h)
 takes_one_evaluation w (event.Retire loader) s plain h = cc
 takes_one_evaluation w (event.RetireAll loaders) s plain h = cc
+takes_one_evaluation w (event.Release call_sites points) s plain h =
+    let r = met_key (footprint w s) (map key.Target call_sites) h in
+    takes_one w (step w (event.Release call_sites points)).sites s r.0 (of_targets call_sites r.0 r.2) r.1

@@ -9,15 +9,17 @@ use Rattle.jl_class.specs.Flags.{extends_object}
 use Rattle.jl_types.specs.Events.Event.{Event}
 use Rattle.jl_types.specs.declared.event.EventOf.TheVariants as event
 use Rattle.jl_types.specs.declared.refusal.Refusal.TheVariants.{Define, CallSite}
-use Rattle.jl_types.specs.Values.World.{World, nothing_yet}
+use Rattle.jl_types.specs.Values.World.{World, nothing_yet, unreleased}
 use Rattle.jl_types.specs.Values.Members.{is_present, lookup}
 use Rattle.jl_types.specs.Events.Definitions.{define_fault, with_record, delegated}
 use Rattle.jl_types.specs.Events.Retirement.{MayRetire, retired}
+use Rattle.jl_types.specs.Events.Release.{without}
 use Rattle.jl_types.specs.Events.Verdict.{new_call_site_fault, set_target_fault, verdict, step, with_classes}
 use Rattle.jl_types.specs.Events.History.{world_after}
 use Rattle.jl_types.proofs.Bools.{first_test, second_test}
 use Rattle.jl_types.proofs.Places.{world_more}
 use Rattle.jl_types.proofs.Orders.{IsGood, looked_up, recorded_below, defined_good, with_loader, retired_good}
+use Rattle.jl_types.proofs.Releasing.{length_without}
 use Rattle.jl_types.proofs.Retiring.{may_retire}
 use Rattle.jl_hierarchy.specs.Constancy.{has_object, IsClosed, AreInOrder, MayDefine}
 use Rattle.jl_hierarchy.proofs.Finals.{still_extended}
@@ -26,7 +28,7 @@ use Rattle.jl_hierarchy.proofs.LoaderGone.{first_retired}
 use Rattle.jl_hierarchy.proofs.Objects.{first_with_record, first_with_loader, first_defined}
 use Rattle.jl_callsites.specs.Known.{all_known}
 use Rattle.jl_callsites.proofs.Accepted.{site_points, target_points}
-use Rattle.jl_callsites.proofs.Known.{one_more_known, retargeted_known, one_switch_more}
+use Rattle.jl_callsites.proofs.Known.{one_more_known, retargeted_known, released_known, one_switch_more}
 use Rattle.jl_types.specs.declared.link.Link.{Link}
 use Rattle.jl_types.specs.Events.History.{Settled}
 use Rattle.jl_types.proofs.Installed.{settled_now}
@@ -116,7 +118,7 @@ module _ (limits : Limits) (w : World) (order : IsInOrder w) where
     classes = order.classes;
     points =
         retargeted_known (length w.sites.switches) w.sites.call_sites c t order.points
-        (target_points w c t (slice_get w.sites.call_sites c) (no_fault CallSite (set_target_fault w c (slice_get w.sites.call_sites c) t) _ accepted));
+        (target_points w c t (unreleased w.sites.call_sites c) (no_fault CallSite (set_target_fault w c (unreleased w.sites.call_sites c) t) _ accepted));
   }
   in_order_after event.NewSwitch accepted read = record { classes = order.classes; points = one_switch_more w.sites order.points }
   in_order_after (event.Invalidate points) accepted read = record {
@@ -127,6 +129,12 @@ module _ (limits : Limits) (w : World) (order : IsInOrder w) where
   in_order_after (event.Install rows) accepted read = record { classes = order.classes; points = order.points }
   in_order_after (event.Retire loader) accepted read = in_order_retired (loader ∷ []) (may_retire w (loader ∷ []) (free_loader limits w loader accepted))
   in_order_after (event.RetireAll loaders) accepted read = in_order_retired loaders (may_retire w loaders (free_loaders limits w loaders accepted))
+  in_order_after (event.Release call_sites points) accepted read = record {
+    classes = order.classes;
+    points =
+        ap (λ n. all_known n 0 (without w.sites.call_sites call_sites)) (length_without points w.sites.switches)
+        ∙ released_known (length w.sites.switches) w.sites.call_sites call_sites order.points;
+  }
 
 -- ---- all events
 

@@ -1,10 +1,9 @@
 -- An event that changes nothing of what a site's link rests on leaves the link, and what it rests on.
-use Rattle.std.specs.Prelude.{◌≡◌, ℕ, ◌<◌, ◌==◌, ◌&&◌, ◌||◌, Bool, true, false, cond, List, [], ◌∷◌, ◌++◌, length, map, slice_get, Option, Some, None}
+use Rattle.std.specs.Prelude.{◌≡◌, ℕ, ◌<◌, ◌==◌, ◌&&◌, ◌||◌, Bool, true, false, cond, List, [], ◌∷◌, ◌++◌, length, map, Option, Some, None}
 use Rattle.std.specs.Prelude.{option_and_then, Ok, if◌then◌else◌, IsOk}
 use Rattle.std.proofs.Common.{refl, ap, sym, ◌∙◌}
 use Rattle.std.proofs.lemmas.Bool.{both_ways}
 use Rattle.std.proofs.lemmas.Cmp.{nat_eq_equiv}
-use Rattle.std.proofs.lemmas.Option.{slice_get_within}
 use Rattle.jl_types.specs.declared.limits.Limits.{Limits}
 use Rattle.jl_class.specs.Class.{ClassFile}
 use Rattle.jl_class.specs.Flags.{object}
@@ -12,7 +11,7 @@ use Rattle.jl_types.specs.declared.ids.MethodId.{MethodId}
 use Rattle.jl_types.specs.Events.Event.{Event}
 use Rattle.jl_types.specs.declared.event.EventOf.TheVariants as event
 use Rattle.jl_types.specs.declared.link.Link.{Link}
-use Rattle.jl_types.specs.Values.World.{Classes, CallSite, Sites, World}
+use Rattle.jl_types.specs.Values.World.{Classes, CallSite, Sites, World, unreleased}
 use Rattle.jl_types.specs.Values.Members.{lookup, is_concrete}
 use Rattle.jl_types.specs.Values.Ancestry.{ancestors, is_ancestor, receivers}
 use Rattle.jl_types.specs.Events.Definitions.{defined}
@@ -22,6 +21,7 @@ use Rattle.jl_types.specs.Events.Verdict.{verdict, step}
 use Rattle.jl_types.proofs.Bools.{any-map}
 use Rattle.jl_types.proofs.Grown.{among_ancestors, receivers_after}
 use Rattle.jl_types.proofs.Orders.{IsGood, defined_good}
+use Rattle.jl_types.proofs.Releasing.{unreleased_within}
 use Rattle.jl_hierarchy.proofs.Objects.{is_there}
 use Rattle.jl_resolve.specs.Constancy.{RecordsObject}
 use Rattle.jl_resolve.proofs.Constancy.{settled_stays}
@@ -37,6 +37,8 @@ use Rattle.jl_relink.proofs.Closing.{ordered_after, closed_after, still_present,
 use Rattle.jl_relink.proofs.Staying.{bound_before, requested_stays}
 use Rattle.jl_relink.proofs.WayKeys.{rests_on_target}
 use Rattle.jl_relink.proofs.Paths.{RunsOn, site_runs_on, target_runs_on, switch_runs_on, invalid_runs_on}
+use Rattle.jl_relink.proofs.Releases.{released_runs_on}
+use Rattle.jl_relink.proofs.Closing.{may_release_then}
 use Rattle.jl_relink.proofs.Untouched.{IsLater, apart, site_keeps}
 
 -- ---- classes
@@ -58,12 +60,12 @@ module _ (w : World) (order : IsInOrder w) where
   -- ---- call sites
 
   there : (c : ℕ) (m : MethodId) → method_of w.sites c ≡ Some m → c < length w.sites.call_sites
-  there c m = by_site (slice_get w.sites.call_sites c) refl
+  there c m = by_site (unreleased w.sites.call_sites c) refl
     where
-      by_site : (o : Option CallSite) → slice_get w.sites.call_sites c ≡ o → option_and_then (λ site. evaluated w.sites c site.target) o ≡ Some m
+      by_site : (o : Option CallSite) → unreleased w.sites.call_sites c ≡ o → option_and_then (λ site. evaluated w.sites c site.target) o ≡ Some m
           → c < length w.sites.call_sites
       by_site None is e = cc
-      by_site (Some site) is e = slice_get_within w.sites.call_sites c site is
+      by_site (Some site) is e = unreleased_within w.sites.call_sites c site is
 
   abbrev Runs : Sites → ℕ → MethodId → Type 0
   Runs new c m = (method_of new c ≡ Some m) × (of_call_site new c ≡ of_call_site w.sites c)
@@ -237,6 +239,18 @@ module _ (w : World) (order : IsInOrder w) where
         }) (λ c h. receivers_left_stay w.classes good.ordered loaders c (apart (footprint w s) (keys w (event.RetireAll loaders)) (key.Receivers c) none h))
         l e in
         record { link = one.0; rests_on = one.1 }
+    untouched limits (event.Release call_sites points) accepted left none =
+        of_rows (step w (event.Release call_sites points)) (record {
+          good = good;
+          stays = step_stays w good (event.Release call_sites points);
+          constant = constant (event.Release call_sites points) (closed_after w order.classes limits (event.Release call_sites points) accepted);
+          present = λ place at is. still_present w order.classes (event.Release call_sites points) s place at left is;
+          places = λ p e. e;
+          bindings = λ c e. e;
+          runs = λ c listed m run.
+              as_before _ c m (released_runs_on w.sites call_sites points (may_release_then limits w call_sites points accepted) order.points c
+              (λ k h. apart (footprint w s) (keys w (event.Release call_sites points)) k none (listed k h))) run;
+        }) (λ c. refl)
 
 pub untouched_stays : (limits : Limits) (w : World) → IsInOrder w → (e : Event) (s : ℕ) (l : Link) → IsOk (verdict limits w e) → retires w e s ≡ false
     → touches w e s ≡ false

@@ -13,6 +13,7 @@ pub mod Loaders
 pub mod Staying
 pub mod WayKeys
 pub mod Paths
+pub mod Releases
 pub mod Closing
 pub mod InOrder
 -- an event that changes nothing of what a link rests on

@@ -1,6 +1,6 @@
 -- Which changes of call sites and switch points leave what a call site runs, and what it rests on.
 use Rattle.std.specs.Prelude.{◌≡◌, ◌≢◌, ℕ, zero, suc, ◌+◌, ◌<◌, ◌≤◌, ◌==◌, ◌||◌, Bool, true, false, cond, List, [], ◌∷◌, ◌++◌, length, map, filter}
-use Rattle.std.specs.Prelude.{filter_map, slice_get, slice_set, Option, Some, None}
+use Rattle.std.specs.Prelude.{filter_map, slice_set, Option, Some}
 use Rattle.std.specs.List.{list_any, range_with_len}
 use Rattle.std.specs.Option.{option_map_or}
 use Rattle.std.proofs.Common.{refl, ap, sym, ◌∙◌, arith, length-append}
@@ -8,10 +8,9 @@ use Rattle.std.proofs.lemmas.Bool.{both_ways}
 use Rattle.std.proofs.lemmas.Bool.Decides.{Decides-eqb}
 use Rattle.std.proofs.lemmas.Cmp.{nat_eq_equiv}
 use Rattle.std.proofs.lemmas.List.Elements.{filter-append}
-use Rattle.std.proofs.lemmas.Option.{slice_get_within}
 use Rattle.jl_types.specs.declared.target.CallSiteKind.{CallSiteKind}
 use Rattle.jl_types.specs.Values.Target.{Target}
-use Rattle.jl_types.specs.Values.World.{Sites}
+use Rattle.jl_types.specs.Values.World.{Sites, unreleased}
 use Rattle.jl_types.specs.Linkage.Targets.{is_valid, method_of}
 use Rattle.jl_types.specs.Events.Verdict.{invalidated}
 use Rattle.jl_types.proofs.Bools.{any-filter-at, any-range-from}
@@ -23,7 +22,7 @@ use Rattle.jl_callsites.proofs.Walks.{on_path, known_invalid, site_walks, kept_o
 use Rattle.jl_types.specs.declared.key.Key.{Key}
 use Rattle.jl_types.specs.declared.key.Key.TheVariants as key
 use Rattle.jl_types.specs.Events.Footprints.{has_key, call_site_in, point_in, among, path, of_call_site, still_valid}
-use Rattle.jl_relink.proofs.WayKeys.{has, points_valid, rests_on_point}
+use Rattle.jl_relink.proofs.WayKeys.{has, points_valid, rests_on_point, valid_within}
 
 -- the call site runs what it ran, and rests on what it rested on
 pub record RunsOn (old new : Sites) (c : ℕ) : Type 0 where
@@ -50,7 +49,7 @@ target_runs_on sites c t d none =
     record { method = w.0; keys = ap (keys_of d (length sites.switches)) w.1 }
 
 -- one switch point more
-past_end : (xs : List Bool) (p : ℕ) → length xs ≤ p → option_map_or (λ (valid : Bool). valid) (slice_get xs p) false ≡ false
+past_end : (xs : List (Option Bool)) (p : ℕ) → length xs ≤ p → option_map_or (λ (valid : Bool). valid) (unreleased xs p) false ≡ false
 past_end [] p le = refl
 past_end (x ∷ xs) zero le = absurd (omega arith)
 past_end (x ∷ xs) (suc p) le = past_end xs p (omega arith)
@@ -83,13 +82,13 @@ switch_runs_on sites known c =
     size =
         let n = length sites.switches in
         let on = λ (p : ℕ). list_any (λ q. q == p) points in
-        ap (λ k. filter on (range_with_len 0 k)) (length-append sites.switches (true ∷ []))
+        ap (λ k. filter on (range_with_len 0 k)) (length-append sites.switches (Some true ∷ []))
         ∙ ap (filter on) (range_end 0 n)
         ∙ filter-append on (range_with_len 0 n) ((0 + n) ∷ [])
         ∙ ap (λ (b : Bool). filter on (range_with_len 0 n) ++ cond b ((0 + n) ∷ []) []) (absent (on (0 + n)) refl)
         ∙ append-nil (filter on (range_with_len 0 n))
 
-other_set : {A : Type 0} (xs : List A) (c : ℕ) (x : A) (d : ℕ) → d ≢ c → slice_get (slice_set xs c x) d ≡ slice_get xs d
+other_set : {A : Type 0} (xs : List (Option A)) (c : ℕ) (x : Option A) (d : ℕ) → d ≢ c → unreleased (slice_set xs c x) d ≡ unreleased xs d
 other_set [] c x d ne = refl
 other_set (y ∷ xs) zero x zero ne = absurd (ne refl)
 other_set (y ∷ xs) zero x (suc d) ne = refl
@@ -102,39 +101,39 @@ set_length [] c x = refl
 set_length (y ∷ xs) zero x = refl
 set_length (y ∷ xs) (suc c) x = ap suc (set_length xs c x)
 
-pub invalidated_length : (switches : List Bool) (points : List ℕ) → length (invalidated switches points) ≡ length switches
+pub invalidated_length : (switches : List (Option Bool)) (points : List ℕ) → length (invalidated switches points) ≡ length switches
 invalidated_length switches [] = refl
-invalidated_length switches (p ∷ points) = invalidated_length (slice_set switches p false) points ∙ set_length switches p false
+invalidated_length switches (p ∷ points) = invalidated_length (slice_set switches p (Some false)) points ∙ set_length switches p (Some false)
 
-abbrev valid_in : List Bool → ℕ → Bool
-valid_in switches p = option_map_or (λ valid. valid) (slice_get switches p) false
+abbrev valid_in : List (Option Bool) → ℕ → Bool
+valid_in switches p = option_map_or (λ valid. valid) (unreleased switches p) false
 
-set_invalid : (switches : List Bool) (q p : ℕ) → valid_in switches p ≡ false → valid_in (slice_set switches q false) p ≡ false
+set_invalid : (switches : List (Option Bool)) (q p : ℕ) → valid_in switches p ≡ false → valid_in (slice_set switches q (Some false)) p ≡ false
 set_invalid [] q p h = h
 set_invalid (b ∷ switches) zero zero h = refl
 set_invalid (b ∷ switches) zero (suc p) h = h
 set_invalid (b ∷ switches) (suc q) zero h = h
 set_invalid (b ∷ switches) (suc q) (suc p) h = set_invalid switches q p h
 
-stays_invalid : (switches : List Bool) (points : List ℕ) (p : ℕ) → valid_in switches p ≡ false → valid_in (invalidated switches points) p ≡ false
+stays_invalid : (switches : List (Option Bool)) (points : List ℕ) (p : ℕ) → valid_in switches p ≡ false → valid_in (invalidated switches points) p ≡ false
 stays_invalid switches [] p h = h
-stays_invalid switches (q ∷ points) p h = stays_invalid (slice_set switches q false) points p (set_invalid switches q p h)
+stays_invalid switches (q ∷ points) p h = stays_invalid (slice_set switches q (Some false)) points p (set_invalid switches q p h)
 
-elsewhere : (switches : List Bool) (points : List ℕ) (p : ℕ) → list_any (λ q. q == p) points ≡ false
-    → slice_get (invalidated switches points) p ≡ slice_get switches p
+elsewhere : (switches : List (Option Bool)) (points : List ℕ) (p : ℕ) → list_any (λ q. q == p) points ≡ false
+    → unreleased (invalidated switches points) p ≡ unreleased switches p
 elsewhere switches [] p h = refl
 elsewhere switches (q ∷ points) p h =
-    by_tests (q == p) (list_any (λ q. q == p) points) refl refl h (elsewhere (slice_set switches q false) points p)
+    by_tests (q == p) (list_any (λ q. q == p) points) refl refl h (elsewhere (slice_set switches q (Some false)) points p)
   where
     by_tests : (a b : Bool) → (q == p) ≡ a → list_any (λ q. q == p) points ≡ b → (a || b) ≡ false
         → (list_any (λ q. q == p) points ≡ false
-        → slice_get (invalidated (slice_set switches q false) points) p ≡ slice_get (slice_set switches q false) p)
-        → slice_get (invalidated (slice_set switches q false) points) p ≡ slice_get switches p
+        → unreleased (invalidated (slice_set switches q (Some false)) points) p ≡ unreleased (slice_set switches q (Some false)) p)
+        → unreleased (invalidated (slice_set switches q (Some false)) points) p ≡ unreleased switches p
     by_tests true b same rest e onward = cc
     by_tests false true same rest e onward = cc
     by_tests false false same rest e onward =
         onward rest
-        ∙ other_set switches q false p (λ is. both_ways (q == p) same ((Decides-eqb q p).1 (sym is)))
+        ∙ other_set switches q (Some false) p (λ is. both_ways (q == p) same ((Decides-eqb q p).1 (sym is)))
 
 -- a point that was valid and isn't named stays valid
 unnamed : (sites : Sites) (points : List ℕ) (p : ℕ) → is_valid sites p ≡ true → has_key (map key.Valid (still_valid sites points)) (key.Valid p) ≡ false
@@ -145,14 +144,10 @@ unnamed sites points p valid h = by_named (list_any (λ q. q == p) points) refl
     listed [] = refl
     listed (q ∷ ps) = ap (λ (b : Bool). (q == p) || b) (listed ps)
 
-    within : (o : Option Bool) → slice_get sites.switches p ≡ o → option_map_or (λ valid. valid) o false ≡ true → p < length sites.switches
-    within None is h = cc
-    within (Some b) is h = slice_get_within sites.switches p b is
-
     by_named : (b : Bool) → list_any (λ q. q == p) points ≡ b → b ≡ false
     by_named false is = refl
     by_named true is =
-        let lt = within (slice_get sites.switches p) refl valid in
+        let lt = valid_within sites p valid in
         let inside : list_any (λ k. k == p) (among (length sites.switches) points) ≡ true =
         any-filter-at (λ k. list_any (λ q. q == k) points) (λ k. k == p) p (range_with_len 0 (length sites.switches))
         (any-range-from (λ k. k == p) 0 (length sites.switches) p (omega arith) (omega arith) (nat_eq_equiv.refl p)) is (nat_eq_equiv.refl p) in

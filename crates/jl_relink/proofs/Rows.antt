@@ -223,7 +223,7 @@ not_read h = let e = h.files in cc
 abbrev pointless : World
 pointless = record nothing_yet {
   sites = record {
-    call_sites = record { kind = Mutable; ty = codes "()V"; target = target.Guard 0 (target.Method m) (target.Method n) } ∷ [];
+    call_sites = Some (record { kind = Mutable; ty = codes "()V"; target = target.Guard 0 (target.Method m) (target.Method n) }) ∷ [];
     switches = [];
   };
 }
@@ -234,7 +234,7 @@ no_such_point h = let e = h.points in cc
 -- a call site that runs whatever it runs itself
 abbrev circular : World
 circular = record nothing_yet {
-  sites = record { call_sites = record { kind = Mutable; ty = codes "()V"; target = target.Invoker 0 } ∷ []; switches = [] };
+  sites = record { call_sites = Some (record { kind = Mutable; ty = codes "()V"; target = target.Invoker 0 }) ∷ []; switches = [] };
 }
 
 no_earlier_call_site : ¬ IsInOrder circular

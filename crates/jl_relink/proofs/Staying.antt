@@ -25,17 +25,18 @@ use Rattle.jl_types.specs.declared.link.Link.TheVariants.{Direct}
 use Rattle.jl_types.specs.declared.link.TableKind.TheVariants as table
 use Rattle.jl_types.specs.declared.target.CallSiteKind.{CallSiteKind}
 use Rattle.jl_types.specs.Values.Target.{Target}
-use Rattle.jl_types.specs.Values.World.{Class, Classes, CallSite, Sites, World}
+use Rattle.jl_types.specs.Values.World.{Class, Classes, CallSite, Sites, World, unreleased}
 use Rattle.jl_types.specs.Values.Members.{is_retired, is_present, is_private, is_static, is_interface, share_package}
 use Rattle.jl_types.specs.Values.Ancestry.{receivers}
 use Rattle.jl_types.specs.Linkage.Access.{is_accessible_class}
 use Rattle.jl_types.specs.Linkage.Resolution.{Resolved, resolved, resolved_at, naming, named_class, found, if_accessible}
 use Rattle.jl_types.specs.Linkage.Selection.{is_init}
 use Rattle.jl_types.specs.Linkage.Stages.{Selector, ByVirtual, ByInterface, BySpecial, ResolvedCall, Waits, Fails, Calls, Selects}
-use Rattle.jl_types.specs.Linkage.Stages.{selecting, by_kind, by_resolution, by_method, bound_to, bound_method, invocation_at, by_operand, stage_of, stage_at}
+use Rattle.jl_types.specs.Linkage.Stages.{selecting, by_kind, by_resolution, by_method, by_binding, bound_to, invocation_at, by_operand, stage_of, stage_at}
 use Rattle.jl_types.specs.Linkage.Targets.{evaluated, method_of}
 use Rattle.jl_types.specs.Linkage.Links.{outcome_by, table_rows, table_or_mega, virtual_link, link_by, link_of, scratch}
 use Rattle.jl_types.specs.Events.Verdict.{same_place, requested, step}
+use Rattle.jl_types.proofs.Releasing.{unreleased_within}
 use Rattle.jl_types.proofs.Accepting.{linked}
 use Rattle.jl_types.proofs.Lists.{before_end, passes_within}
 use Rattle.jl_resolve.specs.Constancy.{is_settled}
@@ -87,12 +88,12 @@ named_there cs d ref r = by_class (named_class cs d ref)
         (is_accessible_class cs d named) refl e
 
 method_there : (sites : Sites) (c : ℕ) (m : MethodId) → method_of sites c ≡ Some m → c < length sites.call_sites
-method_there sites c m = by_site (slice_get sites.call_sites c) refl
+method_there sites c m = by_site (unreleased sites.call_sites c) refl
   where
-    by_site : (o : Option CallSite) → slice_get sites.call_sites c ≡ o → option_and_then (λ site. evaluated sites c site.target) o ≡ Some m
+    by_site : (o : Option CallSite) → unreleased sites.call_sites c ≡ o → option_and_then (λ site. evaluated sites c site.target) o ≡ Some m
         → c < length sites.call_sites
     by_site None is e = cc
-    by_site (Some site) is e = slice_get_within sites.call_sites c site is
+    by_site (Some site) is e = unreleased_within sites.call_sites c site is
 
 -- ---- invocations of methods
 
@@ -171,22 +172,22 @@ module _ (w : World) (loaders : List (List (List ℕ × ℕ))) (places : List Pl
   module _ (constant : IsConstant w.classes after.classes) (runs : RunAsBefore w.sites sites)
       (place_stays : (s : ℕ) (place : Place) → slice_get w.places s ≡ Some place → slice_get places s ≡ Some place)
       (binding_stays : (s c : ℕ) → bound_to w s ≡ Some c → bound_to after s ≡ Some c) (s : ℕ) (l : Link) where
-    call_site_stays : link_of w.classes (by_method (bound_method w s)) ≡ Ok l → link_of after.classes (by_method (bound_method after s)) ≡ Ok l
-    call_site_stays h = by_binding (bound_to w s) refl h
+    call_site_stays : link_of w.classes (by_binding w.sites (bound_to w s)) ≡ Ok l → link_of after.classes (by_binding sites (bound_to after s)) ≡ Ok l
+    call_site_stays h = with_binding (bound_to w s) refl h
       where
         by_run : (c : ℕ) → bound_to w s ≡ Some c → (o : Option MethodId) → method_of w.sites c ≡ o → link_of w.classes (by_method o) ≡ Ok l
-            → link_of after.classes (by_method (bound_method after s)) ≡ Ok l
+            → link_of after.classes (by_binding sites (bound_to after s)) ≡ Ok l
         by_run c is None run e = cc
         by_run c is (Some m) run e =
             ap (link_of after.classes)
-            (ap (λ (o : Option ℕ). by_method (option_and_then (method_of sites) o)) (binding_stays s c is)
+            (ap (by_binding sites) (binding_stays s c is)
             ∙ ap by_method (runs.same c (method_there w.sites c m run) ∙ run))
             ∙ e
 
-        by_binding : (o : Option ℕ) → bound_to w s ≡ o → link_of w.classes (by_method (option_and_then (method_of w.sites) o)) ≡ Ok l
-            → link_of after.classes (by_method (bound_method after s)) ≡ Ok l
-        by_binding None is e = cc
-        by_binding (Some c) is e = by_run c is (method_of w.sites c) refl e
+        with_binding : (o : Option ℕ) → bound_to w s ≡ o → link_of w.classes (by_binding w.sites o) ≡ Ok l
+            → link_of after.classes (by_binding sites (bound_to after s)) ≡ Ok l
+        with_binding None is e = cc
+        with_binding (Some c) is e = by_run c is (method_of w.sites c) refl e
 
     module _ (d : ℕ) (there : d < length w.classes.rows) (present : is_present w.classes d ≡ true) where
       operand_stays : (kind : Kind) (o : Operand (List ℕ)) → link_of w.classes (by_operand w s d kind o) ≡ Ok l

@@ -35,7 +35,7 @@ use Rattle.jl_types.specs.Linkage.Resolution.{found_in_interface}
 use Rattle.jl_types.specs.Linkage.Access.{Access, Allowed, Denied, NotKnown}
 use Rattle.jl_types.specs.Linkage.Selection.{is_init, virtual_outcome}
 use Rattle.jl_types.specs.Linkage.Stages.{Selector, ByVirtual, ByInterface, BySpecial, ResolvedCall, Stage, Waits, Fails, Calls, Selects}
-use Rattle.jl_types.specs.Linkage.Stages.{selecting, by_kind, by_resolution, by_method, bound_to, bound_method, invocation_at, by_operand, stage_of}
+use Rattle.jl_types.specs.Linkage.Stages.{selecting, by_kind, by_resolution, by_method, by_binding, bound_to, invocation_at, by_operand, stage_of}
 use Rattle.jl_types.specs.Linkage.Stages.{stage_at, stage}
 use Rattle.jl_types.specs.Linkage.Links.{outcome_by, table_rows, table_or_mega, virtual_link, link_by, link_of, scratch}
 use Rattle.jl_types.proofs.Accepting.{linked}
@@ -301,7 +301,7 @@ module _ (w after : World) (s : ℕ) (later : IsLater w after s) where
 
   module _ (listed : (k : Key) → has_key (of_binding w.sites (bound_to w s)) k ≡ true → has_key (footprint w s) k ≡ true) where
     by_run : (c : ℕ) → bound_to w s ≡ Some c → (o : Option MethodId) → method_of w.sites c ≡ o
-        → SiteKeeps w after (by_method o) (by_method (option_and_then (method_of after.sites) (bound_to after s)))
+        → SiteKeeps w after (by_method o) (by_binding after.sites (bound_to after s))
         (of_binding w.sites (bound_to w s)) (of_binding after.sites (bound_to after s))
     by_run c is None run = record {
       there = tt;
@@ -319,14 +319,14 @@ module _ (w after : World) (s : ℕ) (later : IsLater w after s) where
           chosen = λ i e. cc;
           rests = λ k h. cc;
           looks = λ d h. absurd (no_receivers w.sites (bound_to w s) d h);
-          same = λ settled. ap (λ (o : Option ℕ). by_method (option_and_then (method_of after.sites) o)) bound ∙ ap by_method one.0;
+          same = λ settled. ap (by_binding after.sites) bound ∙ ap by_method one.0;
           keys = λ settled. ap (of_binding after.sites) bound ∙ one.1 ∙ sym (ap (of_binding w.sites) is);
         }
 
-    by_binding : (o : Option ℕ) → bound_to w s ≡ o
-        → SiteKeeps w after (by_method (option_and_then (method_of w.sites) o)) (by_method (option_and_then (method_of after.sites) (bound_to after s)))
+    with_binding : (o : Option ℕ) → bound_to w s ≡ o
+        → SiteKeeps w after (by_binding w.sites o) (by_binding after.sites (bound_to after s))
         (of_binding w.sites (bound_to w s)) (of_binding after.sites (bound_to after s))
-    by_binding None is = record {
+    with_binding None is = record {
       there = tt;
       chosen = λ i e. cc;
       rests = λ k h. cc;
@@ -334,11 +334,11 @@ module _ (w after : World) (s : ℕ) (later : IsLater w after s) where
       same = λ settled. cc;
       keys = λ settled. cc;
     }
-    by_binding (Some c) is = by_run c is (method_of w.sites c) refl
+    with_binding (Some c) is = by_run c is (method_of w.sites c) refl
 
-    call_site_stays : SiteKeeps w after (by_method (bound_method w s)) (by_method (bound_method after s))
+    call_site_stays : SiteKeeps w after (by_binding w.sites (bound_to w s)) (by_binding after.sites (bound_to after s))
         (of_binding w.sites (bound_to w s)) (of_binding after.sites (bound_to after s))
-    call_site_stays = by_binding (bound_to w s) refl
+    call_site_stays = with_binding (bound_to w s) refl
 
   operand_stays : (d : ℕ) → IsThere w.classes d → is_present after.classes d ≡ true → (kind : Kind) (o : Operand (List ℕ))
       → ((k : Key) → has_key (of_operand w s d kind o) k ≡ true → has_key (footprint w s) k ≡ true)

@@ -1,5 +1,5 @@
 -- What a call site rests on: the targets of the call sites on its path and the valid points on it.
-use Rattle.std.specs.Prelude.{◌≡◌, ℕ, ◌+◌, ◌<◌, ◌==◌, ◌||◌, Bool, true, false, List, [], ◌∷◌, ◌++◌, length, map, filter_map, slice_get, Option, Some, None}
+use Rattle.std.specs.Prelude.{◌≡◌, ℕ, ◌+◌, ◌<◌, ◌==◌, ◌||◌, Bool, true, false, List, [], ◌∷◌, ◌++◌, length, map, filter_map, Option, Some, None}
 use Rattle.std.specs.List.{AllByRecursion, list_any, range_with_len}
 use Rattle.std.specs.Option.{option_map_or}
 use Rattle.std.specs.Bool.{one_answer}
@@ -7,17 +7,17 @@ use Rattle.std.proofs.Common.{refl, ap, sym, ◌∙◌, arith, inl, inr}
 use Rattle.std.proofs.lemmas.Bool.{or_cases, or_left, or_right}
 use Rattle.std.proofs.lemmas.Bool.Decides.{Decides-eqb}
 use Rattle.std.proofs.lemmas.Cmp.{nat_eq_equiv}
-use Rattle.std.proofs.lemmas.Option.{slice_get_within}
 use Rattle.jl_pool.specs.declared.reference.CallSiteSpecifier.{CallSiteSpecifier}
 use Rattle.jl_class.specs.declared.site.Kind.{Kind}
 use Rattle.jl_class.specs.declared.site.Operand.{Operand}
 use Rattle.jl_class.specs.declared.site.Operand.TheVariants as operand
-use Rattle.jl_types.specs.Values.World.{World, Classes, Sites}
+use Rattle.jl_types.specs.Values.World.{World, Classes, Sites, unreleased}
 use Rattle.jl_types.specs.Linkage.Stages.{bound_to}
 use Rattle.jl_types.specs.Linkage.Targets.{is_valid}
 use Rattle.jl_types.specs.declared.key.Key.{Key}
 use Rattle.jl_types.specs.declared.key.Key.TheVariants as key
 use Rattle.jl_types.specs.Events.Footprints.{has_key, call_site_in, point_in, among, path, of_call_site, of_binding, of_operand, most_by}
+use Rattle.jl_types.proofs.Releasing.{unreleased_within}
 use Rattle.jl_types.proofs.Bools.{any-filter, any-filter-at, any-range-from}
 use Rattle.jl_callsites.proofs.Walks.{IsOn, on_path}
 
@@ -100,12 +100,12 @@ among_all n xs below x = one_answer (has x (among n xs)) (has x xs) (λ e. e, λ
         let r = any-filter (λ k. has k xs) (λ k. k == x) (range_with_len 0 n) h in
         ap (λ k. has k xs) (sym ((Decides-eqb r.item x).0 r.passes)) ∙ r.meets
 
-valid_within : (sites : Sites) (p : ℕ) → is_valid sites p ≡ true → p < length sites.switches
-valid_within sites p = by_switch (slice_get sites.switches p) refl
+pub valid_within : (sites : Sites) (p : ℕ) → is_valid sites p ≡ true → p < length sites.switches
+valid_within sites p = by_switch (unreleased sites.switches p) refl
   where
-    by_switch : (o : Option Bool) → slice_get sites.switches p ≡ o → option_map_or (λ valid. valid) o false ≡ true → p < length sites.switches
+    by_switch : (o : Option Bool) → unreleased sites.switches p ≡ o → option_map_or (λ valid. valid) o false ≡ true → p < length sites.switches
     by_switch None is h = cc
-    by_switch (Some b) is h = slice_get_within sites.switches p b is
+    by_switch (Some b) is h = unreleased_within sites.switches p b is
 
 call_site_below : (sites : Sites) (n : ℕ) (ks : List Key) → AllByRecursion (IsOn sites n) ks → (c : ℕ) → has_key ks (key.Target c) ≡ true → c < n
 call_site_below sites n [] on c h = cc

@@ -15,7 +15,9 @@ use jl_hierarchy::Classes;
 use jl_names::LentName;
 use jl_pool::Reference;
 use jl_select::special;
-use jl_types::{Answer, ClassId, Missing, Outcome, Recv, SiteNo, TableKind, Throwable, Unlinked};
+use jl_types::{
+    Answer, CallSiteId, ClassId, Missing, Outcome, Recv, SiteNo, TableKind, Throwable, Unlinked,
+};
 
 /// The answer to a call (JVMS SE 17 §6.5). It looks at no link. Takes no memory.
 pub fn dispatch(world: &World, site: SiteNo, recv: Recv) -> Answer
@@ -33,10 +35,20 @@ pub fn dispatch(world: &World, site: SiteNo, recv: Recv) -> Answer
             reference,
             recv,
         ),
-        Operand::CallSite(_) => match world.bound_method(site) {
-            Some(method) => Answer::Run(method),
-            None => Answer::Unlinked(Unlinked::Unbound),
-        },
+        Operand::CallSite(_) => binding_answer(world, world.bound_to(site), recv),
+    }
+}
+
+/// The answer to a call of an invokedynamic that is bound to this call site, or to none.
+fn binding_answer(world: &World, binding: Option<CallSiteId>, recv: Recv) -> Answer
+    ensures { result ≡ calls.answer_of world.now.classes (stages.by_binding world.now.sites binding) recv }
+{
+    let Some(call_site) = binding else {
+        return Answer::Unlinked(Unlinked::Unbound);
+    };
+    match world.sites.method_of(call_site) {
+        Some(method) => Answer::Run(method),
+        None => Answer::Unlinked(Unlinked::Gone),
     }
 }
 

@@ -5,7 +5,6 @@ ghost use Rattle.jl_types.specs.Linkage.Resolution as resolution;
 ghost use Rattle.jl_types.specs.Linkage.Stages as stages;
 ghost use Rattle.jl_types.specs.Linkage.Links as links;
 ghost use Rattle.jl_types.specs.Events.Footprints.{of_stage, of_operand, most_by, most_for};
-ghost use Rattle.jl_relink.specs.ForProofs.Counts.{method_at};
 
 use crate::link::selected_link;
 use crate::located::{Located, locate};
@@ -101,14 +100,14 @@ fn binding_link(
     work: &mut Work,
 ) -> Result<Link, Unlinked>
     requires fits { work.old + 1 < 2 ^ 64 }
-    ensures link { result ≡ links.link_of world.now.classes (stages.by_method (method_at world.now.sites binding)) }
+    ensures link { result ≡ links.link_of world.now.classes (stages.by_binding world.now.sites binding) }
     ensures ticks { work.new ≤ work.old + 1 }
 {
     let Some(call_site) = binding else {
         return Err(Unlinked::Unbound);
     };
-    if !world.sites.has_call_site(call_site) {
-        return Err(Unlinked::Unbound);
+    match world.sites.evaluate_counted(call_site, work) {
+        Some(method) => Ok(Link::Plain(method)),
+        None => Err(Unlinked::Gone),
     }
-    Ok(Link::Plain(world.sites.evaluate_counted(call_site, work)))
 }

@@ -87,11 +87,4 @@ impl World {
     {
         self.bindings.get(&site).copied()
     }
-
-    /// The method that the invokedynamic runs now, where it is bound. Takes no memory.
-    pub(crate) fn bound_method(&self, site: SiteNo) -> Option<MethodId>
-        ensures { result ≡ stages.bound_method self.now site }
-    {
-        self.sites.method_of(self.bound_to(site)?)
-    }
 }

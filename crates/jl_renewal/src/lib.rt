@@ -17,6 +17,7 @@ mod links;
 mod marks;
 mod numbers;
 mod places;
+mod present;
 mod released;
 mod renewal;
 mod stays;
@@ -30,5 +31,6 @@ pub use laws::{
 };
 pub use links::{fresh_links, install_all};
 pub use numbers::Renumbering;
+pub use present::{Counts, counts_present};
 pub use released::Released;
 pub use renewal::{refill, renew, try_refill};

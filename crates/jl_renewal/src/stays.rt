@@ -126,7 +126,11 @@ fn numbered_within(
 }
 
 /// Whether each of the first so many loaders stays: those that aren't retired. Want of memory is an error.
-fn loaders_below(alloc: Global, classes: &Classes, count: usize) -> Result<Vec<bool>, AllocError>
+pub(crate) fn loaders_below(
+    alloc: Global,
+    classes: &Classes,
+    count: usize,
+) -> Result<Vec<bool>, AllocError>
     requires { count ≤ 2 ^ 20 }
     ensures { IfOk result (λ stays. stays.items ≡ map (λ l. not (members.is_retired classes.now l)) (range_with_len 0 count)) }
 {
@@ -138,7 +142,7 @@ fn loaders_below(alloc: Global, classes: &Classes, count: usize) -> Result<Vec<b
 }
 
 /// Whether each class stays: those that are present. Want of memory is an error.
-fn classes_that_stay(alloc: Global, classes: &Classes) -> Result<Vec<bool>, AllocError>
+pub(crate) fn classes_that_stay(alloc: Global, classes: &Classes) -> Result<Vec<bool>, AllocError>
     ensures { IfOk result (λ stays. stays.items ≡ staying_classes classes.now) }
 {
     let count = classes.count_in_order();
@@ -150,7 +154,7 @@ fn classes_that_stay(alloc: Global, classes: &Classes) -> Result<Vec<bool>, Allo
 }
 
 /// Whether each site stays: those in classes that are present. Want of memory is an error.
-fn sites_that_stay(
+pub(crate) fn sites_that_stay(
     alloc: Global,
     classes: &Classes,
     places: &IndexSet<Place>,
@@ -165,7 +169,7 @@ fn sites_that_stay(
 
 /// Whether each call site stays: those that are wanted, and those that the target of a later one which stays invokes, but for those that
 /// are released. Want of memory is an error.
-fn call_sites_that_stay(
+pub(crate) fn call_sites_that_stay(
     alloc: Global,
     old: &World,
     released: &Released,
@@ -267,7 +271,7 @@ fn staying_target<'a>(stays: &[bool], sites: &'a Sites, number: usize) -> Option
 }
 
 /// Whether each switch point stays: those that are wanted and aren't released. Want of memory is an error.
-fn switches_that_stay(
+pub(crate) fn switches_that_stay(
     alloc: Global,
     sites: &Sites,
     stays: &[bool],

@@ -38,6 +38,7 @@ step_stays w good (event.Bind s c) = stays_itself w.classes
 step_stays w good (event.Install rows) = stays_itself w.classes
 step_stays w good (event.Retire loader) = stays_retired w.classes good (loader ∷ [])
 step_stays w good (event.RetireAll loaders) = stays_retired w.classes good loaders
+step_stays w good (event.Release call_sites points) = stays_itself w.classes
 
 pub later_stays : (h : List Event) (e : Event) → Stays (world_after h).classes (world_after (h ++ e ∷ [])).classes
 later_stays h e =

@@ -33,6 +33,7 @@ install_leaves w (event.Bind s c) is = absurd cc
 install_leaves w (event.Install rows) is = refl
 install_leaves w (event.Retire loader) is = absurd cc
 install_leaves w (event.RetireAll loaders) is = absurd cc
+install_leaves w (event.Release call_sites points) is = absurd cc
 
 installs_leave : (w : World) (entries : List Entry) → list_all of_install entries ≡ true → fold step w (events_of entries) ≡ w
 installs_leave w [] all = refl

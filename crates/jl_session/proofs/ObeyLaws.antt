@@ -42,6 +42,7 @@ module _ {S : Type 0} (IsEvent : S → Event → Data → S → Type 0) (IsInsta
   obeyed_so (event.Install batch) is = install_so batch answer new is
   obeyed_so (event.Retire loader) is = event_so (event.Retire loader) answer new is
   obeyed_so (event.RetireAll loaders) is = event_so (event.RetireAll loaders) answer new is
+  obeyed_so (event.Release call_sites switches) is = event_so (event.Release call_sites switches) answer new is
 
 module _ {S : Type 0} (IsCommand : S → Command → Data → S → Type 0) (old : S) (P : Data → S → Type 0)
     (command_so : (asked : Command) (answer : Data) (new : S) → IsCommand old asked answer new → P answer new)

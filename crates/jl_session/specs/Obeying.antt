@@ -60,6 +60,7 @@ IsObeyed IsEvent IsInstall old (event.Bind site call_site) answer new = IsEvent 
 IsObeyed IsEvent IsInstall old (event.Install batch) answer new = IsInstall old batch answer new
 IsObeyed IsEvent IsInstall old (event.Retire loader) answer new = IsEvent old (event.Retire loader) answer new
 IsObeyed IsEvent IsInstall old (event.RetireAll loaders) answer new = IsEvent old (event.RetireAll loaders) answer new
+IsObeyed IsEvent IsInstall old (event.Release call_sites switches) answer new = IsEvent old (event.Release call_sites switches) answer new
 
 -- ---- what a line is answered
 

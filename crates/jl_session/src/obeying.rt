@@ -76,6 +76,9 @@ pub fn obey_event<S, O: Obey<S>>(
         AskedEvent::Install(batch) => by.install(alloc, on, batch),
         AskedEvent::Retire(loader) => by.apply(alloc, on, Event::Retire(loader)),
         AskedEvent::RetireAll(loaders) => by.apply(alloc, on, Event::RetireAll(loaders)),
+        AskedEvent::Release(call_sites, switches) => {
+            by.apply(alloc, on, Event::Release(call_sites, switches))
+        }
     }
 }
 

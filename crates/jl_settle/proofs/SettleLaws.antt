@@ -227,6 +227,7 @@ not_defined w (event.Bind s c) is other = refl
 not_defined w (event.Install rows) is other = refl
 not_defined w (event.Retire loader) is other = cc
 not_defined w (event.RetireAll loaders) is other = cc
+not_defined w (event.Release call_sites points) is other = refl
 
 -- the event is the definition of this class
 pub record IsDefinition (w : World) (e : Event) (x : ℕ) : Type 0 where
@@ -248,6 +249,7 @@ definition w (event.Bind s c) x is = cc
 definition w (event.Install rows) x is = cc
 definition w (event.Retire loader) x is = cc
 definition w (event.RetireAll loaders) x is = cc
+definition w (event.Release call_sites points) x is = cc
 
 module _ (world : World) (keys : List Key) (links : ℕ → Option Link) (index : List (ℕ × List Key)) (rising : AreRising index) where
   -- each touched site takes one evaluation, where no loader goes

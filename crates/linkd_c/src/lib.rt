@@ -7,13 +7,13 @@
 ghost use Rattle.std.specs.Prelude.{◌≡◌, List, Option, None};
 ghost use types.Logic.{sem};
 ghost use Rattle.jl_host.specs.Linkers.{Opened, IsOpen, IsOpenWith, limits_of, IsNewLoader, IsDefine, IsDefineUpTo, IsDelegate, IsRequest, IsNewCallSite, IsSetTarget, IsNewSwitch};
-ghost use Rattle.jl_host.specs.Linkers.{IsInvalidate, IsBind, IsRetire, IsRetireAll, IsInstall, IsDropped, IsCall, IsLinkOf, IsAnswer, IsTake};
+ghost use Rattle.jl_host.specs.Linkers.{IsInvalidate, IsBind, IsInstall, IsDropped, IsCall, IsLinkOf, IsAnswer, IsTake};
 ghost use Rattle.jl_host.specs.Seats.{SeatView, IsRefresh, IsSeatCall};
 ghost use Rattle.jl_host.specs.Memos.{IsMemoOpen, IsMemoAsk, IsMemoCall, IsSeatCallWith};
 ghost use Rattle.jl_host.specs.Asking.{IsLookup, IsClassName, IsMethodName, IsMethodType, IsInvocations, IsNamed, IsAwaited, IsLastWork};
 ghost use Rattle.jl_host.specs.Targets.{IsNewCallSiteOf, IsSetTargetOf};
 ghost use Rattle.jl_host.specs.Views.{IsViewTake, IsViewCall, IsViewSerial, IsViewPrepare, IsInstallLinks};
-ghost use Rattle.jl_host.specs.Renewals.{IsCounts, IsRenew, arrays_of, released_of};
+ghost use Rattle.jl_host.specs.Renewals.{IsCounts, IsCountsPresent, IsRenew, arrays_of, released_of};
 ghost use Rattle.jl_relink.specs.Preparations.{Snapshot};
 ghost use Rattle.jl_memo.specs.declared.set.Set.{Set};
 ghost use Rattle.linkd_c.specs.Handle.{linker_at, linker_left, renewed_left, linker_room, linker_bytes, linker_multiple};
@@ -23,6 +23,7 @@ ghost use Rattle.linkd_c.specs.Handle.{view_at, view_left, taken_left, view_room
 
 mod handles;
 mod renewals;
+mod retirements;
 
 pub use handles::{Linkd, LinkdMemo, LinkdRenewal, LinkdSeat, LinkdView};
 use jl_host::{
@@ -33,9 +34,9 @@ use std::alloc::Global;
 /// Which header the library is of: LINKD_VERSION there.
 #[unsafe(no_mangle)]
 pub extern "C" fn linkd_version() -> u32
-    ensures { result ≡ 7 }
+    ensures { result ≡ 8 }
 {
-    7
+    8
 }
 
 /// The bytes of a linker.
@@ -285,36 +286,6 @@ pub unsafe extern "C" fn linkd_bind(
     (*(at as *mut Linker)).bind(alloc, site, call_site, told)
 }
 
-/// The loader goes, with the classes that it has defined and the sites in them (JLS SE 17 §12.7).
-#[unsafe(no_mangle)]
-pub unsafe extern "C" fn linkd_retire(
-    alloc: Global,
-    at: *mut Linkd,
-    loader: u32,
-    told: &mut Told,
-) -> u32
-    ghost old: { Option Opened }
-    requires* { sem 𝓛 (linker_at at old) }
-    ensures* { sem 𝓛 (linker_left at (λ new. IsRetire loader old result told.new new)) }
-{
-    (*(at as *mut Linker)).retire(alloc, loader, told)
-}
-
-/// The loaders go at once, with the classes that they have defined and the sites in them, all or none.
-#[unsafe(no_mangle)]
-pub unsafe extern "C" fn linkd_retire_all(
-    alloc: Global,
-    at: *mut Linkd,
-    loaders: &[u32],
-    told: &mut Told,
-) -> u32
-    ghost old: { Option Opened }
-    requires* { sem 𝓛 (linker_at at old) }
-    ensures* { sem 𝓛 (linker_left at (λ new. IsRetireAll loaders.now old result told.new new)) }
-{
-    (*(at as *mut Linker)).retire_all(alloc, loaders, told)
-}
-
 /// Links the sites from scratch and installs their links, all or none.
 #[unsafe(no_mangle)]
 pub unsafe extern "C" fn linkd_install(
@@ -502,6 +473,20 @@ pub unsafe extern "C" fn linkd_counts(at: *mut Linkd, counts: &mut Counts) -> u3
     ensures* { sem 𝓛 (linker_left at (λ new. IsCounts old result counts.new new)) }
 {
     (*(at as *mut Linker)).counts(counts)
+}
+
+/// How many of each are present.
+#[unsafe(no_mangle)]
+pub unsafe extern "C" fn linkd_counts_present(
+    alloc: Global,
+    at: *mut Linkd,
+    counts: &mut Counts,
+) -> u32
+    ghost old: { Option Opened }
+    requires* { sem 𝓛 (linker_at at old) }
+    ensures* { sem 𝓛 (linker_left at (λ new. IsCountsPresent old result counts.new new)) }
+{
+    (*(at as *mut Linker)).counts_present(alloc, counts)
 }
 
 /// Opens the other linker over what stays of this one, and writes the new numbers.

@@ -14,6 +14,8 @@ mod logs;
 #[cfg(test)]
 mod plans;
 #[cfg(test)]
+mod releases;
+#[cfg(test)]
 mod renewals;
 #[cfg(test)]
 mod snapshots;

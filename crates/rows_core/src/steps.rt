@@ -71,6 +71,8 @@ pub(crate) enum Step {
     Retire(u32),
     /// The loaders go at once.
     RetireAll(&'static [u32]),
+    /// The call sites and the switch points go at once.
+    Release(&'static [u32], &'static [u32]),
 }
 
 /// What is read of the row's class file, with these calls.
@@ -166,13 +168,23 @@ fn call_site(
     Ok(Event::NewCallSite(kind, ty, target(alloc, shape)?))
 }
 
-/// The invalidation of these switch points.
-fn invalidation(alloc: Global, numbers: &[u32]) -> Result<Event, AllocError> {
+/// These switch points.
+fn switch_points(alloc: Global, numbers: &[u32]) -> Result<Seq<SwitchId>, AllocError> {
     let mut points = Vec::new(alloc);
     for number in numbers {
         points.push(SwitchId::new(*number))?;
     }
-    Ok(Event::Invalidate(Seq::of(points)))
+    Ok(Seq::of(points))
+}
+
+/// The release of these call sites and switch points.
+fn release(alloc: Global, call_sites: &[u32], points: &[u32]) -> Result<Event, AllocError> {
+    let mut sites = Vec::new(alloc);
+    for number in call_sites {
+        sites.push(CallSiteId::new(*number))?;
+    }
+    let points = switch_points(alloc, points)?;
+    Ok(Event::Release(Seq::of(sites), points))
 }
 
 /// The retirement of these loaders at once.
@@ -250,7 +262,7 @@ pub(crate) fn event(alloc: Global, core: &Core, step: &Step) -> Result<Event, Al
             Ok(Event::SetTarget(CallSiteId::new(*site), target))
         }
         Step::Point => Ok(Event::NewSwitch),
-        Step::Invalidate(points) => invalidation(alloc, points),
+        Step::Invalidate(points) => Ok(Event::Invalidate(switch_points(alloc, points)?)),
         Step::Bind(site, call_site) => {
             Ok(Event::Bind(SiteNo::new(*site), CallSiteId::new(*call_site)))
         }
@@ -266,6 +278,7 @@ pub(crate) fn event(alloc: Global, core: &Core, step: &Step) -> Result<Event, Al
         Step::ByHand => install_each(alloc, &[0], runs_first()),
         Step::Retire(loader) => Ok(Event::Retire(LoaderId::new(*loader))),
         Step::RetireAll(loaders) => retirement(alloc, loaders),
+        Step::Release(call_sites, points) => release(alloc, call_sites, points),
     }
 }
 

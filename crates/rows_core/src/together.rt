@@ -126,7 +126,7 @@ fn are_refused(alloc: Global, core: &mut Core, rows: &[(Step, &'static str)]) ->
 }
 
 /// How what the step is answered prints, where it is planned and committed.
-fn committed(alloc: Global, core: &mut Core, step: &Step) -> Result<String, AllocError> {
+pub(crate) fn committed(alloc: Global, core: &mut Core, step: &Step) -> Result<String, AllocError> {
     let event = event(alloc, core, step)?;
     match core.plan(alloc, event) {
         Ok(plan) => {
@@ -138,7 +138,7 @@ fn committed(alloc: Global, core: &mut Core, step: &Step) -> Result<String, Allo
 }
 
 /// Whether a plan that both go is made, and let go.
-fn is_planned(alloc: Global, core: &mut Core, step: &Step) -> bool {
+pub(crate) fn is_planned(alloc: Global, core: &mut Core, step: &Step) -> bool {
     match event(alloc, core, step) {
         Ok(event) => core.plan(alloc, event).is_ok(),
         Err(_) => false,
@@ -146,7 +146,7 @@ fn is_planned(alloc: Global, core: &mut Core, step: &Step) -> bool {
 }
 
 /// How the last entry prints.
-fn last_entry(alloc: Global, core: &Core) -> Result<String, AllocError> {
+pub(crate) fn last_entry(alloc: Global, core: &Core) -> Result<String, AllocError> {
     match core.log().kept().last() {
         Some(entry) => format!(in alloc; "{entry:?}"),
         None => Err(AllocError),
@@ -180,7 +180,7 @@ fn go(alloc: Global, core: &mut Core, is_planned: bool) -> bool {
 }
 
 /// What is let go before a renewal: nothing.
-fn nothing_released(alloc: Global) -> Released {
+pub(crate) fn nothing_released(alloc: Global) -> Released {
     Released {
         call_sites: Seq::of(Vec::new(alloc)),
         switches: Seq::of(Vec::new(alloc)),

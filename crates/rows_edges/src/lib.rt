@@ -26,6 +26,8 @@ mod refusals;
 #[cfg(test)]
 mod renewals;
 #[cfg(test)]
+mod retirements;
+#[cfg(test)]
 mod steps;
 #[cfg(test)]
 mod streams;

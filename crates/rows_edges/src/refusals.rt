@@ -9,7 +9,7 @@ use jl_pool::PoolFault;
 use jl_sketch::SketchFault;
 use jl_types::{
     CallSiteFault, CallSiteId, ClassId, DefineFault, DelegateFault, Link, LoaderId, NotLinkable,
-    OrMemory, PrepareFault, Refusal, RetireFault, SiteNo, SitesFault,
+    OrMemory, PrepareFault, Refusal, ReleaseFault, RetireFault, SiteNo, SitesFault, SwitchId,
 };
 use serde_json::Value;
 use std::alloc::{AllocError, Global};
@@ -162,10 +162,14 @@ fn numbered(place: usize) -> Refusal {
         10 => Refusal::Retire(RetireFault::Inherited(ClassId::new(3))),
         11 => Refusal::Retire(RetireFault::Recorded(LoaderId::new(3))),
         12 => Refusal::Retire(RetireFault::Targeted(CallSiteId::new(3))),
-        _ => Refusal::RetireAll {
+        13 => Refusal::RetireAll {
             loader: LoaderId::new(4),
             fault: RetireFault::Recorded(LoaderId::new(3)),
         },
+        14 => Refusal::Release(ReleaseFault::UnknownCallSite(CallSiteId::new(3))),
+        15 => Refusal::Release(ReleaseFault::UnknownSwitch(SwitchId::new(3))),
+        16 => Refusal::Release(ReleaseFault::Invoked(CallSiteId::new(3))),
+        _ => Refusal::Release(ReleaseFault::Guarded(CallSiteId::new(3))),
     }
 }
 
@@ -184,6 +188,10 @@ const NUMBERED: &[&str] = &[
     "Retire.Recorded",
     "Retire.Targeted",
     "Retire.Recorded",
+    "Release.UnknownCallSite",
+    "Release.UnknownSwitch",
+    "Release.Invoked",
+    "Release.Guarded",
 ];
 
 /// Why an event is refused, with no more than a name, by its place among the names below.

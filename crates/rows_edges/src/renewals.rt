@@ -90,13 +90,18 @@ const WORLD: &[StepRow] = &[
     ),
     (Bind(4, 3), &[0]),
     (Invalidate(&[2]), &[0]),
-    (TakeNext(2), &[0, 15]),
+    // What was let go is left out of a release.
+    (NewCallSite(2, "()V", r#"{"method":[3,1]}"#), &[0, 4]),
+    (Release(&[4, 0], &[0]), &[0]),
+    (TakeNext(2), &[0, 17]),
     (Fill, &[0]),
     (Finish(3), &[36, 0, 0, 9, 9, 9, 9, 9]),
     (Finish(6), &[0, 0, 0, GONE, GONE, 0, GONE, GONE]),
     (Fill, &[34]),
-    // Loaders 0, 1, 3, 4 and 5, classes 0, 1, 3 and 4, sites 1 to 5, call sites 1 to 3, the switch points 1 and 2.
-    (Counts, &[0, 5, 4, 5, 3, 2]),
+    // Loaders 0, 1, 3, 4 and 5, classes 0, 1, 3 and 4, sites 1 to 5, call sites 1 to 4, the switch points 1 and 2.
+    (Counts, &[0, 5, 4, 5, 4, 2]),
+    (CountsPresent, &[0, 3, 4, 5, 3, 2]),
+    (Release(&[3], &[]), &[20, 0, 1, 3]),
     (Lookup(1, "M"), &[0, 2]),
     (Lookup(1, "N"), &[0, 3]),
     (Lookup(3, "A"), &[0, 1]),
@@ -123,15 +128,15 @@ const WORLD: &[StepRow] = &[
         &[0],
     ),
     (Call(3, NULL), &[0, 0, 2, 1]),
-    // The fresh linker has accepted thirty-two events: a loader, five of classes, a switch point and that it is invalid, a call site, four
-    // requests and an install, seventeen that came meanwhile, and then one.
+    // The fresh linker has accepted thirty-four events: a loader, five of classes, a switch point and that it is invalid, a call site, four
+    // requests and an install, nineteen that came meanwhile, and then one.
     (Begin(6, &[1], &[]), &[0]),
     (TakeNext(100), &[0, 0]),
     (Fill, &[0]),
     (SetTarget(1, r#"{"method":[2,0]}"#), &[0]),
     (TakeNext(100), &[0, 0]),
-    (Fill, &[37, 32, 0, 1]),
-    (Fill, &[37, 32, 0, 1]),
+    (Fill, &[37, 34, 0, 1]),
+    (Fill, &[37, 34, 0, 1]),
     (LeaveRenewal, &[0]),
     (TakeNext(1), &[34, 99]),
     (Close, &[0]),

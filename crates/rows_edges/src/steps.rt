@@ -39,6 +39,8 @@ pub enum Step {
     Bind(u32, u32),
     Retire(u32),
     RetireAll(&'static [u32]),
+    /// Call sites, and switch points.
+    Release(&'static [u32], &'static [u32]),
     Install(&'static [u32]),
     /// The sites that went, copied to an array of so many.
     Dropped(usize),
@@ -81,8 +83,10 @@ pub enum Step {
     Named(&'static str),
     /// The class for which a site waits, which is to have this name.
     Awaited(u32, &'static str),
-    /// How many there are of each.
+    /// How many there were of each.
     Counts,
+    /// How many of each are present.
+    CountsPresent,
     /// A renewal for so many places, where these call sites were let go, with arrays of so many numbers. The fresh linker takes the old
     /// one's place.
     Renew(u32, &'static [u32], usize),
@@ -299,8 +303,8 @@ fn asked_numbers(linker: &mut Linker, step: &Step) -> Numbers {
     }
 }
 
-/// The status, and how many there are of each.
-fn count_numbers(linker: &mut Linker) -> Numbers {
+/// The status, and how many there were of each, or are present.
+fn count_numbers(alloc: Global, linker: &mut Linker, are_present: bool) -> Numbers {
     let mut counts = Counts {
         loaders: 9,
         classes: 9,
@@ -308,7 +312,11 @@ fn count_numbers(linker: &mut Linker) -> Numbers {
         call_sites: 9,
         switches: 9,
     };
-    let status = linker.counts(&mut counts);
+    let status = if are_present {
+        linker.counts_present(alloc, &mut counts)
+    } else {
+        linker.counts(&mut counts)
+    };
     numbers(&[
         status,
         counts.loaders,
@@ -464,6 +472,9 @@ fn event_numbers(alloc: Global, linker: &mut Linker, step: &Step) -> Numbers {
         Step::Bind(site, call_site) => linker.bind(alloc, *site, *call_site, &mut told),
         Step::Retire(loader) => linker.retire(alloc, *loader, &mut told),
         Step::RetireAll(loaders) => linker.retire_all(alloc, loaders, &mut told),
+        Step::Release(call_sites, points) => {
+            linker.release(alloc, call_sites, points, &mut told)
+        }
         Step::Install(sites) => linker.install(alloc, sites, &mut told),
         Step::NewCallSite(kind, ty, target) => {
             linker.new_call_site(alloc, *kind, ty.as_bytes(), target.as_bytes(), &mut told)
@@ -633,7 +644,8 @@ pub fn answer(
             call_numbers(status, &answer)
         }
         Step::Says(line, text) => said_numbers(alloc, linker, line, text),
-        Step::Counts => count_numbers(linker),
+        Step::Counts => count_numbers(alloc, linker, false),
+        Step::CountsPresent => count_numbers(alloc, linker, true),
         Step::InvalidateTimes(times, switches) => {
             numbers(&[invalidated(alloc, linker, *times, switches)])
         }

@@ -142,6 +142,8 @@ pub(crate) enum Deed {
     Retire(u32),
     /// The loaders go at once.
     RetireAll(&'static [u32]),
+    /// The call sites go at once.
+    Release(&'static [u32]),
 }
 
 /// A class A 1 with a method, B 2 below it, and an installed site 0 of M 3, which calls that method: 6 events.
@@ -248,6 +250,16 @@ fn loaders_of(alloc: Global, numbers: &[u32]) -> Result<Vec<LoaderId>, AllocErro
     Ok(loaders)
 }
 
+/// The release of the call sites of these numbers, and of no switch point.
+fn release(alloc: Global, numbers: &[u32]) -> Result<Event, AllocError> {
+    let mut call_sites = Vec::new(alloc);
+    for number in numbers {
+        call_sites.push(CallSiteId::new(*number))?;
+    }
+    let points = Seq::of(Vec::new(alloc));
+    Ok(Event::Release(Seq::of(call_sites), points))
+}
+
 /// The event, but for installs.
 pub(crate) fn event(alloc: Global, deed: &Deed) -> Option<Event> {
     match deed {
@@ -283,6 +295,7 @@ pub(crate) fn event(alloc: Global, deed: &Deed) -> Option<Event> {
             Ok(loaders) => Some(Event::RetireAll(Seq::of(loaders))),
             Err(_) => None,
         },
+        Release(numbers) => release(alloc, numbers).ok(),
     }
 }
 

@@ -3,7 +3,7 @@
 use crate::acts::{acts, fast};
 use crate::deeds::Class::{A, B, C, E, M, Object, R, T};
 use crate::deeds::Deed::*;
-use crate::deeds::{Deed, ONE_SITE, method};
+use crate::deeds::{DYNAMIC, Deed, ONE_SITE, method};
 use crate::rows::Line::*;
 use crate::scripts::Act::*;
 use crate::scripts::Says::*;
@@ -236,6 +236,26 @@ const BOTH: &[Line] = &[
     Second(Calls(0, Some(2), Runs(1))),
 ];
 
+/// Two of four call sites go at once. The sites that are bound to them are misses, and a caller that nobody told learns it by a call. The entry
+/// is the event.
+const RELEASED: &[Line] = &[
+    First(DoesAll(DYNAMIC)),
+    First(Does(Install(15))),
+    First(Does(Release(&[1, 0]))),
+    Second(HasSeen(0)),
+    Second(Calls(0, None, Misses)),
+    Second(Calls(1, None, Misses)),
+    Second(HasSeen(16)),
+    Second(IsToldAs(
+        15,
+        "Entry { event: Release(Seq { items: [CallSiteId(1), CallSiteId(0)] }, Seq { items: [] }), reply: Reply { made: Nothing, dropped: Seq { items: [SiteNo(0), SiteNo(1)] } } }",
+    )),
+    Asks(0, 1, IsGone),
+    Asks(1, 1, IsGone),
+    First(Does(Install(12))),
+    First(Cannot(Install(1))),
+];
+
 /// The same of M 12 and R 13 by loader 1, M 14 and C 15 by loader 2, beside megamorphic links.
 const BESIDE_EACH_OTHER: &[Deed] = &[
     Loader,
@@ -359,6 +379,7 @@ pub(crate) const ROWS: &[Row] = &[
     Row(64, RETIRED),
     Row(4, BOTH),
     Row(64, BOTH_REMEMBERED),
+    Row(4, RELEASED),
     Row(4, FORGOTTEN),
     Row(4, GONE),
 ];

@@ -54,7 +54,7 @@ public sealed interface Answer {
         METHOD_HOST,
         /** An invokedynamic without a call site. */
         CALL_SITE,
-        /** The class of the site is retired. */
+        /** The class of the site is retired, or the call site to which it is bound is released. */
         GONE,
         /** Nothing is requested under this number. */
         NO_SITE

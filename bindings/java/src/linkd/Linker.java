@@ -230,6 +230,23 @@ public final class Linker implements AutoCloseable {
         }
     }
 
+    /**
+     * The call sites and the switch points go at once: all or none. A site that is bound to one of these call sites is
+     * {@link Answer.Want#GONE}, and what their targets name holds no loader any more. Only what stays holds one, so call sites that invoke each
+     * other go. One that comes twice goes once; where there are none nothing changes.
+     *
+     * <p>Refused as {@link Refusal.Release}.
+     */
+    public synchronized void release(Collection<CallSiteId> callSites, Collection<SwitchId> points) {
+        MemorySegment open = at();
+        int[] sites = callSites.stream().mapToInt(CallSiteId::number).toArray();
+        int[] switches = points.stream().mapToInt(SwitchId::number).toArray();
+        try (Arena call = Arena.ofConfined()) {
+            made(Native.release(open, call.allocateFrom(JAVA_INT, sites), sites.length, call.allocateFrom(JAVA_INT, switches), switches.length,
+                    told));
+        }
+    }
+
     /** Links the sites from scratch, 1 to 256 of them: all or none. */
     public synchronized void install(Collection<SiteId> sites) {
         MemorySegment open = at();

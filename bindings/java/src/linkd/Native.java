@@ -74,6 +74,7 @@ final class Native {
     private static final MethodHandle BIND = status("linkd_bind", JAVA_INT, JAVA_INT, ADDRESS);
     private static final MethodHandle RETIRE = status("linkd_retire", JAVA_INT, ADDRESS);
     private static final MethodHandle RETIRE_ALL = status("linkd_retire_all", ADDRESS, JAVA_LONG, ADDRESS);
+    private static final MethodHandle RELEASE = status("linkd_release", ADDRESS, JAVA_LONG, ADDRESS, JAVA_LONG, ADDRESS);
     private static final MethodHandle INSTALL = status("linkd_install", ADDRESS, JAVA_LONG, ADDRESS);
     private static final MethodHandle INSTALL_LINKS = status("linkd_install_links", ADDRESS, JAVA_LONG, ADDRESS, ADDRESS);
     private static final MethodHandle DROPPED = status("linkd_dropped", ADDRESS, JAVA_LONG, ADDRESS);
@@ -306,6 +307,15 @@ final class Native {
     static int retireAll(MemorySegment at, MemorySegment loaders, long count, MemorySegment told) {
         try {
             return (int) RETIRE_ALL.invokeExact(at, loaders, count, told);
+        } catch (Throwable fault) {
+            throw failed(fault);
+        }
+    }
+
+    static int release(MemorySegment at, MemorySegment callSites, long callSiteCount, MemorySegment switches, long switchCount,
+            MemorySegment told) {
+        try {
+            return (int) RELEASE.invokeExact(at, callSites, callSiteCount, switches, switchCount, told);
         } catch (Throwable fault) {
             throw failed(fault);
         }

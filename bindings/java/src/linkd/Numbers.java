@@ -75,6 +75,7 @@ final class Numbers {
             case 4 -> named(Refusal.Form.values(), number);
             case 6 -> named(Refusal.CallSiteFault.values(), number);
             case 16 -> named(Refusal.DelegateFault.values(), number);
+            case 20 -> named(Refusal.ReleaseFault.values(), number);
             default -> named(Refusal.RetireFault.values(), number);
         };
         return switch (fault) {
@@ -83,6 +84,7 @@ final class Numbers {
             case Refusal.CallSiteFault it -> new Refusal.CallSite(it, place);
             case Refusal.DelegateFault it -> new Refusal.Delegate(it);
             case Refusal.RetireFault it -> new Refusal.Retire(it, place);
+            case Refusal.ReleaseFault it -> new Refusal.Release(it, place);
             case null, default -> new Refusal.Other(status, number);
         };
     }
@@ -91,7 +93,7 @@ final class Numbers {
     private static Refusal refusal(int status, MemorySegment told) {
         int place = place(told);
         return switch (status) {
-            case 1, 4, 6, 16, 19 -> faulty(status, at(told, 1), place);
+            case 1, 4, 6, 16, 19, 20 -> faulty(status, at(told, 1), place);
             case 2 -> Refusal.Plain.UNKNOWN_CLASS;
             case 3 -> Refusal.Plain.NO_SUCH_PLACE;
             case 5 -> Refusal.Plain.SITES_FULL;

@@ -66,6 +66,15 @@ public sealed interface Refusal {
     }
 
     /**
+     * Call sites and switch points aren't released.
+     *
+     * @param fault why not
+     * @param place the call site or the switch point that the fault is about
+     */
+    record Release(ReleaseFault fault, int place) implements Refusal {
+    }
+
+    /**
      * A site of those that were handed in can't be prepared, installed or bound.
      *
      * @param fault why not
@@ -190,6 +199,14 @@ public sealed interface Refusal {
         INHERITED,
         RECORDED,
         TARGETED
+    }
+
+    /** Why call sites and switch points aren't released, by the header's numbers. */
+    enum ReleaseFault {
+        NO_CALL_SITE,
+        NO_SWITCH,
+        INVOKED,
+        GUARDED
     }
 
     /** What is wrong with a site. */

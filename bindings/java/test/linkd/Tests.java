@@ -9,6 +9,7 @@ import java.util.Optional;
 import java.util.concurrent.CompletableFuture;
 import java.util.stream.IntStream;
 import linkd.Refusal.DefineFault;
+import linkd.Refusal.ReleaseFault;
 import linkd.Refusal.RetireFault;
 import linkd.Refusal.SiteFault;
 
@@ -240,6 +241,32 @@ final class Tests {
             same(new Answer.BadReceiver(), linker.call(world.site, c));
             refused(new Refusal.RetireAll(second, RetireFault.NO_LOADER, 0), () -> linker.retireAll(List.of(second)));
             linker.install(List.of(world.site));
+        }
+    }
+
+    /** The first call site's target names a method of loader 1, the second invokes the first, and the third guards by the switch point. */
+    private static void callSitesGoBeforeTheLoaderThatTheyHold() throws Exception {
+        try (World world = World.open()) {
+            Linker linker = world.linker;
+            LoaderId loader = linker.newLoader();
+            linker.delegate(loader, OBJECT, LoaderId.FIRST);
+            ClassId n = linker.define(loader, Written.file("N", OBJECT, new Written.Method(PUBLIC_STATIC, "n", List.of())));
+            SwitchId point = linker.newSwitch();
+            Target method = new Target.Method(world.m, 1);
+            CallSiteId plain = linker.newCallSite(CallSiteKind.MUTABLE, "()V", new Target.Method(n, 0));
+            CallSiteId invoking = linker.newCallSite(CallSiteKind.MUTABLE, "()V", new Target.Invoker(plain));
+            CallSiteId guarded = linker.newCallSite(CallSiteKind.MUTABLE, "()V", new Target.Guard(point, method, method));
+            refused(new Refusal.Retire(RetireFault.TARGETED, plain.number()), () -> linker.retire(loader));
+            refused(new Refusal.Release(ReleaseFault.INVOKED, invoking.number()), () -> linker.release(List.of(plain), List.of()));
+            refused(new Refusal.Release(ReleaseFault.GUARDED, guarded.number()), () -> linker.release(List.of(plain, invoking), List.of(point)));
+            linker.release(List.of(), List.of());
+            linker.release(List.of(plain, invoking, plain), List.of());
+            linker.retire(loader);
+            refused(new Refusal.Release(ReleaseFault.NO_CALL_SITE, invoking.number()), () -> linker.release(List.of(invoking, plain), List.of()));
+            refused(new Refusal.CallSite(Refusal.CallSiteFault.UNKNOWN_CALL_SITE, 0), () -> linker.setTarget(plain, method));
+            same(new CallSiteId(3), linker.newCallSite(CallSiteKind.MUTABLE, "()V", method));
+            linker.release(List.of(guarded), List.of(point));
+            refused(new Refusal.Release(ReleaseFault.NO_SWITCH, point.number()), () -> linker.release(List.of(), List.of(point)));
         }
     }
 
@@ -841,6 +868,7 @@ final class Tests {
                 & passes("later files are defined up to a version", Tests::laterFilesAreDefinedUpToAVersion)
                 & passes("definitions are refused by name", Tests::definitionsAreRefusedByName)
                 & passes("loaders that record each other go at once", Tests::loadersThatRecordEachOtherGoAtOnce)
+                & passes("call sites go before the loader that they hold", Tests::callSitesGoBeforeTheLoaderThatTheyHold)
                 & passes("sites are refused by name", Tests::sitesAreRefusedByName)
                 & passes("a linker has limits of its own", Tests::aLinkerHasLimitsOfItsOwn)
                 & passes("a call site has targets", Tests::aCallSiteHasTargets)

@@ -35,20 +35,23 @@ gone = refl
 
 events_gone : map (gone_of n) (event.NewLoader ∷ event.Define 0 4 ∷ event.Request place ∷ event.NewCallSite Mutable [] (Invoker 1)
     ∷ event.NewCallSite Mutable [] (Invoker 0) ∷ event.SetTarget 1 (Guard 0 (Method m) (Method m)) ∷ event.SetTarget 0 (Guard 0 (Method m) (Method m))
-    ∷ event.SetTarget 0 (Method m) ∷ event.Invalidate (0 ∷ []) ∷ event.Bind 2 1 ∷ event.Install [] ∷ event.Retire 2 ∷ event.RetireAll (2 ∷ []) ∷ [])
-    ≡ None ∷ None ∷ None ∷ Some 1 ∷ None ∷ Some 1 ∷ Some 0 ∷ None ∷ None ∷ Some 1 ∷ None ∷ None ∷ None ∷ []
+    ∷ event.SetTarget 0 (Method m) ∷ event.Invalidate (0 ∷ []) ∷ event.Bind 2 1 ∷ event.Install [] ∷ event.Retire 2 ∷ event.RetireAll (2 ∷ [])
+    ∷ event.Release (1 ∷ []) (0 ∷ []) ∷ [])
+    ≡ None ∷ None ∷ None ∷ Some 1 ∷ None ∷ Some 1 ∷ Some 0 ∷ None ∷ None ∷ Some 1 ∷ None ∷ None ∷ None ∷ None ∷ []
 events_gone = refl
 
 -- a new call site, a new target and a bind, and no other event
 of_call_sites : map is_of_call_site (event.NewLoader ∷ event.Delegate 1 [] 0 ∷ event.Request place ∷ event.NewCallSite Mutable [] (Method m)
-    ∷ event.SetTarget 0 (Method m) ∷ event.NewSwitch ∷ event.Invalidate [] ∷ event.Bind 2 1 ∷ event.Install [] ∷ event.Retire 2 ∷ event.RetireAll (2 ∷ []) ∷ [])
-    ≡ false ∷ false ∷ false ∷ true ∷ true ∷ false ∷ false ∷ true ∷ false ∷ false ∷ false ∷ []
+    ∷ event.SetTarget 0 (Method m) ∷ event.NewSwitch ∷ event.Invalidate [] ∷ event.Bind 2 1 ∷ event.Install [] ∷ event.Retire 2 ∷ event.RetireAll (2 ∷ [])
+    ∷ event.Release (1 ∷ []) (0 ∷ []) ∷ [])
+    ≡ false ∷ false ∷ false ∷ true ∷ true ∷ false ∷ false ∷ true ∷ false ∷ false ∷ false ∷ false ∷ []
 of_call_sites = refl
 
 -- ---- installs, and links that are listed
 
-installs : map installs_of (event.Install ((2, link.Mega) ∷ []) ∷ event.Install [] ∷ event.Retire 2 ∷ event.RetireAll (2 ∷ []) ∷ event.NewSwitch ∷ [])
-    ≡ Some ((2, link.Mega) ∷ []) ∷ Some [] ∷ None ∷ None ∷ None ∷ []
+installs : map installs_of (event.Install ((2, link.Mega) ∷ []) ∷ event.Install [] ∷ event.Retire 2 ∷ event.RetireAll (2 ∷ []) ∷ event.Release (1 ∷ []) []
+    ∷ event.NewSwitch ∷ [])
+    ≡ Some ((2, link.Mega) ∷ []) ∷ Some [] ∷ None ∷ None ∷ None ∷ None ∷ []
 installs = refl
 
 abbrev links : List (Option Link)

@@ -1,12 +1,10 @@
 -- How many receivers the link of a selection looks at. A means of proof.
-use Rattle.std.specs.Prelude.{ℕ, List, [], ◌∷◌, Option, option_and_then, if◌then◌else◌}
+use Rattle.std.specs.Prelude.{ℕ, List, [], ◌∷◌, if◌then◌else◌}
 use Rattle.jl_types.specs.declared.link.TableKind.{TableKind}
 use Rattle.jl_types.specs.declared.link.TableKind.TheVariants.{Virtual, Interface}
 use Rattle.jl_types.specs.declared.key.Key.{Key}
 use Rattle.jl_types.specs.declared.key.Key.TheVariants as key
-use Rattle.jl_types.specs.declared.ids.MethodId.{MethodId}
-use Rattle.jl_types.specs.Values.World.{Classes, Sites}
-use Rattle.jl_types.specs.Linkage.Targets.{method_of}
+use Rattle.jl_types.specs.Values.World.{Classes}
 use Rattle.jl_types.specs.Values.Members.{is_private}
 use Rattle.jl_types.specs.Events.Footprints.{most_by}
 use Rattle.jl_relink.specs.declared.selection.Selection.{Selection}
@@ -17,7 +15,3 @@ keys_by cs s Interface = key.Receivers s.named ∷ []
 
 abbrev pub most_of : Classes → Selection → ℕ
 most_of cs s = most_by cs (keys_by cs s s.kind)
-
--- what runs of a call site to which an invokedynamic is bound, or of none
-abbrev pub method_at : Sites → Option ℕ → Option MethodId
-method_at sites binding = option_and_then (method_of sites) binding

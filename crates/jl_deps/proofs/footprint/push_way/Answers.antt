@@ -1,4 +1,5 @@
-use Rattle.std.proofs.Common.{rules, ◌≡◌, ◌≤◌, ◌<◌, ◌∙◌, ap, sym, Some, None, slice_get}
+use Rattle.std.proofs.Common.{rules, ◌≡◌, ◌≤◌, ◌<◌, ◌∙◌, ap, sym, Some, None}
+use Rattle.jl_types.specs.Values.World.{unreleased}
 use Rattle.jl_types.specs.ForProofs.Whole.{whole}
 use Rattle.jl_types.specs.Events.Footprints.{call_site_in, point_in}
 use Rattle.jl_callsites.proofs.Turns.{fewer_turns}
@@ -20,28 +21,28 @@ returns-then-number-clause-points c =
 pub returns-in_default-clause-call_sites : goal.returns-in_default-clause-call_sites
 returns-in_default-clause-call_sites c =
     let lt : c.in-Invoker.invoked < c.loop-target.call_site = search rules in
-    let at : slice_get c.args.sites.now.call_sites c.in-Invoker.invoked ≡ None = search rules in
+    let at : unreleased c.args.sites.now.call_sites c.in-Invoker.invoked ≡ None = search rules in
     absent_call_site c.args.sites.now c.loop-target.call_site c.in-Invoker.invoked c.loop-target.target.now (sym c.target.view_is ∙ ap whole c.in-Invoker.is)
     lt at c.loop-target.call_sites.items c.push-in-Invoker.new.self.items _ c.in_ok-push-in-Invoker.ensures.items c.loop-target.invariant.call_sites
 
 pub returns-in_default-clause-points : goal.returns-in_default-clause-points
 returns-in_default-clause-points c =
     let lt : c.in-Invoker.invoked < c.loop-target.call_site = search rules in
-    let at : slice_get c.args.sites.now.call_sites c.in-Invoker.invoked ≡ None = search rules in
+    let at : unreleased c.args.sites.now.call_sites c.in-Invoker.invoked ≡ None = search rules in
     absent_point c.args.sites.now c.loop-target.call_site c.in-Invoker.invoked c.loop-target.target.now (sym c.target.view_is ∙ ap whole c.in-Invoker.is)
     lt at c.loop-target.points.items _ c.loop-target.invariant.points
 
 pub loop-target-smaller : goal.loop-target-smaller
 loop-target-smaller c =
     let lt : c.in-Invoker.invoked < c.loop-target.call_site = search rules in
-    let at : slice_get c.args.sites.now.call_sites c.in-Invoker.invoked ≡ Some c.in-Some.found.now = search rules in
+    let at : unreleased c.args.sites.now.call_sites c.in-Invoker.invoked ≡ Some c.in-Some.found.now = search rules in
     fewer_turns c.args.sites.now c.in-Invoker.invoked c.loop-target.call_site c.loop-target.target.now c.target-target.result.now c.in-Some.found.now at
     (sym c.target-target.ensures) lt
 
 pub loop-target-preserved : goal.loop-target-preserved
 loop-target-preserved c =
     let lt : c.in-Invoker.invoked < c.loop-target.call_site = search rules in
-    let at : slice_get c.args.sites.now.call_sites c.in-Invoker.invoked ≡ Some c.in-Some.found.now = search rules in
+    let at : unreleased c.args.sites.now.call_sites c.in-Invoker.invoked ≡ Some c.in-Some.found.now = search rules in
     let rest =
     goes_by c.args.sites.now c.loop-target.call_site c.in-Invoker.invoked c.loop-target.target.now (sym c.target.view_is ∙ ap whole c.in-Invoker.is)
     lt c.in-Some.found.now c.target-target.result.now at c.target-target.ensures

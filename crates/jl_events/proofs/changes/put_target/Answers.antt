@@ -1,7 +1,7 @@
-use Rattle.std.specs.Prelude.{◌≡◌, ◌<◌, true, length, slice_get, option_map}
+use Rattle.std.specs.Prelude.{◌≡◌, true, false, length, option_map}
 use Rattle.std.proofs.Common.{rules, refl, sym, subst}
 use Rattle.jl_types.specs.Values.Target.{Target}
-use Rattle.jl_types.specs.Values.World.{World}
+use Rattle.jl_types.specs.Values.World.{World, unreleased, is_missing}
 use Rattle.jl_types.specs.Events.Verdict.{set_target_fault}
 use Rattle.jl_types.specs.declared.event.Made.TheVariants as made
 use Rattle.jl_types.specs.declared.refusal.Refusal.TheVariants.{CallSite}
@@ -13,7 +13,7 @@ use Rattle.jl_events.proofs.changes.put_target.Goals as goal
 
 pub put_target-requires-clause-there : goal.put_target-requires-clause-there
 put_target-requires-clause-there c =
-    subst (λ (w : World). c.args.site < length w.sites.call_sites) (sym c.world.view_is)
+    subst (λ (w : World). is_missing w.sites.call_sites c.args.site ≡ false) (sym c.world.view_is)
     (target_there c.args.world.now c.args.site c.args.target.now c.requires)
 
 pub put_target-requires-clause-known : goal.put_target-requires-clause-known
@@ -26,7 +26,7 @@ pub returns : goal.returns
 returns c = record {
   made_is = λ m.
       made_so
-      (option_map CallSite (set_target_fault c.args.world.now c.args.site (slice_get c.args.world.now.sites.call_sites c.args.site) c.args.target.now))
+      (option_map CallSite (set_target_fault c.args.world.now c.args.site (unreleased c.args.world.now.sites.call_sites c.args.site) c.args.target.now))
       made.Nothing made.Nothing refl;
   step = search rules;
   constant = subst (λ (w : World). IsConstant w.classes c.world.inside.classes) c.world.view_is (constant_itself c.world.inside.classes);

@@ -65,3 +65,8 @@ pub returns-in-RetireAll-clause-judged : goal.returns-in-RetireAll-clause-judged
 returns-in-RetireAll-clause-judged c =
     as_judged c.args.limits c.args.world.now c.args.event (event.RetireAll c.in-RetireAll.loaders) c.retirement_refusal-refusal.result _ made.Nothing
     c.unless-in-RetireAll.result c.in-RetireAll.is refl (search rules) (c.unless-in-RetireAll.ensures made.Nothing)
+
+pub returns-in-Release-clause-judged : goal.returns-in-Release-clause-judged
+returns-in-Release-clause-judged c =
+    as_judged c.args.limits c.args.world.now c.args.event (event.Release c.in-Release.call_sites c.in-Release.points) c.release_refusal-refusal.result _
+    made.Nothing c.unless-in-Release.result c.in-Release.is refl (search rules) (c.unless-in-Release.ensures made.Nothing)
