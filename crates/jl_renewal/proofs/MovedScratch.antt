@@ -40,7 +40,7 @@ use Rattle.jl_renewal.proofs.ClassPhase.{lookup_there}
 use Rattle.jl_renewal.proofs.MovedLists.{there_is, moved_onto, moved_rises, same_numbers, other_moved, kept_at, shifted_is}
 use Rattle.jl_renewal.proofs.MovedClasses.{finds, live_stays, present_stays, present_same, row_at}
 use Rattle.jl_renewal.proofs.MovedTargets.{call_site_at}
-use Rattle.jl_renewal.proofs.ReleasedRows.{missing_row, present_within, row_kept}
+use Rattle.jl_renewal.proofs.ReleasedRows.{missing_row, present_within as row_within, row_kept}
 use Rattle.jl_renewal.proofs.RenewedSites.{lost_there}
 use Rattle.jl_renewal.proofs.MovedRetiring.{ancestor_was}
 use Rattle.jl_renewal.proofs.MovedCarries.{number_at}
@@ -304,7 +304,7 @@ module _ (k : Flags) (w : World) (rests : Rests k w) (names : Names k w) (fit : 
       let known = first_none (then_some (is_missing w.sites.switches p) UnknownSwitch) _ none in
       let left = first_none (part_fault w c ty first) _ known.1 in
       let right = first_none (part_fault w c ty fallback) [] left.1 in
-      let there = present_within w.sites.switches p (test_none (is_missing w.sites.switches p) UnknownSwitch known.0) in
+      let there = row_within w.sites.switches p (test_none (is_missing w.sites.switches p) UnknownSwitch known.0) in
       let point = ap (λ (o : Option ℕ). unwrap_or o 0) (sym (number_at k.switches (length w.sites.switches) p there)) in
       let x = target_alike c lt ty first left.0 in
       let y = target_alike c lt ty fallback right.0 in
@@ -355,6 +355,6 @@ module _ (k : Flags) (w : World) (rests : Rests k w) (names : Names k w) (fit : 
         let q = there_is (moved k.switches p) (guard_there k site.target p (names.targets c site at stays) h) in
         ap (λ (o : Option Bool). option_map_or (λ valid. valid) o false)
         (ap (unreleased v.sites.switches) (ap (λ (o : Option ℕ). unwrap_or o 0)
-        (number_at k.switches (length w.sites.switches) p (present_within w.sites.switches p there) ∙ q.1))
+        (number_at k.switches (length w.sites.switches) p (row_within w.sites.switches p there) ∙ q.1))
         ∙ row_kept k.switches w.sites.switches p q.0 q.1);
   }
