@@ -1,5 +1,5 @@
 -- What a call site that stays runs is under new numbers what it ran.
-use Rattle.std.specs.Prelude.{◌≡◌, ◌<◌, ◌+◌, ◌==◌, ◌||◌, ℕ, zero, suc, Bool, true, false, not, nat_le, nat_lt, List, [], length, slice_get}
+use Rattle.std.specs.Prelude.{◌≡◌, ◌<◌, ◌+◌, ◌==◌, ◌||◌, ℕ, zero, suc, Bool, true, false, not, nat_le, nat_lt, List, []}
 use Rattle.std.specs.Prelude.{Option, Some, None, option_map, option_and_then, if◌then◌else◌}
 use Rattle.std.specs.Bool.{then_some}
 use Rattle.std.proofs.Common.{refl, sym, ap, subst, ◌∙◌, arith}
@@ -121,7 +121,8 @@ module _ (n : Numbers) (w v : World) (stays : ℕ → Bool) (same : SitesAlike n
 
     part_same : (t : Target)
         → ((p : ℕ) → is_missing w.sites.switches p ≡ false → guards_by p t ≡ true → is_valid v.sites (renumbered n.switches p) ≡ is_valid w.sites p)
-        → ((d : ℕ) → d < c → is_missing w.sites.call_sites d ≡ false → invokes d t ≡ true → now (Invoker d) ≡ option_map (renumbered_method n) (before (Invoker d)))
+        → ((d : ℕ) → d < c → is_missing w.sites.call_sites d ≡ false → invokes d t ≡ true
+        → now (Invoker d) ≡ option_map (renumbered_method n) (before (Invoker d)))
         → part_fault w c ty t ≡ None → now t ≡ option_map (renumbered_method n) (before t)
     part_same (Method m) valid earlier none = refl
     part_same (Guard p first fallback) valid earlier none =

@@ -127,7 +127,8 @@ read_sites w n =
     (read_some (new_call_site w.sites n)
     (λ c. read_then
     (λ (k : ℕ). option_map (λ (site : CallSite). event.NewCallSite site.kind site.ty (renumbered_target n site.target)) (unreleased w.sites.call_sites c))
-    (λ k. read_map (λ (site : CallSite). event.NewCallSite site.kind site.ty (renumbered_target n site.target)) (λ site. refl) (unreleased w.sites.call_sites c))
+    (λ k. read_map (λ (site : CallSite). event.NewCallSite site.kind site.ty (renumbered_target n site.target)) (λ site. refl)
+    (unreleased w.sites.call_sites c))
     (new_number n.call_sites c)) (range_with_len 0 (length w.sites.call_sites)))
     (read_both (filter_map (request n) w.places) (filter_map (binding n) w.bindings)
     (read_some (request n) (λ place. read_map (λ (c : ℕ). event.Request (record place { class = c })) (λ c. refl) (new_number n.classes place.class)) w.places)

@@ -29,7 +29,8 @@ use Rattle.jl_relink.proofs.Closing.{no_fault, free_loader, free_loaders}
 use Rattle.jl_renewal.proofs.Fit.{AllAccepted, IsFit}
 use Rattle.jl_renewal.proofs.FitParts.{StaysPresent, StayNamed, all_named, none_placed}
 use Rattle.jl_renewal.proofs.FitClasses.{fit_with_loader, fit_delegated, fit_defined, fit_retired}
-use Rattle.jl_renewal.proofs.FitSites.{classes_fit, with_classes_fit, with_sites_fit, new_call_site_fit, set_target_fit, with_switches_fit, request_fit, bind_fit}
+use Rattle.jl_renewal.proofs.FitSites.{classes_fit, with_classes_fit, with_sites_fit, new_call_site_fit, set_target_fit, with_switches_fit}
+use Rattle.jl_renewal.proofs.FitSites.{request_fit, bind_fit}
 use Rattle.jl_renewal.proofs.ReleasedRows.{row_at, row_left, row_stays, present_more, present_invalidated}
 
 -- what targets name stays where no class goes, and neither call sites nor switch points change

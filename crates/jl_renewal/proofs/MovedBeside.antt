@@ -1,6 +1,6 @@
 -- A fresh core that stands beside the old one takes what that has accepted, and stands beside it then.
 use Rattle.std.specs.Prelude.{◌≡◌, ℕ, ◌+◌, ◌≤◌, ◌<◌, Bool, true, false, List, [], ◌∷◌, ◌++◌, map, length, take}
-use Rattle.std.specs.Prelude.{position, slice_get, slice_set, get_or, Option, Some, None, option_map, Result, Ok, Err, IsOk, is_ok, not, is_some, if◌then◌else◌}
+use Rattle.std.specs.Prelude.{position, slice_set, get_or, Option, Some, None, option_map, Result, Ok, Err, IsOk, is_ok, not, is_some, if◌then◌else◌}
 use Rattle.std.specs.List.{list_all, list_any}
 use Rattle.std.specs.Option.{option_map_or}
 use Rattle.std.proofs.Common.{refl, sym, ap, subst, subst₂, ◌∙◌, arith, inl, inr, length-append}

@@ -1,12 +1,12 @@
 -- A release is accepted in the fresh core without those that are gone, and leads there to what it has led to in the old one.
-use Rattle.std.specs.Prelude.{◌≡◌, ℕ, ◌||◌, Bool, true, false, List, filter_map, map, Option, Some, option_map, is_some, IsOk}
+use Rattle.std.specs.Prelude.{◌≡◌, ℕ, ◌||◌, Bool, true, false, List, filter_map, map, Some, option_map, is_some, IsOk}
 use Rattle.std.specs.List.{list_any}
 use Rattle.std.proofs.Common.{refl, sym, ap, ◌∙◌}
 use Rattle.jl_types.specs.declared.limits.Limits.{Limits}
 use Rattle.jl_types.specs.declared.event.EventOf.TheVariants as event
 use Rattle.jl_types.specs.declared.refusal.Refusal.TheVariants as refusal
 use Rattle.jl_types.specs.Values.Target.{Target, Method, Guard, Invoker}
-use Rattle.jl_types.specs.Values.World.{World, CallSite, unreleased, is_missing}
+use Rattle.jl_types.specs.Values.World.{World, CallSite, unreleased}
 use Rattle.jl_types.specs.Events.Retirement.{is_listed}
 use Rattle.jl_types.specs.Events.Release.{invokes_one, guards_by_one, release_fault, without}
 use Rattle.jl_types.specs.Events.Verdict.{verdict}

@@ -1,6 +1,6 @@
 -- A retirement, be it of several loaders at once, is accepted in the fresh core, and leads there to what it has led to in the old one.
 use Rattle.std.specs.Prelude.{◌≡◌, ℕ, zero, suc, ◌+◌, ◌<◌, ◌⊎◌, ◌==◌, ◌&&◌, ◌||◌, not, Bool, true, false, List, [], ◌∷◌, ◌++◌, map, find}
-use Rattle.std.specs.Prelude.{nat_le, nat_lt, length, slice_get, slice_set, filter_map, Option, Some, None, option_map, option_to_list, is_none, is_ok, IsOk}
+use Rattle.std.specs.Prelude.{nat_lt, length, slice_get, slice_set, filter_map, Option, Some, None, option_map, option_to_list, is_none, is_ok, IsOk}
 use Rattle.std.specs.Prelude.{if◌then◌else◌}
 use Rattle.std.specs.Bool.{then_some}
 use Rattle.std.specs.List.{AllByRecursion, cons_option, list_any, range_with_len}

@@ -37,7 +37,7 @@ use Rattle.jl_renewal.proofs.AlikeLaws.{are_alike}
 use Rattle.jl_renewal.proofs.AlikeSites.{SitesAlike}
 use Rattle.jl_renewal.proofs.AlikeClasses.{present_row}
 use Rattle.jl_renewal.proofs.ClassPhase.{lookup_there}
-use Rattle.jl_renewal.proofs.MovedLists.{there_is, moved_onto, moved_rises, same_numbers, other_moved, kept_at, shifted_is}
+use Rattle.jl_renewal.proofs.MovedLists.{there_is, moved_onto, moved_rises, same_numbers, kept_at, shifted_is}
 use Rattle.jl_renewal.proofs.MovedClasses.{finds, live_stays, present_stays, present_same, row_at}
 use Rattle.jl_renewal.proofs.MovedTargets.{call_site_at}
 use Rattle.jl_renewal.proofs.ReleasedRows.{missing_row, present_within as row_within, row_kept}

@@ -1,6 +1,6 @@
 -- Events of call sites, switch points, places and bindings are accepted in the fresh core, and lead there to what they have led to in the
 -- old one.
-use Rattle.std.specs.Prelude.{◌≡◌, ℕ, zero, suc, ◌<◌, ◌≤◌, ◌==◌, ◌&&◌, ◌||◌, not, nat_le, Bool, true, false, List, [], ◌∷◌, ◌++◌, map, filter_map}
+use Rattle.std.specs.Prelude.{◌≡◌, ℕ, zero, suc, ◌≤◌, ◌==◌, ◌&&◌, ◌||◌, not, nat_le, Bool, true, false, List, [], ◌∷◌, ◌++◌, map, filter_map}
 use Rattle.std.specs.Prelude.{length, slice_get, slice_set, find, position, get_or, Option, Some, None, option_map, option_and_then, is_some, is_none, is_ok}
 use Rattle.std.specs.Prelude.{Err, IsOk, if◌then◌else◌}
 use Rattle.std.specs.Bool.{then_some}

@@ -98,7 +98,8 @@ module _ (k : ℕ) where
   of_call_site sites n c =
       calm_then
       (λ (k : ℕ). option_map (λ (site : CallSite). event.NewCallSite site.kind site.ty (renumbered_target n site.target)) (unreleased sites.call_sites c))
-      (λ k. calm_map (λ (site : CallSite). event.NewCallSite site.kind site.ty (renumbered_target n site.target)) (λ site. refl) (unreleased sites.call_sites c))
+      (λ k. calm_map (λ (site : CallSite). event.NewCallSite site.kind site.ty (renumbered_target n site.target)) (λ site. refl)
+      (unreleased sites.call_sites c))
       (new_number n.call_sites c)
 
   abbrev last : World → Numbers → List Event

@@ -2,7 +2,7 @@
 use Rattle.std.specs.Prelude.{◌≡◌, ◌<◌, ◌⊎◌, ℕ, zero, suc, Bool, true, false, List, [], ◌∷◌, ◌++◌, map, filter_map, length, slice_get}
 use Rattle.std.specs.Prelude.{slice_set, Option, Some, None, option_map, option_and_then, is_none, if◌then◌else◌}
 use Rattle.std.specs.List.{cons_option}
-use Rattle.std.proofs.Common.{refl, sym, ap, ◌∙◌, arith, inl, inr}
+use Rattle.std.proofs.Common.{refl, sym, ap, ◌∙◌, inl, inr}
 use Rattle.jl_types.specs.Values.World.{unreleased, is_missing}
 use Rattle.jl_types.specs.Events.Retirement.{is_listed}
 use Rattle.jl_types.specs.Events.Release.{without}

@@ -1,6 +1,7 @@
 -- Worked renewals: three loaders, of which one is retired that another one found classes through; call sites, switch points, links;
 -- what its owner has let go; what is released; and what comes after a renewal.
-use Rattle.std.specs.Prelude.{◌≡◌, ℕ, Bool, true, false, ◌&&◌, List, [], ◌∷◌, ◌++◌, map, filter_map, fold, Option, Some, None, option_map, is_some, is_ok, Err, codes, refl}
+use Rattle.std.specs.Prelude.{◌≡◌, ℕ, Bool, true, false, ◌&&◌, List, [], ◌∷◌, ◌++◌, map, filter_map, fold, Option, Some, None}
+use Rattle.std.specs.Prelude.{option_map, is_some, is_ok, Err, codes, refl}
 use Rattle.std.proofs.Common.{arith}
 use Rattle.jl_types.specs.declared.limits.Limits.{Limits}
 use Rattle.jl_types.specs.declared.refusal.Refusal.TheVariants.{SitesFull, LoadersFull}

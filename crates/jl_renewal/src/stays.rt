@@ -1,6 +1,7 @@
 //! What stays.
 
-ghost use Rattle.std.specs.Prelude.{◌≡◌, ◌≤◌, ◌<◌, ◌^◌, ◌&&◌, false, not, map, length, get_or, slice_set, if◌then◌else◌, nat_lt, None, option_copied, IfOk, IfErr, OnOk};
+ghost use Rattle.std.specs.Prelude.{◌≡◌, ◌≤◌, ◌<◌, ◌^◌, ◌&&◌, false, not, map, length, get_or, slice_set, nat_lt};
+ghost use Rattle.std.specs.Prelude.{if◌then◌else◌, None, option_copied, IfOk, IfErr, OnOk};
 ghost use Rattle.std.specs.Bool.{then_some};
 ghost use Rattle.std.specs.List.{list_any, range_with_len};
 ghost use Rattle.jl_types.specs.Values.Members as members;
