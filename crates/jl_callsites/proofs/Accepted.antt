@@ -1,22 +1,19 @@
 -- What an event of call sites or switch points finds there that no fault speaks against.
-use Rattle.std.specs.Prelude.{◌≡◌, ℕ, ◌<◌, Bool, true, false, not, ◌&&◌, ◌||◌, nat_lt, nat_le, List, [], ◌∷◌, length, find, Option, Some, None, is_none}
-use Rattle.std.specs.Prelude.{option_map}
+use Rattle.std.specs.Prelude.{◌≡◌, ℕ, ◌<◌, Bool, true, false, not, ◌&&◌, ◌||◌, nat_lt, nat_le, List, [], ◌∷◌, length, Option, Some, None, is_none}
 use Rattle.std.specs.Prelude.{if◌then◌else◌}
 use Rattle.std.specs.Bool.{then_some}
 use Rattle.std.specs.List.{list_any}
 use Rattle.std.proofs.Common.{refl, ap}
 use Rattle.std.proofs.lemmas.Bool.{and_from, leb-false, lt-ltb}
 use Rattle.jl_types.specs.declared.refusal.CallSiteFault.TheVariants.{UnknownCallSite, WrongType, UnknownSwitch, TooDeep, Full, Constant, InvokerOrder}
-use Rattle.jl_types.specs.declared.refusal.ReleaseFault.TheVariants.{UnknownCallSite as UnknownSite, UnknownSwitch as UnknownPoint}
 use Rattle.jl_types.specs.Values.Target.{Target, Method, Guard, Invoker, depth}
-use Rattle.jl_types.specs.Values.World.{World, CallSite, Sites, unreleased, is_missing}
+use Rattle.jl_types.specs.Values.World.{World, CallSite, unreleased, is_missing}
 use Rattle.jl_types.specs.Linkage.Resolution.{first_of}
 use Rattle.jl_types.specs.Linkage.Targets.{parts, invokes_type, part_fault, target_fault}
-use Rattle.jl_types.specs.Events.Release.{release_fault}
 use Rattle.jl_types.specs.Events.Verdict.{is_constant, new_call_site_fault, set_target_fault, invalidate_fault}
 use Rattle.jl_types.proofs.Firsts.{first_none, test_none}
 use Rattle.jl_callsites.specs.Known.{is_known}
-use Rattle.jl_callsites.proofs.Rows.{was_made, all_made, none_passes}
+use Rattle.jl_callsites.proofs.Rows.{was_made, all_made}
 
 points_in_part : (w : World) (c : ℕ) (ty : List ℕ) (t : Target) → part_fault w c ty t ≡ None → is_known (length w.sites.switches) c t ≡ true
 points_in_part w c ty (Method m) e = refl
@@ -64,22 +61,3 @@ module _ (w : World) (c : ℕ) (t : Target) where
 
 pub points_there : (w : World) (points : List ℕ) → invalidate_fault w points ≡ None → list_any (nat_le (length w.sites.switches)) points ≡ false
 points_there w points e = all_made w.sites.switches points (test_none (list_any (is_missing w.sites.switches) points) UnknownSwitch e)
-
--- ---- a release
-
-no_option : {A B : Type 0} (F : A → B) (o : Option A) → option_map F o ≡ None → o ≡ None
-no_option F None e = refl
-no_option F (Some x) e = cc
-
-module _ (sites : Sites) (call_sites points : List ℕ) (e : release_fault sites call_sites points ≡ None) where
-  first : (find (is_missing sites.call_sites) call_sites ≡ None) × (find (is_missing sites.switches) points ≡ None)
-  first =
-      let site = first_none (option_map UnknownSite (find (is_missing sites.call_sites) call_sites)) _ e in
-      let point = first_none (option_map UnknownPoint (find (is_missing sites.switches) points)) _ site.1 in
-      (no_option UnknownSite (find (is_missing sites.call_sites) call_sites) site.0, no_option UnknownPoint (find (is_missing sites.switches) points) point.0)
-
-  pub released_there : list_any (is_missing sites.call_sites) call_sites ≡ false
-  released_there = none_passes (is_missing sites.call_sites) call_sites first.0
-
-  pub released_points : list_any (is_missing sites.switches) points ≡ false
-  released_points = none_passes (is_missing sites.switches) points first.1

@@ -1,6 +1,6 @@
 -- Where no call site stays that needs a marked one, nothing speaks against a release.
 use Rattle.std.specs.Prelude.{◌≡◌, ℕ, zero, suc, Bool, true, false, not, ◌||◌, ◌==◌, nat_le, List, [], ◌∷◌, length, find, replicate, slice_get, slice_set}
-use Rattle.std.specs.Prelude.{Option, Some, None}
+use Rattle.std.specs.Prelude.{Option, Some, None, option_map}
 use Rattle.std.specs.List.{list_any, range_with_len}
 use Rattle.std.specs.Option.{option_map_or}
 use Rattle.std.proofs.Common.{refl, ap, sym, subst, ◌∙◌, inl, inr}
@@ -10,11 +10,13 @@ use Rattle.std.proofs.lemmas.List.{length-set, length-replicate}
 use Rattle.jl_types.specs.declared.refusal.ReleaseFault.TheVariants.{UnknownCallSite, UnknownSwitch, Invoked, Guarded}
 use Rattle.jl_types.specs.Values.Target.{Target, Method, Guard, Invoker}
 use Rattle.jl_types.specs.Values.World.{Sites, CallSite, unreleased, is_missing}
+use Rattle.jl_types.specs.Linkage.Resolution.{first_of}
 use Rattle.jl_types.specs.Events.Retirement.{is_listed, has_target}
 use Rattle.jl_types.specs.Events.Release.{invokes_one, guards_by_one, stays_with, first_with, release_fault}
+use Rattle.jl_types.proofs.Retiring.{none_found}
 use Rattle.jl_types.proofs.Bools.{first_test, second_test, or_none}
 use Rattle.jl_callsites.specs.Marks.{with_marks, marked, is_marked, needs_marked, stays_needing, first_marked}
-use Rattle.jl_callsites.proofs.Rows.{set_same, set_other, all_made, none_passes, none_else}
+use Rattle.jl_callsites.proofs.Rows.{set_same, set_other, all_made, none_else}
 
 -- ---- what is marked is what is listed
 
@@ -114,10 +116,10 @@ module _ (sites : Sites) (going points : List ℕ) (marks switches : List Bool) 
 module _ (sites : Sites) (going points : List ℕ) (there : find (is_missing sites.call_sites) going ≡ None)
     (there_points : find (is_missing sites.switches) points ≡ None) where
   pub made : list_any (nat_le (length sites.call_sites)) going ≡ false
-  made = all_made sites.call_sites going (none_passes (is_missing sites.call_sites) going there)
+  made = all_made sites.call_sites going (none_found (is_missing sites.call_sites) going there)
 
   pub points_made : list_any (nat_le (length sites.switches)) points ≡ false
-  points_made = all_made sites.switches points (none_passes (is_missing sites.switches) points there_points)
+  points_made = all_made sites.switches points (none_found (is_missing sites.switches) points there_points)
 
   abbrev pub marks : List Bool
   marks = marked (length sites.call_sites) going
@@ -133,3 +135,9 @@ module _ (sites : Sites) (going points : List ℕ) (there : find (is_missing sit
         none_with sites going points marks switches same same_points (invokes_one going) (invoking sites going points marks switches same same_points) none,
         none_with sites going points marks switches same same_points (guards_by_one points) (guarding sites going points marks switches same same_points) none,
       )
+
+  pub nothing_against : first_marked sites marks switches ≡ None → release_fault sites going points ≡ None
+  nothing_against none =
+      let staying = none_needs none in
+      (λ i. first_of (option_map UnknownCallSite (there i) ∷ option_map UnknownSwitch (there_points i) ∷ option_map Invoked (staying.0 i)
+      ∷ option_map Guarded (staying.1 i) ∷ []))

@@ -1,13 +1,11 @@
 -- Rows of call sites and switch points, of which some may be released.
-use Rattle.std.specs.Prelude.{◌≡◌, ◌≢◌, ℕ, zero, suc, ◌<◌, Bool, true, false, cond, ◌||◌, nat_le, List, [], ◌∷◌, length, find, slice_get, slice_set}
+use Rattle.std.specs.Prelude.{◌≡◌, ◌≢◌, ℕ, zero, suc, ◌<◌, Bool, true, false, cond, not, ◌||◌, nat_lt, nat_le, List, [], ◌∷◌, length, find, slice_get, slice_set}
 use Rattle.std.specs.Prelude.{Option, Some, None, is_none, option_and_then}
 use Rattle.std.specs.List.{list_any}
 use Rattle.std.proofs.Common.{refl, ap, ◌∙◌, arith}
-use Rattle.std.proofs.lemmas.Bool.{both_ways, lt-leb}
+use Rattle.std.proofs.lemmas.Bool.{both_ways, lt-leb, lt-ltb}
 use Rattle.std.proofs.lemmas.Option.{slice_get_within}
-use Rattle.std.proofs.lemmas.List.{length-set}
 use Rattle.jl_types.specs.Values.World.{is_missing}
-use Rattle.jl_types.specs.Events.Release.{without}
 
 pub set_same : {A : Type 0} (xs : List A) (c : ℕ) (x : A) → c < length xs → slice_get (slice_set xs c x) c ≡ Some x
 set_same [] c x lt = absurd (omega arith)
@@ -29,6 +27,16 @@ was_made {A = A} rows k = by_row (slice_get rows k) refl
     by_row None at e = cc
     by_row (Some row) at e = slice_get_within rows k row at
 
+-- by a test that it isn't missing
+pub made_where_there : {A : Type 0} (rows : List (Option A)) (k : ℕ) (there : Bool) → there ≡ not (is_missing rows k) → not there ≡ false
+    → nat_lt k (length rows) ≡ true
+made_where_there rows k true is e = lt-ltb k (length rows) (was_made rows k (by_test (is_missing rows k) is))
+  where
+    by_test : (b : Bool) → true ≡ not b → b ≡ false
+    by_test true h = cc
+    by_test false h = refl
+made_where_there rows k false is e = cc
+
 pub all_made : {A : Type 0} (rows : List (Option A)) (ks : List ℕ) → list_any (is_missing rows) ks ≡ false → list_any (nat_le (length rows)) ks ≡ false
 all_made rows [] none = refl
 all_made rows (k ∷ ks) none = by_test (is_missing rows k) refl none (all_made rows ks)
@@ -40,16 +48,7 @@ all_made rows (k ∷ ks) none = by_test (is_missing rows k) refl none (all_made 
     by_test false is e rest =
         ap (λ (b : Bool). b || list_any (nat_le (length rows)) ks) (lt-leb (length rows) k (was_made rows k is)) ∙ rest e
 
--- none is found, so none passes
-pub none_passes : {A : Type 0} (p : A → Bool) (xs : List A) → find p xs ≡ None → list_any p xs ≡ false
-none_passes p [] none = refl
-none_passes p (x ∷ xs) none = by_test (p x) none (none_passes p xs)
-  where
-    by_test : (b : Bool) → cond b (Some x) (find p xs) ≡ None → (find p xs ≡ None → list_any p xs ≡ false) → (b || list_any p xs) ≡ false
-    by_test true e rest = cc
-    by_test false e rest = rest e
-
--- nor is one found of those that pass another test, whose passing leads to the first
+-- where none passes a test, none passes another one whose passing leads to it
 pub none_else : {A : Type 0} (p q : A → Bool) (xs : List A) → ((x : A) → q x ≡ true → p x ≡ true) → find p xs ≡ None → find q xs ≡ None
 none_else p q [] leads none = refl
 none_else p q (x ∷ xs) leads none = by_tests (q x) (p x) refl refl none (none_else p q xs leads)
@@ -60,8 +59,3 @@ none_else p q (x ∷ xs) leads none = by_tests (q x) (p x) refl refl none (none_
     by_tests true false at is e rest = absurd (both_ways (p x) is (leads x at))
     by_tests false true at is e rest = cc
     by_tests false false at is e rest = rest e
-
--- none loses its number
-pub as_many_left : {A : Type 0} (rows : List (Option A)) (going : List ℕ) → length (without rows going) ≡ length rows
-as_many_left rows [] = refl
-as_many_left rows (k ∷ going) = as_many_left (slice_set rows k None) going ∙ length-set rows k None

@@ -142,14 +142,14 @@ impl Sites {
         }
     }
 
-    /// The call sites and switch points, which are there, are let go. Takes no memory.
+    /// The call sites and switch points, which are there, are let go. They keep their numbers. Takes no memory.
     pub fn put_released(&mut self, call_sites: &[CallSiteId], points: &[SwitchId])
         requires call_sites { list_any (is_missing self.old.call_sites) call_sites.now ≡ false }
         requires points { list_any (is_missing self.old.switches) points.now ≡ false }
         ensures { self.new ≡ release.released_from self.old call_sites.now points.now }
     {
-        release_sites(self.call_sites.as_mut_slice(), call_sites);
-        release_switches(self.switches.as_mut_slice(), points);
+        release_sites_in(&mut self.call_sites, call_sites);
+        release_switches_in(&mut self.switches, points);
     }
 }
 
@@ -265,6 +265,22 @@ fn mark_switches(marks: &mut [bool], listed: &[SwitchId])
 }
 
 /// These call sites are let go.
+fn release_sites_in(rows: &mut Vec<Option<CallSite>>, going: &[CallSiteId])
+    requires { list_any (nat_le (length rows.old.items)) going.now ≡ false }
+    ensures { rows.new.items ≡ release.without rows.old.items going.now }
+{
+    release_sites(rows.as_mut_slice(), going);
+}
+
+/// These switch points are let go.
+fn release_switches_in(rows: &mut Vec<Option<bool>>, going: &[SwitchId])
+    requires { list_any (nat_le (length rows.old.items)) going.now ≡ false }
+    ensures { rows.new.items ≡ release.without rows.old.items going.now }
+{
+    release_switches(rows.as_mut_slice(), going);
+}
+
+/// The same in a slice.
 fn release_sites(rows: &mut [Option<CallSite>], going: &[CallSiteId])
     requires { list_any (nat_le (length rows.old)) going.now ≡ false }
     ensures { rows.new ≡ release.without rows.old going.now }
@@ -274,7 +290,7 @@ fn release_sites(rows: &mut [Option<CallSite>], going: &[CallSiteId])
     }
 }
 
-/// These switch points are let go.
+/// The same in a slice.
 fn release_switches(rows: &mut [Option<bool>], going: &[SwitchId])
     requires { list_any (nat_le (length rows.old)) going.now ≡ false }
     ensures { rows.new ≡ release.without rows.old going.now }

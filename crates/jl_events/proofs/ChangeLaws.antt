@@ -18,6 +18,7 @@ use Rattle.jl_types.specs.Events.Definitions.{define_fault, delegate_fault}
 use Rattle.jl_types.specs.Events.Retirement.{MayRetire}
 use Rattle.jl_types.specs.Events.Release.{release_fault}
 use Rattle.jl_types.proofs.Retiring.{may_retire}
+use Rattle.jl_types.proofs.Releasing.{may_release}
 use Rattle.jl_relink.proofs.Closing.{free_loader, free_loaders}
 use Rattle.jl_types.specs.Events.Verdict.{unless, new_call_site_fault, set_target_fault, invalidate_fault, bind_fault, install_fault}
 use Rattle.jl_types.proofs.Within.{room_below, definition_has_room}
@@ -120,7 +121,7 @@ module _ (w : World) where
         (no_fault (option_map refusal.Release (release_fault w.sites call_sites points)) made.Nothing ok.accepted)
 
     pub released_there : list_any (is_missing w.sites.call_sites) call_sites ≡ false
-    released_there = free.released_there w.sites call_sites points release_free
+    released_there = (may_release w.sites call_sites points release_free).call_sites
 
     pub released_points : list_any (is_missing w.sites.switches) points ≡ false
-    released_points = free.released_points w.sites call_sites points release_free
+    released_points = (may_release w.sites call_sites points release_free).switches
