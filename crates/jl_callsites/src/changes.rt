@@ -162,8 +162,7 @@ impl Sites {
         ensures err { OnErr result (self.new ≡ self.old) }
     {
         let site = CallSiteId::new(self.call_site_count() as u32);
-        self.call_sites
-            .push(Some(CallSite::new(kind, ty, target)))?;
+        self.call_sites.push(Some(CallSite::new(kind, ty, target)))?;
         Ok(site)
     }
 

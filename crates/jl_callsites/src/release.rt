@@ -57,7 +57,10 @@ impl Sites {
     fn first_missing_switch(&self, points: &[SwitchId]) -> Option<SwitchId>
         ensures { result ≡ find (is_missing self.now.switches) points.now }
     {
-        points.iter().copied().find(|point| !self.has_switch(*point))
+        points
+            .iter()
+            .copied()
+            .find(|point| !self.has_switch(*point))
     }
 
     /// The number of the least call site that stays and invokes one of these.
@@ -218,11 +221,7 @@ fn is_marked(marks: &[bool], number: u32) -> bool
 }
 
 /// A mark for each of so many call sites: whether it is listed. Want of memory is an error.
-fn marked_sites(
-    alloc: Global,
-    count: usize,
-    listed: &[CallSiteId],
-) -> Result<Vec<bool>, AllocError>
+fn marked_sites(alloc: Global, count: usize, listed: &[CallSiteId]) -> Result<Vec<bool>, AllocError>
     requires { list_any (nat_le count) listed.now ≡ false }
     ensures { IfOk result (λ marks. marks.items ≡ marking.marked count listed.now) }
 {
