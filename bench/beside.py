@@ -5,8 +5,8 @@
 
 The old core is the model of drawn_world.py, and the fresh one is another, made by the events of specs/Renewal. After each event that the old
 one accepts and that names nothing that is gone, the fresh one has to accept it under the new numbers; its world is the old one as the flags of
-specs/Moved move it, its numbers are those that the flags tell, and of each site of a present class the link from scratch, the installed link
-and calls are the old ones under new numbers. Status 1 says where that isn't so.
+specs/Moved move it, its numbers are those that the flags tell, and of each site that isn't gone the link from scratch, the installed link and
+calls are the old ones under new numbers. Status 1 says where that isn't so.
 """
 import argparse
 import sys
@@ -42,17 +42,17 @@ def names_of(target):
 def flags_of(w, released_sites, released_points):
     loaders = [k not in w.retired for k in range(len(w.records))]
     classes = [w.present(k) is not None for k in range(len(w.classes))]
-    sites = [not w.is_gone(s) for s in range(len(w.places))]
-    calls = [c not in released_sites for c in range(len(w.call_sites))]
+    sites = [not w.is_in_retired(s) for s in range(len(w.places))]
+    calls = [w.has_call_site(c) and c not in released_sites for c in range(len(w.call_sites))]
     for s, c in w.bindings.items():
-        if sites[s]:
+        if sites[s] and w.has_call_site(c):
             calls[c] = True
     for c in reversed(range(len(calls))):
         if calls[c]:
             for kind, d in names_of(w.call_sites[c]["target"]):
                 if kind == "callsite":
                     calls[d] = True
-    points = [p not in released_points for p in range(len(w.switches))]
+    points = [w.has_switch(p) and p not in released_points for p in range(len(w.switches))]
     for c, one in enumerate(w.call_sites):
         if calls[c]:
             for kind, p in names_of(one["target"]):
@@ -71,6 +71,16 @@ def target_by(number, target):
         return None if c is None else {"invoker": c}
     c = number("class", target["method"][0])
     return None if c is None else {"method": [c, target["method"][1]]}
+
+
+def staying(number, kind, numbers):
+    """The new numbers of those that aren't gone."""
+    return [new for new in (number(kind, old) for old in numbers) if new is not None]
+
+
+def call_site_by(number, one):
+    """The call site under new numbers, or none where it is released."""
+    return one and {**one, "target": target_by(lambda kind, k: number(kind, k) or 0, one["target"])}
 
 
 def event_by(number, e):
@@ -94,7 +104,9 @@ def event_by(number, e):
         c, t = number("callsite", e["callsite"]), target_by(number, e["target"])
         return None if c is None or t is None else {**e, "callsite": c, "target": t}
     if do == "invalidate":
-        return {**e, "switches": [q for q in (number("switch", p) for p in e["switches"]) if q is not None]}
+        return {**e, "switches": staying(number, "switch", e["switches"])}
+    if do == "release":
+        return {**e, "callsites": staying(number, "callsite", e["callsites"]), "switches": staying(number, "switch", e["switches"])}
     assert do == "bind", do
     s, c = number("site", e["site"]), number("callsite", e["callsite"])
     return None if s is None or c is None else {**e, "site": s, "callsite": c}
@@ -112,7 +124,7 @@ def shown(w, flags):
         "places": [(number("class", one.number) or 0, method, pc) for one, method, pc in of("site", w.places)],
         "bindings": sorted((number("site", s), number("callsite", c)) for s, c in w.bindings.items()
                            if number("site", s) is not None and number("callsite", c) is not None),
-        "callsites": [{**one, "target": target_by(lambda kind, k: number(kind, k) or 0, one["target"])} for one in of("callsite", w.call_sites)],
+        "callsites": [call_site_by(number, one) for one in of("callsite", w.call_sites)],
         "switches": of("switch", w.switches),
     }
 
@@ -158,13 +170,18 @@ def renewal(w, log, flags):
         yield {"do": "invalidate", "switches": points}
     for c, one in enumerate(w.call_sites):
         if flags["callsite"][c]:
-            yield {"do": "callsite", **one, "target": target_by(lambda kind, k: number(kind, k) or 0, one["target"])}
+            yield {"do": "callsite", **call_site_by(number, one)}
     for one, method, pc in w.places:
         if number("class", one.number) is not None:
             yield {"do": "request", "class": number("class", one.number), "method": method, "pc": pc}
     for s, c in w.bindings.items():
-        if number("site", s) is not None:
+        if number("site", s) is not None and number("callsite", c) is not None:
             yield {"do": "bind", "site": number("site", s), "callsite": number("callsite", c)}
+
+
+def lost(w):
+    """How many sites are bound to a released call site."""
+    return sum(not w.has_call_site(c) for c in w.bindings.values())
 
 
 def apply(world, e):
@@ -196,6 +213,8 @@ def run(seed, events, counts):
         if r is not None and w.switches and draws.is_one_in(16):
             # Any point, those among them that are gone in the fresh core.
             line = {"do": "invalidate", "switches": [draws.below(len(w.switches))]}
+        elif w.call_sites and draws.is_one_in(12):
+            line = draws.release()
         number = None if r is None else lambda kind, k: numbers[kind][k] if k < len(numbers[kind]) else None
         if line["do"] in ("call", "links", "prepare"):
             w.answer(line)
@@ -213,6 +232,7 @@ def run(seed, events, counts):
             there = None if r is None else event_by(number, line)
             if line["do"] == "invalidate" and there is not None and len(there["switches"]) < len(line["switches"]):
                 counts["invalidations of what is gone"] += 1
+            was_lost = lost(w)
             try:
                 if r is not None and there is None and line["do"] in CALL_SITE_EVENTS:
                     counts["names what is gone"] += 1
@@ -221,6 +241,7 @@ def run(seed, events, counts):
             except Refused:
                 continue
             w.settle()
+            counts["sites whose call site went"] += lost(w) - was_lost
             log.append(line)
             if r is None:
                 continue

@@ -157,7 +157,7 @@ static void measure_lambdas(linkd *at, uint32_t count, uint32_t linked) {
     must(linkd_retire(at, loaders[0], &told) == LINKD_RETIRE && told.fault == LINKD_TARGETED, "a lambda holds its loader");
     install_all(at, linked);
     double before = milliseconds();
-    must(linkd_release(at, call_sites, count * CLASSES * LAMBDAS, NULL, 0, &told) == LINKD_DONE, "release");
+    must(linkd_release(at, call_sites, count * CLASSES * LAMBDAS, loaders, 0, &told) == LINKD_DONE, "release");
     double between = milliseconds();
     must(linkd_retire_all(at, loaders, count, &told) == LINKD_DONE, "retire_all of loaders with lambdas");
     printf("%u loaders with %u lambdas each: %.3f ms to release, %.3f ms to retire\n", (unsigned)count, (unsigned)(CLASSES * LAMBDAS),

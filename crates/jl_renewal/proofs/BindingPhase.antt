@@ -114,7 +114,7 @@ module _ (limits : Limits) (w : World) (released : Released) where
             (call_site_gone w released b.1 (not-false (is_missing w.sites.call_sites b.1) both))
             ∙ nothing (new_number n.sites b.0)
           where
-            nothing : (o : Option ℕ) → option_and_then (λ (s : ℕ). option_map (event.Bind s) None) o ≡ None
+            nothing : (o : Option ℕ) → option_and_then {U = Event} (λ (s : ℕ). option_map (event.Bind s) None) o ≡ None
             nothing None = refl
             nothing (Some s) = refl
 

@@ -1,5 +1,5 @@
 -- What a call site that stays runs is under new numbers what it ran.
-use Rattle.std.specs.Prelude.{◌≡◌, ◌<◌, ◌+◌, ◌==◌, ◌||◌, ℕ, zero, suc, Bool, true, false, not, nat_le, nat_lt, List, [], length, slice_get}
+use Rattle.std.specs.Prelude.{◌≡◌, ◌<◌, ◌+◌, ◌==◌, ◌||◌, ℕ, zero, suc, Bool, true, false, not, nat_le, nat_lt, List, []}
 use Rattle.std.specs.Prelude.{Option, Some, None, option_map, option_and_then, if◌then◌else◌}
 use Rattle.std.specs.Bool.{then_some}
 use Rattle.std.proofs.Common.{refl, sym, ap, subst, ◌∙◌, arith}
@@ -15,12 +15,13 @@ use Rattle.jl_types.specs.Values.Members.{is_present, method_test}
 use Rattle.jl_types.specs.Linkage.Targets.{parts, is_valid, run_by, run_below, evaluated, method_of, may_be_named, part_fault}
 use Rattle.jl_types.proofs.Bools.{first_test}
 use Rattle.jl_types.proofs.Firsts.{first_none, test_none}
+use Rattle.jl_types.proofs.Releasing.{unreleased_within}
 use Rattle.jl_callsites.proofs.Walks.{invoked_runs}
 use Rattle.jl_renewal.specs.Numbers.{Numbers, renumbered, renumbered_target}
 use Rattle.jl_renewal.specs.Staying.{invokes, guards_by}
 use Rattle.jl_renewal.specs.Renewed.{renumbered_method}
 use Rattle.jl_renewal.proofs.AlikeSites.{SitesAlike}
-use Rattle.jl_renewal.proofs.ReleasedRows.{row_there, row_within}
+use Rattle.jl_renewal.proofs.ReleasedRows.{row_there}
 
 -- ---- what a target that would be taken names
 
@@ -120,7 +121,8 @@ module _ (n : Numbers) (w v : World) (stays : ℕ → Bool) (same : SitesAlike n
 
     part_same : (t : Target)
         → ((p : ℕ) → is_missing w.sites.switches p ≡ false → guards_by p t ≡ true → is_valid v.sites (renumbered n.switches p) ≡ is_valid w.sites p)
-        → ((d : ℕ) → d < c → is_missing w.sites.call_sites d ≡ false → invokes d t ≡ true → now (Invoker d) ≡ option_map (renumbered_method n) (before (Invoker d)))
+        → ((d : ℕ) → d < c → is_missing w.sites.call_sites d ≡ false → invokes d t ≡ true
+        → now (Invoker d) ≡ option_map (renumbered_method n) (before (Invoker d)))
         → part_fault w c ty t ≡ None → now t ≡ option_map (renumbered_method n) (before t)
     part_same (Method m) valid earlier none = refl
     part_same (Guard p first fallback) valid earlier none =
@@ -148,7 +150,7 @@ module _ (n : Numbers) (w v : World) (stays : ℕ → Bool) (same : SitesAlike n
       (λ d lt d_there invoked.
       let d_stays = same.invoked c d site here.1 c_stays lt d_there invoked in
       invoked_runs v.sites (renumbered n.call_sites c) (renumbered n.call_sites d)
-      (same.order d c d_stays c_stays lt (row_within w.sites.call_sites c site here.1))
+      (same.order d c d_stays c_stays lt (unreleased_within w.sites.call_sites c site here.1))
       ∙ (earlier d lt d_stays d_there ∙ ap (option_map (renumbered_method n)) (sym (invoked_runs w.sites c d lt))))
       (part_taken c site here.1)
       ∙ sym (ap (λ (o : Option CallSite). option_map (renumbered_method n) (option_and_then (λ site. evaluated w.sites c site.target) o)) here.1))

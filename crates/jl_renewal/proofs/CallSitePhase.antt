@@ -111,7 +111,7 @@ module _ (limits : Limits) (w : World) (released : Released) (fit : IsFit w)
       let stay = element_at stays k (omega (arith, lt, total)) in
       by_test here.0 here.1 stay.0 stay.1
     where
-      abbrev made_of : Option CallSiteRow → ℕ → Option Event
+      made_of : Option CallSiteRow → ℕ → Option Event
       made_of row j = option_map (λ site. event.NewCallSite site.kind site.ty (renumbered_target n site.target)) row
 
       goes : (row : Option CallSiteRow) → slice_get all k ≡ Some row → slice_get stays k ≡ Some false

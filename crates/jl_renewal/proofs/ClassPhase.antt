@@ -73,6 +73,7 @@ loaders_step w (event.Bind s c) = omega arith
 loaders_step w (event.Install rows) = omega arith
 loaders_step w (event.Retire l) = let same = length_emptied w.classes.loaders (l ∷ []) in omega (arith, same)
 loaders_step w (event.RetireAll loaders) = let same = length_emptied w.classes.loaders loaders in omega (arith, same)
+loaders_step w (event.Release call_sites points) = omega arith
 
 pub loaders_after : (es : List Event) (w : World) → length w.classes.loaders ≤ length (fold step w es).classes.loaders
 loaders_after [] w = omega arith
@@ -476,6 +477,7 @@ module _ (old_limits : Limits) (h : List Event) (released : Released) (closed : 
   each front (event.Install rows) rest split = quiet front (event.Install rows) rest split refl
   each front (event.Retire l) rest split = retire_step front l rest split
   each front (event.RetireAll loaders) rest split = retire_all_step front loaders rest split
+  each front (event.Release call_sites points) rest split = quiet front (event.Release call_sites points) rest split refl
 
   pub classes_lead : Leads limits (G []) (filter_map (class_event w n) h) (G h)
   classes_lead = leads_through limits (class_event w n) G h each

@@ -13,7 +13,7 @@ use Rattle.jl_types.specs.declared.limits.Limits.{Limits}
 use Rattle.jl_types.specs.declared.answer.Unlinked.{Unlinked}
 use Rattle.jl_types.specs.declared.event.EventOf.TheVariants as event
 use Rattle.jl_types.specs.declared.link.Link.{Link}
-use Rattle.jl_types.specs.Values.World.{World, CallSite, nothing_yet}
+use Rattle.jl_types.specs.Values.World.{World, CallSite, nothing_yet, unreleased}
 use Rattle.jl_types.specs.Linkage.Links.{scratch}
 use Rattle.jl_types.specs.Events.Event.{Event}
 use Rattle.jl_types.specs.Events.Verdict.{verdict, step}
@@ -44,7 +44,8 @@ use Rattle.jl_renewal.proofs.FitLaws.{fit_after}
 use Rattle.jl_renewal.proofs.LinkLaws.{links_come}
 use Rattle.jl_renewal.proofs.QuietLaws.{IsQuiet, is_quiet}
 use Rattle.jl_renewal.proofs.ScratchLaws.{scratch_same}
-use Rattle.jl_renewal.proofs.RenewedSites.{is_set, in_class, sites_alike}
+use Rattle.jl_renewal.proofs.LinkClasses.{linked_alive}
+use Rattle.jl_renewal.proofs.RenewedSites.{is_set, sites_alike}
 use Rattle.jl_renewal.proofs.RenewalPhases.{renewal_leads}
 use Rattle.jl_renewal.proofs.RoomLaws.{as_many, has_as_many, has_room}
 
@@ -104,6 +105,7 @@ read_class w n (event.Bind s c) is = refl
 read_class w n (event.Install rows) is = refl
 read_class w n (event.Retire loader) is = refl
 read_class w n (event.RetireAll loaders) is = refl
+read_class w n (event.Release call_sites points) is = refl
 
 read_classes : (w : World) (n : Numbers) (es : List Event) → AreRead es → AreRead (filter_map (class_event w n) es)
 read_classes w n [] all = refl
@@ -124,8 +126,9 @@ read_sites w n =
     (read_both (new_call_sites w.sites n) (filter_map (request n) w.places ++ filter_map (binding n) w.bindings)
     (read_some (new_call_site w.sites n)
     (λ c. read_then
-    (λ (k : ℕ). option_map (λ (site : CallSite). event.NewCallSite site.kind site.ty (renumbered_target n site.target)) (slice_get w.sites.call_sites c))
-    (λ k. read_map (λ (site : CallSite). event.NewCallSite site.kind site.ty (renumbered_target n site.target)) (λ site. refl) (slice_get w.sites.call_sites c))
+    (λ (k : ℕ). option_map (λ (site : CallSite). event.NewCallSite site.kind site.ty (renumbered_target n site.target)) (unreleased w.sites.call_sites c))
+    (λ k. read_map (λ (site : CallSite). event.NewCallSite site.kind site.ty (renumbered_target n site.target)) (λ site. refl)
+    (unreleased w.sites.call_sites c))
     (new_number n.call_sites c)) (range_with_len 0 (length w.sites.call_sites)))
     (read_both (filter_map (request n) w.places) (filter_map (binding n) w.bindings)
     (read_some (request n) (λ place. read_map (λ (c : ℕ). event.Request (record place { class = c })) (λ c. refl) (new_number n.classes place.class)) w.places)
@@ -185,7 +188,7 @@ module _ (old : State) (released : Released) (accepted : AreAccepted old.limits 
     comes =
         let stays = some_stays (staying_sites w.classes w.places) s k has in
         ap (scratch (renewed w released)) (some_is (staying_sites w.classes w.places) s k has ∙ sym (renumbered_is (staying_sites w.classes w.places) s stays))
-        ∙ (scratch_same n w (renewed w released) (is_set (staying_call_sites w released)) (sites_alike w released fit alike) s (in_class w s stays)
+        ∙ (scratch_same n w (renewed w released) (is_set (staying_call_sites w released)) (sites_alike w released fit alike) s (linked_alive w fit s m now)
         ∙ ap (renumbered_result n) now)
 
   -- a fresh core that has accepted events which install nothing and lead to what stays, and then the links

@@ -20,6 +20,7 @@ use Rattle.jl_types.specs.Events.History.{world_after}
 use Rattle.jl_types.proofs.Lists.{element_at}
 use Rattle.jl_types.proofs.Orders.{IsGood, world_good}
 use Rattle.jl_types.proofs.Places.{world_more}
+use Rattle.jl_types.proofs.Releasing.{MayRelease, may_release, length_without}
 use Rattle.jl_types.proofs.Retiring.{present_after, one_of_any, AreFree, untargeted}
 use Rattle.jl_hierarchy.proofs.Closed.{present_still}
 use Rattle.jl_events.proofs.AcceptedLaws.{rows_stay}
@@ -28,9 +29,9 @@ use Rattle.jl_relink.proofs.Closing.{no_fault, free_loader, free_loaders}
 use Rattle.jl_renewal.proofs.Fit.{AllAccepted, IsFit}
 use Rattle.jl_renewal.proofs.FitParts.{StaysPresent, StayNamed, all_named, none_placed}
 use Rattle.jl_renewal.proofs.FitClasses.{fit_with_loader, fit_delegated, fit_defined, fit_retired}
-use Rattle.jl_renewal.proofs.FitSites.{classes_fit, with_classes_fit, with_sites_fit, new_call_site_fit, set_target_fit, with_switches_fit, request_fit, bind_fit}
-use Rattle.jl_renewal.proofs.ReleasedRows.{row_at, row_left, row_stays, length_without, present_more, present_invalidated}
-use Rattle.jl_renewal.proofs.Releasing.{MayRelease, may_release}
+use Rattle.jl_renewal.proofs.FitSites.{classes_fit, with_classes_fit, with_sites_fit, new_call_site_fit, set_target_fit, with_switches_fit}
+use Rattle.jl_renewal.proofs.FitSites.{request_fit, bind_fit}
+use Rattle.jl_renewal.proofs.ReleasedRows.{row_at, row_left, row_stays, present_more, present_invalidated}
 
 -- what targets name stays where no class goes, and neither call sites nor switch points change
 same_sites : (w : World) (cs : Classes) → ((c : ℕ) → StaysPresent w (with_classes w cs) c) → (t : Target) → StayNamed w (with_classes w cs) t
@@ -96,13 +97,13 @@ module _ (w : World) (call_sites points : List ℕ) (fit : IsFit w) (may : MayRe
 
   released_fit : IsFit (record w { sites = those_left })
   released_fit =
-      let long = length_without w.sites.call_sites call_sites in
+      let long = length_without call_sites w.sites.call_sites in
       with_sites_fit w fit those_left (omega (arith, long))
       (λ c after lt at. (after, (row_left w.sites.call_sites call_sites c after at).1, refl))
       (λ c site at.
       let before = row_left w.sites.call_sites call_sites c site at in (
         fit.targets c site before.1,
-        unnamed_stay site.target (may.invoked c site before.0 before.1) (may.guarded c site before.0 before.1),
+        unnamed_stay site.target (may.uninvoked c site before.1 before.0) (may.unguarded c site before.1 before.0),
       ))
 
 -- ---- each event

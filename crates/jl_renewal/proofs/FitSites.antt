@@ -34,13 +34,14 @@ use Rattle.jl_types.specs.Events.Verdict.{is_constant, new_call_site_fault, set_
 use Rattle.jl_types.specs.Events.Verdict.{bind_fault, with_classes, with_call_sites, with_switches}
 use Rattle.jl_types.proofs.Firsts.{first_none, test_none}
 use Rattle.jl_types.proofs.Lists.{before_end}
+use Rattle.jl_types.proofs.Releasing.{unreleased_within}
 use Rattle.jl_events.proofs.CallSiteLaws.{free_to_bind, no_fault}
 use Rattle.jl_renewal.proofs.Fit.{IsInvoked, IsBinding, IsFit}
 use Rattle.jl_renewal.proofs.FitClasses.{AreFit}
 use Rattle.jl_renewal.proofs.FitParts.{at_more, once_more, none_found, none_mapped}
 use Rattle.jl_renewal.proofs.FitParts.{GoesOn, StaysPoint, StaysCallSite, StayNamed, all_named, invoked_still, binding_still, taken_still}
 use Rattle.jl_renewal.proofs.MovedLists.{length_set}
-use Rattle.jl_renewal.proofs.ReleasedRows.{row_there, not_missing, row_within, row_more, row_before, row_set, present_set}
+use Rattle.jl_renewal.proofs.ReleasedRows.{row_there, not_missing, row_more, row_before, row_set, present_set}
 
 -- ---- one element is another
 
@@ -308,7 +309,7 @@ module _ (w : World) (fit : IsFit w) where
           requested = requested;
           at = at;
           dynamic = dynamic;
-          within = row_within w.sites.call_sites c row there;
+          within = unreleased_within w.sites.call_sites c row there;
           type = λ other other_there.
               ap (λ (one : CallSite). bytes_eq one.ty specifier.ty) (same_Some other row (sym other_there ∙ there))
               ∙ not-false (bytes_eq row.ty specifier.ty) (test_none (not (bytes_eq row.ty specifier.ty)) refusal.TypeMismatch e);

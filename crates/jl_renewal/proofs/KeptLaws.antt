@@ -39,6 +39,7 @@ untold w n (event.Bind s c) f = refl
 untold w n (event.Install links) f = refl
 untold w n (event.Retire loader) f = refl
 untold w n (event.RetireAll loaders) f = refl
+untold w n (event.Release call_sites points) f = refl
 
 pub told_by_kept : (w : World) (n : Numbers) (log kept : List Entry)
     → (front back : List Entry) × (front ++ back ≡ log) × (kept ≡ filter is_kept front ++ back)

@@ -70,6 +70,8 @@ pub mod MovedTargets
 pub mod MovedSites
 pub mod MovedSteps
 pub mod MovedRetiring
+pub mod MovedNames
+pub mod MovedReleasing
 pub mod MovedEvents
 pub mod MovedRests
 pub mod MovedRecords
@@ -79,7 +81,6 @@ pub mod MovedLaw
 pub mod MovedNumbers
 pub mod MovedCarries
 pub mod MovedGone
-pub mod MovedNames
 pub mod MovedScratch
 pub mod MovedBeside
 pub mod MovedLinks

@@ -1,9 +1,10 @@
 -- The classes that a link from scratch names are present.
-use Rattle.std.specs.Prelude.{◌≡◌, ℕ, zero, suc, nat_le, Bool, true, false, ⊤, All, List, [], ◌∷◌, map, length, Result, Ok, Err, if◌then◌else◌}
+use Rattle.std.specs.Prelude.{◌≡◌, ℕ, zero, suc, nat_le, Bool, true, false, not, ⊤, All, List, [], ◌∷◌, map, length, Result, Ok, Err, if◌then◌else◌}
 use Rattle.std.specs.Option.{option_map_or}
 use Rattle.std.specs.List.{list_all}
 use Rattle.std.specs.Prelude.{slice_get, Option, Some, None}
-use Rattle.std.proofs.Common.{refl, arith}
+use Rattle.std.proofs.Common.{refl, sym, ap, ◌∙◌, arith}
+use Rattle.std.proofs.lemmas.Bool.{and_from}
 use Rattle.jl_types.specs.declared.ids.MethodId.{MethodId}
 use Rattle.jl_types.specs.declared.ids.Place.{Place}
 use Rattle.jl_types.specs.declared.answer.Outcome.{Outcome}
@@ -21,12 +22,13 @@ use Rattle.jl_types.specs.Linkage.Selection.{virtual_outcome, interface_outcome,
 use Rattle.jl_types.specs.Linkage.Stages.{Selector, ByVirtual, ByInterface, BySpecial, ResolvedCall, Stage, Waits, Fails, Calls, Selects}
 use Rattle.jl_types.specs.Linkage.Stages.{invocation_at, stage_of, stage_at, stage}
 use Rattle.jl_types.specs.Linkage.Links.{outcome_by, table_rows, table_or_mega, runs, virtual_link, link_by, link_of, scratch}
-use Rattle.jl_renewal.specs.Numbers.{Numbers}
-use Rattle.jl_renewal.specs.Staying.{is_in_staying_class}
+use Rattle.jl_renewal.specs.Numbers.{Numbers, renumbered}
+use Rattle.jl_renewal.specs.Staying.{is_in_staying_class, has_lost_call_site, is_alive}
+use Rattle.jl_renewal.proofs.Fit.{IsFit}
 use Rattle.jl_renewal.proofs.Alike.{AreAlike}
 use Rattle.jl_renewal.proofs.AlikeSites.{SitesAlike}
 use Rattle.jl_renewal.proofs.SelectionLaws.{virtual_present, interface_present, special_present}
-use Rattle.jl_renewal.proofs.StageLaws.{IsCallThere, IsStageThere, stage_there}
+use Rattle.jl_renewal.proofs.StageLaws.{IsCallThere, IsStageThere, stage_there, lost_is_gone, lost_waits}
 
 abbrev Row : Type 0
 Row = ℕ × Outcome
@@ -124,3 +126,30 @@ linked_in_class w s l is = by_place (slice_get w.places s) is
     by_place : (o : Option Place) → link_of w.classes (stage_at w s o) ≡ Ok l → option_map_or (λ place. is_present w.classes place.class) o false ≡ true
     by_place None e = cc
     by_place (Some place) e = by_test place (is_present w.classes place.class) e
+
+-- that isn't gone
+pub linked_alive : (w : World) → IsFit w → (s : ℕ) (l : Link) → scratch w s ≡ Ok l → is_alive w s ≡ true
+linked_alive w fit s l is =
+    let kept = linked_in_class w s l is in
+    and_from (is_in_staying_class w s) _ kept (ap not (by_call_site kept (has_lost_call_site w s) refl))
+  where
+    by_call_site : is_in_staying_class w s ≡ true → (b : Bool) → has_lost_call_site w s ≡ b → b ≡ false
+    by_call_site kept false lost = refl
+    by_call_site kept true lost = unlinked (sym (ap (link_of w.classes) (lost_is_gone w fit s kept lost)) ∙ is)
+      where
+        unlinked : ◌≡◌ {A = Result Link Unlinked} (Err Gone) (Ok l) → true ≡ false
+        unlinked e = cc
+
+-- nor is it gone in the old world where it has one in the fresh one
+pub linked_there_alive : (n : Numbers) (w v : World) (stays : ℕ → Bool) → SitesAlike n w v stays → (s : ℕ) (l : Link) → is_in_staying_class w s ≡ true
+    → scratch v (renumbered n.sites s) ≡ Ok l → is_alive w s ≡ true
+linked_there_alive n w v stays same s l kept is =
+    and_from (is_in_staying_class w s) _ kept (ap not (by_call_site (has_lost_call_site w s) refl))
+  where
+    by_call_site : (b : Bool) → has_lost_call_site w s ≡ b → b ≡ false
+    by_call_site false lost = refl
+    by_call_site true lost =
+        let waits = lost_waits n w v stays same s kept lost in unlinked waits.0 (sym (ap (link_of v.classes) waits.1) ∙ is)
+      where
+        unlinked : (reason : Unlinked) → ◌≡◌ {A = Result Link Unlinked} (Err reason) (Ok l) → true ≡ false
+        unlinked reason e = cc

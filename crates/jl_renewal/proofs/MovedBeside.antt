@@ -1,6 +1,6 @@
 -- A fresh core that stands beside the old one takes what that has accepted, and stands beside it then.
 use Rattle.std.specs.Prelude.{◌≡◌, ℕ, ◌+◌, ◌≤◌, ◌<◌, Bool, true, false, List, [], ◌∷◌, ◌++◌, map, length, take}
-use Rattle.std.specs.Prelude.{position, slice_get, slice_set, get_or, Option, Some, None, Result, Ok, Err, IsOk, is_ok, not, is_some, if◌then◌else◌}
+use Rattle.std.specs.Prelude.{position, slice_set, get_or, Option, Some, None, option_map, Result, Ok, Err, IsOk, is_ok, not, is_some, if◌then◌else◌}
 use Rattle.std.specs.List.{list_all, list_any}
 use Rattle.std.specs.Option.{option_map_or}
 use Rattle.std.proofs.Common.{refl, sym, ap, subst, subst₂, ◌∙◌, arith, inl, inr, length-append}
@@ -21,7 +21,7 @@ use Rattle.jl_types.specs.declared.event.Reply.{Reply}
 use Rattle.jl_types.specs.declared.link.Link.{Link}
 use Rattle.jl_types.specs.declared.refusal.Refusal.{Refusal}
 use Rattle.jl_types.specs.declared.refusal.Refusal.TheVariants.{UnknownClass}
-use Rattle.jl_types.specs.Values.World.{World, CallSite, nothing_yet}
+use Rattle.jl_types.specs.Values.World.{World, CallSite, nothing_yet, unreleased}
 use Rattle.jl_types.specs.Values.Target.{Target}
 use Rattle.jl_types.specs.Values.Members.{lookup, is_present, is_retired}
 use Rattle.jl_types.specs.Linkage.Stages.{invocation_at}
@@ -33,10 +33,10 @@ use Rattle.jl_types.specs.Events.Verdict.{verdict, step, unless, same_place, req
 use Rattle.jl_types.specs.Events.History.{world_after, dropped}
 use Rattle.jl_types.specs.Values.Ancestry.{AreOrdered}
 use Rattle.jl_types.proofs.Orders.{world_good}
+use Rattle.jl_types.proofs.Releasing.{length_without}
 use Rattle.jl_types.proofs.Places.{world_more, accepted_of}
 use Rattle.jl_relink.specs.Laws.{AreAccepted, has_read_file, IsInOrder}
 use Rattle.jl_relink.proofs.InOrder.{accepted_in_order}
-use Rattle.jl_relink.proofs.Paths.{invalidated_length}
 use Rattle.jl_core.specs.State.{State, events, world_of, IsAccepted}
 use Rattle.jl_renewal.specs.declared.released.Released.{Released}
 use Rattle.jl_renewal.specs.Numbers.{Numbers}
@@ -51,6 +51,7 @@ use Rattle.jl_renewal.proofs.ClassPhase.{loaders_after}
 use Rattle.jl_renewal.proofs.FitLaws.{fit_after}
 use Rattle.jl_renewal.proofs.MovedScratch.{sites_alike}
 use Rattle.jl_renewal.proofs.FitParts.{at_more}
+use Rattle.jl_renewal.proofs.ReleasedRows.{length_invalidated}
 use Rattle.jl_renewal.proofs.StayLaws.{call_sites_length, switches_length}
 use Rattle.jl_renewal.proofs.MovedLists.{moved_end, length_set, length_emptied}
 use Rattle.jl_renewal.proofs.MovedClasses.{invocation_same}
@@ -104,9 +105,10 @@ module _ (k : Flags) (w : World) (rests : Rests k w) where
   delegated_length loader name (Some c) = record_length w.classes.loaders loader name c
 
   retargeted_length : (c : ℕ) (t : Target) (o : Option CallSite)
-      → length (option_map_or (λ site. slice_set w.sites.call_sites c (record site { target = t })) o w.sites.call_sites) ≡ length w.sites.call_sites
+      → length (option_map_or (λ site. slice_set w.sites.call_sites c (Some (record site { target = t }))) o w.sites.call_sites)
+      ≡ length w.sites.call_sites
   retargeted_length c t None = refl
-  retargeted_length c t (Some site) = length_set w.sites.call_sites c (record site { target = t })
+  retargeted_length c t (Some site) = length_set w.sites.call_sites c (Some (record site { target = t }))
 
   module _ (limits more : Limits) where
     -- ---- a request
@@ -194,19 +196,20 @@ module _ (k : Flags) (w : World) (rests : Rests k w) where
         (λ i. with_made n (given_is _ (made.CallSite (length w.sites.call_sites)) old eo i)
         (made_number (given_is _ (made.CallSite (length v.sites.call_sites)) new (ap (verdict more v) u.2 ∙ en) i)))
         ∙ ap (λ (numbers : List (Option ℕ)). record n { call_sites = numbers })
-        (noted (moved_call_site k) k.call_sites w.sites.call_sites (record { kind = kind; ty = ty; target = t }) rests.few_call_sites)
+        (noted (option_map (moved_call_site k)) k.call_sites w.sites.call_sites (Some (record { kind = kind; ty = ty; target = t }))
+        rests.few_call_sites)
     all_noted (event.SetTarget c t) f old new there eo en =
         none_made _ old new (all_numbers k (step w (event.SetTarget c t))) eo
-        (ap (λ (count : ℕ). record n { call_sites = numbers_there k.call_sites count }) (sym (retargeted_length c t (slice_get w.sites.call_sites c))))
+        (ap (λ (count : ℕ). record n { call_sites = numbers_there k.call_sites count }) (sym (retargeted_length c t (unreleased w.sites.call_sites c))))
     all_noted event.NewSwitch f old new there eo en =
         (λ i. with_made n (given_is _ (made.Switch (length w.sites.switches)) old eo i)
         (made_number (given_is _ (made.Switch (length v.sites.switches)) new (ap (verdict more v) (same_Some event.NewSwitch f there) ∙ en) i)))
         ∙ ap (λ (numbers : List (Option ℕ)). record n { switches = numbers })
         (new_is_noted k.switches (length w.sites.switches) (Some (length v.sites.switches)) (moved_end k.switches w.sites.switches rests.few_switches)
-        ∙ ap (numbers_there k.switches) (sym (counted w.sites.switches true)))
+        ∙ ap (numbers_there k.switches) (sym (counted w.sites.switches (Some true))))
     all_noted (event.Invalidate points) f old new there eo en =
         none_made _ old new (all_numbers k (step w (event.Invalidate points))) eo
-        (ap (λ (count : ℕ). record n { switches = numbers_there k.switches count }) (sym (invalidated_length w.sites.switches points)))
+        (ap (λ (count : ℕ). record n { switches = numbers_there k.switches count }) (sym (length_invalidated w.sites.switches points)))
     all_noted (event.Bind s c) f old new there eo en = none_made _ old new (all_numbers k (step w (event.Bind s c))) eo refl
     all_noted (event.Install rows) f old new there eo en = cc
     all_noted (event.Retire loader) f old new there eo en =
@@ -215,6 +218,12 @@ module _ (k : Flags) (w : World) (rests : Rests k w) where
     all_noted (event.RetireAll loaders) f old new there eo en =
         none_made _ old new (all_numbers k (step w (event.RetireAll loaders))) eo
         (with_loaders (length (emptied w.classes.loaders loaders)) (length_emptied w.classes.loaders loaders))
+    all_noted (event.Release call_sites points) f old new there eo en =
+        none_made _ old new (all_numbers k (step w (event.Release call_sites points))) eo
+        (λ i. record n {
+          call_sites = numbers_there k.call_sites (sym (length_without call_sites w.sites.call_sites) i);
+          switches = numbers_there k.switches (sym (length_without points w.sites.switches) i);
+        })
 
 -- ---- one event of an old core, and of a fresh one beside it
 
@@ -246,7 +255,7 @@ module _ (k : Flags) (old fresh : State) (n : Numbers) (beside : IsBeside k old 
   is_there = event_is_there k w old.limits e f ok (ap (λ (m : Numbers). carried m e) (sym beside.numbers) ∙ carries)
 
   follows : Follows fresh.limits k w e f
-  follows = each_follows k w beside.rests (fit_after old.limits (events old) beside.accepted.each) order.classes.closed order.classes.ordered
+  follows = each_follows k w beside.rests beside.names (fit_after old.limits (events old) beside.accepted.each) order.classes.closed order.classes.ordered
       old.limits fresh.limits beside.limit e f is_there ok
 
   pub taken : IsOk (verdict fresh.limits (world_of fresh) f)
@@ -284,7 +293,7 @@ module _ (k : Flags) (old fresh : State) (n : Numbers) (beside : IsBeside k old 
       accepted = subst (λ (limits : Limits). AreAccepted limits (events after)) (sym old_limit)
           (subst (AreAccepted old.limits) (sym old_events) (one_more_accepted old.limits (events old) e beside.accepted ok read));
       rests = subst (Rests k) (sym old_world) (rests_after k w beside.rests old.limits e ok);
-      names = subst (Names k) (sym old_world) (names_after k w beside.names e f is_there);
+      names = subst (Names k) (sym old_world) (names_after k w beside.rests beside.names e f is_there);
       limit = subst₂ AreNoFewer (sym old_limit) (sym fresh_limit) beside.limit;
       world = fresh_world ∙ (ap (λ (v : World). step v f) beside.world ∙ (follows.after ∙ ap (moved_world k) (sym old_world)));
       numbers = made_there.numbers ∙ (ap (λ (ns : Numbers). with_made ns reply.made (made_number made_there.reply.made)) beside.numbers

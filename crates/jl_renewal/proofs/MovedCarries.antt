@@ -3,26 +3,29 @@ use Rattle.std.specs.Prelude.{◌≡◌, ℕ, ◌+◌, ◌<◌, ◌==◌, nat_le
 use Rattle.std.specs.Prelude.{Option, Some, None, option_map, option_and_then, IsOk}
 use Rattle.std.specs.List.{cons_option, list_any}
 use Rattle.std.proofs.Common.{refl, sym, ap, ◌∙◌, arith}
-use Rattle.std.proofs.lemmas.Bool.{or_parts, or_from, or_left, or_right, leb-false}
+use Rattle.std.proofs.lemmas.Bool.{or_parts, or_from, or_left, or_right, leb-false, lt-leb}
 use Rattle.std.proofs.lemmas.Cmp.{nat_eq_equiv}
 use Rattle.std.proofs.lemmas.Option.{slice_get_within}
 use Rattle.jl_types.specs.declared.limits.Limits.{Limits}
 use Rattle.jl_types.specs.declared.event.EventOf.TheVariants as event
 use Rattle.jl_types.specs.declared.refusal.CallSiteFault.TheVariants as fault
-use Rattle.jl_types.specs.declared.refusal.Refusal.TheVariants.{CallSite}
+use Rattle.jl_types.specs.declared.refusal.Refusal.TheVariants.{CallSite, Release}
 use Rattle.jl_types.specs.Values.Target.{Target, Method, Guard, Invoker}
-use Rattle.jl_types.specs.Values.World.{World}
+use Rattle.jl_types.specs.Values.World.{World, is_missing}
 use Rattle.jl_types.specs.Values.Members.{is_retired}
 use Rattle.jl_types.specs.Events.Event.{Event}
 use Rattle.jl_types.specs.Events.Definitions.{is_unknown}
 use Rattle.jl_types.specs.Events.Retirement.{is_listed}
+use Rattle.jl_types.specs.Events.Release.{release_fault}
 use Rattle.jl_types.specs.Events.Verdict.{verdict, invalidate_fault}
 use Rattle.jl_types.proofs.Firsts.{test_none}
+use Rattle.jl_types.proofs.Releasing.{may_release}
 use Rattle.jl_types.proofs.Retiring.{may_retire, is_free as free_to_retire}
 use Rattle.jl_relink.proofs.Closing.{no_fault, free_loaders}
 use Rattle.jl_renewal.specs.Numbers.{Numbers, new_number}
 use Rattle.jl_renewal.specs.Carries.{carried, carried_target, guarded}
 use Rattle.jl_renewal.specs.Moved.{Flags, moved, target_there, event_there, numbers_there, all_numbers}
+use Rattle.jl_renewal.proofs.ReleasedRows.{present_within}
 use Rattle.jl_renewal.proofs.MovedNumbers.{many_there, mapped}
 use Rattle.jl_renewal.proofs.MovedTargets.{inv_map, inv_then}
 
@@ -91,6 +94,14 @@ module _ (k : Flags) (w : World) where
       (known l (or_left (l == l) (is_listed loaders l) (nat_eq_equiv.refl l)))).0
       (known_there loaders (λ j there. known j (or_right (l == j) (is_listed loaders j) there)))
 
+  -- and so are rows that aren't released
+  rows_there : {A : Type 0} (rows : List (Option A)) (ks : List ℕ) → list_any (is_missing rows) ks ≡ false → list_any (nat_le (length rows)) ks ≡ false
+  rows_there rows [] e = refl
+  rows_there rows (j ∷ ks) e =
+      let parts = or_parts (is_missing rows j) (list_any (is_missing rows) ks) e in
+      or_from (nat_le (length rows) j) (list_any (nat_le (length rows)) ks) (lt-leb (length rows) j (present_within rows j parts.0))
+      (rows_there rows ks parts.1)
+
   pub event_is_there : (limits : Limits) (e f : Event) → IsOk (verdict limits w e) → carried n e ≡ Some f → event_there k e ≡ Some f
   event_is_there limits event.NewLoader f ok e = e
   event_is_there limits (event.Define loader file) f ok e =
@@ -114,7 +125,8 @@ module _ (k : Flags) (w : World) where
       ∙ (ap (option_map (event.SetTarget d.0)) (target_is_there t u.0 u.1) ∙ ap Some u.2)
   event_is_there limits event.NewSwitch f ok e = e
   event_is_there limits (event.Invalidate points) f ok e =
-      let there = test_none (list_any (nat_le (length w.sites.switches)) points) fault.UnknownSwitch (no_fault CallSite (invalidate_fault w points) _ ok) in
+      let present = test_none (list_any (is_missing w.sites.switches) points) fault.UnknownSwitch (no_fault CallSite (invalidate_fault w points) _ ok) in
+      let there = rows_there w.sites.switches points present in
       ap (λ (ps : List ℕ). Some (event.Invalidate ps)) (sym (all_there k.switches (length w.sites.switches) points there)) ∙ e
   event_is_there limits (event.Bind s c) f ok e =
       let t = inv_then (λ (t : ℕ). option_map (event.Bind t) (new_number n.call_sites c)) (new_number n.sites s) f e in
@@ -129,3 +141,8 @@ module _ (k : Flags) (w : World) where
       let free = free_to_retire w.classes loaders (may_retire w loaders (free_loaders limits w loaders ok)) in
       let there = known_there loaders free.known in
       ap (λ (ls : List ℕ). Some (event.RetireAll ls)) (sym (all_there k.loaders (length w.classes.loaders) loaders there)) ∙ e
+  event_is_there limits (event.Release call_sites points) f ok e =
+      let may = may_release w.sites call_sites points (no_fault Release (release_fault w.sites call_sites points) _ ok) in
+      let first = all_there k.call_sites (length w.sites.call_sites) call_sites (rows_there w.sites.call_sites call_sites may.call_sites) in
+      let second = all_there k.switches (length w.sites.switches) points (rows_there w.sites.switches points may.switches) in
+      (λ i. Some (event.Release (sym first i) (sym second i))) ∙ e

@@ -13,16 +13,17 @@ use Rattle.jl_types.specs.Events.Limits.{AreNoFewer}
 use Rattle.jl_types.specs.Events.Verdict.{verdict, bind_fault}
 use Rattle.jl_hierarchy.specs.Constancy.{IsClosed}
 use Rattle.jl_events.proofs.CallSiteLaws.{no_fault as no_refusal}
-use Rattle.jl_renewal.specs.Moved.{Flags, Rests, moved, target_there, event_there}
+use Rattle.jl_renewal.specs.Moved.{Flags, Rests, Names, moved, target_there, event_there}
 use Rattle.jl_renewal.proofs.MovedFollows.{Follows}
 use Rattle.jl_renewal.proofs.Fit.{IsFit}
 use Rattle.jl_renewal.proofs.FitSites.{is_bound}
 use Rattle.jl_renewal.proofs.MovedTargets.{inv_map, inv_then}
 use Rattle.jl_renewal.proofs.MovedSites.{switch_follows, invalidation_follows, call_site_follows, target_follows, request_follows, binding_follows}
 use Rattle.jl_renewal.proofs.MovedSteps.{loader_follows, definition_follows, delegation_follows}
+use Rattle.jl_renewal.proofs.MovedReleasing.{release_follows}
 use Rattle.jl_renewal.proofs.MovedRetiring.{retirement_follows, retirements_follow}
 
-module _ (k : Flags) (w : World) (rests : Rests k w) (fit : IsFit w) (closed : IsClosed w.classes) (ordered : AreOrdered w.classes.rows)
+module _ (k : Flags) (w : World) (rests : Rests k w) (names : Names k w) (fit : IsFit w) (closed : IsClosed w.classes) (ordered : AreOrdered w.classes.rows)
     (limits more : Limits) (most : AreNoFewer limits more) where
   pub each_follows : (e f : Event) → event_there k e ≡ Some f → IsOk (verdict limits w e) → Follows more k w e f
   each_follows event.NewLoader f there accepted =
@@ -62,3 +63,7 @@ module _ (k : Flags) (w : World) (rests : Rests k w) (fit : IsFit w) (closed : I
   each_follows (event.RetireAll loaders) f there accepted =
       subst (Follows more k w (event.RetireAll loaders)) (same_Some (event.RetireAll (filter_map (moved k.loaders) loaders)) f there)
       (retirements_follow k w rests fit closed ordered loaders limits more accepted)
+  each_follows (event.Release call_sites points) f there accepted =
+      subst (Follows more k w (event.Release call_sites points))
+      (same_Some (event.Release (filter_map (moved k.call_sites) call_sites) (filter_map (moved k.switches) points)) f there)
+      (release_follows k w rests names call_sites points limits more accepted)

@@ -76,3 +76,4 @@ module _ (k : Flags) (w : World) (rests : Rests k w) where
       let known = one.known loader (listed_alone loader loader ∙ nat_eq_equiv.refl loader) in
       ap (λ (o : Option ℕ). is_some {T = Event} (option_map event.Retire o)) (loader_number loader known).1
   is_there limits (event.RetireAll loaders) ok e = refl
+  is_there limits (event.Release call_sites points) ok e = refl

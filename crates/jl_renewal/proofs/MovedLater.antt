@@ -29,10 +29,9 @@ use Rattle.jl_renewal.specs.Carries.{carried, made_number, with_made, IsMade}
 use Rattle.jl_renewal.specs.Moved.{Flags, IsBeside, HaveSameLinks, HasNoOtherLinks, HasLinksOf}
 use Rattle.jl_renewal.proofs.FollowLaws.{world_added}
 use Rattle.jl_renewal.proofs.InstallLaws.{adds_of}
-use Rattle.jl_renewal.proofs.LinkClasses.{linked_in_class}
 use Rattle.jl_renewal.proofs.LinkLaws.{same_world, behind, in_rows, in_front, came_from, goes_to}
 use Rattle.jl_renewal.proofs.MovedBeside.{beside_as, beside_passed}
-use Rattle.jl_renewal.proofs.MovedLinks.{after_event, number_moved, commutes, linked_now, only_by_site, no_others}
+use Rattle.jl_renewal.proofs.MovedLinks.{after_event, number_moved, commutes, alive_of, linked_now, only_by_site, no_others}
 use Rattle.jl_renewal.proofs.MovedLists.{clash}
 use Rattle.jl_renewal.proofs.QuietLaws.{IsQuiet, is_quiet, of_carried, none_there}
 
@@ -142,7 +141,7 @@ pub none_others : (k : Flags) (old fresh : State) (n : Numbers) → IsBeside k o
 none_others k old fresh n beside had t l c =
     let come = had t l c in
     let was = linked_now k old fresh n beside come.site come.link ((links_are (events old) come.site come.link).1 come.had) in
-    let stays = linked_in_class (world_of old) come.site come.link was in
+    let stays = alive_of k old fresh n beside come.site come.link was in
     let now = commutes k old fresh n beside come.site t stays (number_moved k old fresh n beside come.site t come.has) ∙ ap (renumbered_result n) was in
     let is = settled_now (events fresh) t l (installed_to (events fresh) t l ((links_are (events fresh) t l).1 c)) in
     record { site = come.site; link = come.link; had = come.had; has = come.has; same = same_ok l (renumbered_link n come.link) (sym is ∙ now) }
@@ -184,7 +183,7 @@ module _ (k : Flags) (old between fresh : State) (n : Numbers) (beside : IsBesid
     go : (t : ℕ) (l : Link) → CameFrom (links_of old) n t l → Contains (links_of fresh) (t, l)
     go t l came =
         let was = linked_now k old between n beside came.site came.link ((links_are (events old) came.site came.link).1 came.had) in
-        let stays = linked_in_class (world_of old) came.site came.link was in
+        let stays = alive_of k old between n beside came.site came.link was in
         let now = commutes k old between n beside came.site t stays (number_moved k old between n beside came.site t came.has)
         ∙ (ap (renumbered_result n) was ∙ ap Ok (sym came.same)) in
         let row = rows_of t ∙ goes_to (world_of between) n t l now (links_of old)

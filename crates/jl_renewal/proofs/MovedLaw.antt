@@ -19,7 +19,7 @@ use Rattle.jl_relink.proofs.InOrder.{accepted_in_order}
 use Rattle.jl_core.specs.State.{State, events, world_of}
 use Rattle.jl_renewal.specs.declared.released.Released.{Released}
 use Rattle.jl_renewal.specs.Renewed.{renewed}
-use Rattle.jl_renewal.specs.Moved.{Flags, flags_of, Rests, event_there, events_there, AreThere, moved_world}
+use Rattle.jl_renewal.specs.Moved.{Flags, flags_of, Rests, Names, event_there, events_there, AreThere, moved_world}
 use Rattle.jl_renewal.proofs.FitLaws.{fit_after}
 use Rattle.jl_renewal.proofs.ClassPhase.{loaders_after}
 use Rattle.jl_renewal.proofs.Phases.{Leads, leads_nowhere, leads_on}
@@ -27,6 +27,7 @@ use Rattle.jl_renewal.proofs.StayLaws.{in_middle, in_front}
 use Rattle.jl_renewal.proofs.MovedTargets.{inv_map}
 use Rattle.jl_renewal.proofs.MovedEvents.{each_follows}
 use Rattle.jl_renewal.proofs.MovedRests.{rests_after}
+use Rattle.jl_renewal.proofs.MovedNames.{names_first, names_after}
 use Rattle.jl_renewal.proofs.MovedRecords.{all_after, known_after}
 use Rattle.jl_renewal.proofs.MovedFirst.{rests_first}
 use Rattle.jl_renewal.proofs.MovedWorld.{world_first}
@@ -61,23 +62,27 @@ next_accepted limits front e rest accepted =
 -- ---- one event
 
 module _ (k : Flags) (limits more : Limits) (most : AreNoFewer limits more) (h : List Event) (all : AreAccepted limits h)
-    (rests : Rests k (world_after h)) where
+    (rests : Rests k (world_after h)) (names : Names k (world_after h)) where
   abbrev w : World
   w = world_after h
 
   order : IsInOrder w
   order = accepted_in_order limits h all
 
-  one_event : (e : Event) (now : List Event) → (f : Event) × (event_there k e ≡ Some f) × (f ∷ [] ≡ now) → IsOk (verdict limits w e)
-      → Leads more (moved_world k w) now (moved_world k (step w e))
+  -- the fresh core follows, and what stays then names what stays
+  abbrev GoesOn : Event → List Event → Type 0
+  GoesOn e now = Leads more (moved_world k w) now (moved_world k (step w e)) × Names k (step w e)
+
+  one_event : (e : Event) (now : List Event) → (f : Event) × (event_there k e ≡ Some f) × (f ∷ [] ≡ now) → IsOk (verdict limits w e) → GoesOn e now
   one_event e now there accepted =
       let fit = fit_after limits h all.each in
-      let follows = each_follows k w rests fit order.classes.closed order.classes.ordered limits more most e there.0 there.1 accepted in
-      subst (λ (es : List Event). Leads more (moved_world k w) es (moved_world k (step w e))) there.2
-      (record { follow = (follows.accepted, tt); after = follows.after })
+      let follows = each_follows k w rests names fit order.classes.closed order.classes.ordered limits more most e there.0 there.1 accepted in (
+        subst (λ (es : List Event). Leads more (moved_world k w) es (moved_world k (step w e))) there.2
+            (record { follow = (follows.accepted, tt); after = follows.after }),
+        names_after k w rests names e there.0 there.1,
+      )
 
-  pub each_leads : (e : Event) (now : List Event) → events_there k e ≡ Some now → IsOk (verdict limits w e)
-      → Leads more (moved_world k w) now (moved_world k (step w e))
+  pub each_leads : (e : Event) (now : List Event) → events_there k e ≡ Some now → IsOk (verdict limits w e) → GoesOn e now
   each_leads event.NewLoader now there ok = one_event event.NewLoader now (inv_map (λ f. f ∷ []) (event_there k event.NewLoader) now there) ok
   each_leads (event.Define loader file) now there ok =
       one_event (event.Define loader file) now (inv_map (λ f. f ∷ []) (event_there k (event.Define loader file)) now there) ok
@@ -91,30 +96,35 @@ module _ (k : Flags) (limits more : Limits) (most : AreNoFewer limits more) (h :
   each_leads (event.Invalidate points) now there ok =
       one_event (event.Invalidate points) now (inv_map (λ f. f ∷ []) (event_there k (event.Invalidate points)) now there) ok
   each_leads (event.Bind s c) now there ok = one_event (event.Bind s c) now (inv_map (λ f. f ∷ []) (event_there k (event.Bind s c)) now there) ok
-  each_leads (event.Install rows) now there ok =
-      subst (λ (es : List Event). Leads more (moved_world k w) es (moved_world k w)) (same_Some [] now there) (leads_nowhere more (moved_world k w))
+  each_leads (event.Install rows) now there ok = (
+    subst (λ (es : List Event). Leads more (moved_world k w) es (moved_world k w)) (same_Some [] now there) (leads_nowhere more (moved_world k w)),
+    names,
+  )
   each_leads (event.Retire loader) now there ok = one_event (event.Retire loader) now (inv_map (λ f. f ∷ []) (event_there k (event.Retire loader)) now there) ok
   each_leads (event.RetireAll loaders) now there ok =
       one_event (event.RetireAll loaders) now (inv_map (λ f. f ∷ []) (event_there k (event.RetireAll loaders)) now there) ok
+  each_leads (event.Release call_sites points) now there ok =
+      one_event (event.Release call_sites points) now (inv_map (λ f. f ∷ []) (event_there k (event.Release call_sites points)) now there) ok
 
 -- ---- all of them
 
 pub all_lead : (k : Flags) (limits more : Limits) → AreNoFewer limits more → (es fs h : List Event) → AreAccepted limits (h ++ es) → Rests k (world_after h)
-    → AreThere k es fs → Leads more (moved_world k (world_after h)) fs (moved_world k (fold step (world_after h) es))
-all_lead k limits more most [] fs h accepted rests there =
+    → Names k (world_after h) → AreThere k es fs → Leads more (moved_world k (world_after h)) fs (moved_world k (fold step (world_after h) es))
+all_lead k limits more most [] fs h accepted rests names there =
     subst (λ (gs : List Event). Leads more (moved_world k (world_after h)) gs (moved_world k (world_after h))) (sym there)
     (leads_nowhere more (moved_world k (world_after h)))
-all_lead k limits more most (e ∷ es) fs h accepted rests there =
+all_lead k limits more most (e ∷ es) fs h accepted rests names there =
     let now = there.0 in
     let later = there.1 in
     let ok = next_accepted limits h e es accepted in
     let all = front_accepted limits h (e ∷ es) accepted in
-    let one = each_leads k limits more most h all rests e now there.2 ok in
+    let one = each_leads k limits more most h all rests names e now there.2 ok in
     let next = all_lead k limits more most es later (h ++ e ∷ []) (subst (AreAccepted limits) (sym (append_assoc h (e ∷ []) es)) accepted)
-    (subst (Rests k) (sym (world_more h e)) (rests_after k (world_after h) rests limits e ok)) there.4 in
+    (subst (Rests k) (sym (world_more h e)) (rests_after k (world_after h) rests limits e ok))
+    (subst (Names k) (sym (world_more h e)) one.1) there.4 in
     subst (λ (gs : List Event). Leads more (moved_world k (world_after h)) gs (moved_world k (fold step (step (world_after h) e) es))) (sym there.3)
     (leads_on more (moved_world k (world_after h)) (moved_world k (step (world_after h) e)) (moved_world k (fold step (step (world_after h) e) es))
-    now later one
+    now later one.0
     (subst (λ (w : World). Leads more (moved_world k w) later (moved_world k (fold step w es))) (world_more h e) next))
 
 -- ---- from a renewal on
@@ -145,4 +155,5 @@ pub entries_lead : (old : State) (released : Released) (es fs : List Event) (mor
 entries_lead old released es fs more accepted most there =
     let front = front_accepted old.limits (events old) es accepted in
     subst (λ (v : World). Leads more v fs (moved_world (flags_of (world_of old) released) (fold step (world_of old) es))) (world_there old released front)
-    (all_lead (flags_of (world_of old) released) old.limits more most es fs (events old) accepted (rests_there old released front) there)
+    (all_lead (flags_of (world_of old) released) old.limits more most es fs (events old) accepted (rests_there old released front)
+    (names_first (world_of old) released (fit_after old.limits (events old) front.each)) there)

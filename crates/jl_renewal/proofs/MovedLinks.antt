@@ -23,6 +23,7 @@ use Rattle.jl_types.specs.Events.Event.{Event}
 use Rattle.jl_types.specs.Events.History.{installs, installed, kept, world_after}
 use Rattle.jl_types.specs.Events.Verdict.{verdict, unless, install_fault, Accepts}
 use Rattle.jl_types.proofs.Accepting.{accepted_installs}
+use Rattle.jl_types.proofs.Bools.{first_test}
 use Rattle.jl_types.proofs.Installed.{installed_to, settled_now}
 use Rattle.jl_types.proofs.InstalledLinks.{links_are, installed_requested, requested}
 use Rattle.jl_types.proofs.Lists.{passes_within}
@@ -30,14 +31,14 @@ use Rattle.jl_types.proofs.OneMore.{installed_step}
 use Rattle.jl_events.proofs.CallSiteLaws.{no_fault as no_refusal}
 use Rattle.jl_core.specs.State.{State, events, world_of, links_of, IsAccepted}
 use Rattle.jl_renewal.specs.Numbers.{Numbers, new_number, renumbered}
-use Rattle.jl_renewal.specs.Staying.{is_in_staying_class}
+use Rattle.jl_renewal.specs.Staying.{is_in_staying_class, is_alive}
 use Rattle.jl_renewal.specs.Renewal.{row_of, fresh_row, fresh_rows, CameFrom}
 use Rattle.jl_renewal.specs.Renewed.{renumbered_link, renumbered_result}
 use Rattle.jl_renewal.specs.Carries.{carried}
 use Rattle.jl_renewal.specs.Moved.{Flags, Rests, moved, kept as those_kept, moved_place, moved_classes, moved_world, IsBeside}
 use Rattle.jl_renewal.specs.Moved.{HaveSameLinks, HasNoOtherLinks, renumbered_install}
 use Rattle.jl_renewal.proofs.InstallLaws.{adds_of}
-use Rattle.jl_renewal.proofs.LinkClasses.{IsLinkThere, IsResultThere, scratch_there, linked_in_class}
+use Rattle.jl_renewal.proofs.LinkClasses.{IsLinkThere, IsResultThere, scratch_there, linked_in_class, linked_alive, linked_there_alive}
 use Rattle.jl_renewal.proofs.LinkNumbers.{kept_same, kept_only}
 use Rattle.jl_renewal.proofs.MovedBeside.{beside_alike}
 use Rattle.jl_renewal.proofs.MovedCarries.{number_at, there_number}
@@ -112,13 +113,23 @@ module _ (k : Flags) (old fresh : State) (n : Numbers) (beside : IsBeside k old 
 
   -- ---- links from scratch
 
-  pub commutes : (s t : ℕ) → is_in_staying_class w s ≡ true → moved k.sites s ≡ Some t → scratch (world_of fresh) t ≡ renumbered_result n (scratch w s)
-  commutes s t stays at =
-      let u = site_of s stays in
-      let number : renumbered n.sites s ≡ t =
-      ap (λ (o : Option ℕ). unwrap_or o 0) u.2 ∙ same_Some u.0 t (sym u.1 ∙ at) in
-      ap (scratch (world_of fresh)) (sym number)
-      ∙ scratch_same n w (world_of fresh) (λ c. is_some (moved k.call_sites c)) (beside_alike k old fresh n beside) s stays
+  number_of : (s t : ℕ) → is_in_staying_class w s ≡ true → moved k.sites s ≡ Some t → renumbered n.sites s ≡ t
+  number_of s t kept at = let u = site_of s kept in ap (λ (o : Option ℕ). unwrap_or o 0) u.2 ∙ same_Some u.0 t (sym u.1 ∙ at)
+
+  pub commutes : (s t : ℕ) → is_alive w s ≡ true → moved k.sites s ≡ Some t → scratch (world_of fresh) t ≡ renumbered_result n (scratch w s)
+  commutes s t alive at =
+      ap (scratch (world_of fresh)) (sym (number_of s t (first_test (is_in_staying_class w s) _ alive) at))
+      ∙ scratch_same n w (world_of fresh) (λ c. is_some (moved k.call_sites c)) (beside_alike k old fresh n beside) s alive
+
+  -- a site that has a link isn't gone
+  pub alive_of : (s : ℕ) (l : Link) → scratch w s ≡ Ok l → is_alive w s ≡ true
+  alive_of s l is = linked_alive w (beside_alike k old fresh n beside).fit s l is
+
+  -- nor is one that has a link there
+  alive_there : (s t : ℕ) (l : Link) → is_in_staying_class w s ≡ true → moved k.sites s ≡ Some t → scratch (world_of fresh) t ≡ Ok l → is_alive w s ≡ true
+  alive_there s t l kept at is =
+      linked_there_alive n w (world_of fresh) (λ c. is_some (moved k.call_sites c)) (beside_alike k old fresh n beside) s l kept
+      (ap (scratch (world_of fresh)) (number_of s t kept at) ∙ is)
 
   linked_there : (s : ℕ) (l : Link) → scratch w s ≡ Ok l → IsLinkThere w.classes l
   linked_there s l is =
@@ -163,8 +174,8 @@ module _ (k : Flags) (old fresh : State) (n : Numbers) (beside : IsBeside k old 
       by_link None is = none_there (installed (events fresh) t) is refl
       by_link (Some l) is = (links_are (events fresh) t (renumbered_link n l)).1 ((same t (renumbered_link n l)).1 (come_from s t l at is))
 
-  -- so much of the sites in present classes is enough
-  pub no_others : ((s t : ℕ) → is_in_staying_class w s ≡ true → moved k.sites s ≡ Some t → (l : Link) → installed (events fresh) t ≡ Some l
+  -- so much of the sites that aren't gone is enough
+  pub no_others : ((s t : ℕ) → is_alive w s ≡ true → moved k.sites s ≡ Some t → (l : Link) → installed (events fresh) t ≡ Some l
       → option_map (renumbered_link n) (installed (events old) s) ≡ Some l) → HasNoOtherLinks old fresh n
   no_others each j l c = by_link (installed (events old) s) refl (each s j stays at l is)
     where
@@ -177,23 +188,26 @@ module _ (k : Flags) (old fresh : State) (n : Numbers) (beside : IsBeside k old 
       at : moved k.sites s ≡ Some j
       at = (moved_onto k.sites j).1
 
-      stays : is_in_staying_class w s ≡ true
-      stays = class_was k w beside.rests s j at
-          (subst (λ (v : World). is_in_staying_class v j ≡ true) beside.world
-          (linked_in_class (world_of fresh) j l (settled_now (events fresh) j l (installed_to (events fresh) j l is))))
+      now : scratch (world_of fresh) j ≡ Ok l
+      now = settled_now (events fresh) j l (installed_to (events fresh) j l is)
+
+      stays : is_alive w s ≡ true
+      stays =
+          alive_there s j l (class_was k w beside.rests s j at
+          (subst (λ (v : World). is_in_staying_class v j ≡ true) beside.world (linked_in_class (world_of fresh) j l now))) at now
 
       by_link : (o : Option Link) → installed (events old) s ≡ o → option_map (renumbered_link n) o ≡ Some l → CameFrom (links_of old) n j l
       by_link None had e = clash l e
       by_link (Some m) had e = subst (CameFrom (links_of old) n j) (same_Some (renumbered_link n m) l e) (come_from s j m at had)
 
-  all_links : ((s t : ℕ) → is_in_staying_class w s ≡ true → moved k.sites s ≡ Some t
+  all_links : ((s t : ℕ) → is_alive w s ≡ true → moved k.sites s ≡ Some t
       → installed (events fresh) t ≡ option_map (renumbered_link n) (installed (events old) s)) → HaveSameLinks old fresh n
   all_links each j l = (no_others (λ s t stays at m e. sym (each s t stays at) ∙ e) j l, go)
     where
       go : CameFrom (links_of old) n j l → Contains (links_of fresh) (j, l)
       go came =
           let is = (links_are (events old) came.site came.link).1 came.had in
-          let stays = linked_in_class w came.site came.link (linked_now came.site came.link is) in
+          let stays = alive_of came.site came.link (linked_now came.site came.link is) in
           (links_are (events fresh) j l).0
           (each came.site j stays (number_moved came.site j came.has) ∙ (ap (option_map (renumbered_link n)) is ∙ ap Some (sym came.same)))
 
@@ -223,7 +237,7 @@ module _ (k : Flags) (old after fresh fresh_after : State) (n m : Numbers) (besi
   module _ (e f : Event) (reply there : Reply) (accepted : IsAccepted old after e reply) (accepted_there : IsAccepted fresh fresh_after f there)
       (tests : (s t : ℕ) → moved k.sites s ≡ Some t → installs t f ≡ installs s e) where
     -- what the event leaves of a link, there as here
-    left_there : (s t : ℕ) → is_in_staying_class (world_of after) s ≡ true → moved k.sites s ≡ Some t
+    left_there : (s t : ℕ) → is_alive (world_of after) s ≡ true → moved k.sites s ≡ Some t
         → installed (events fresh_after) t ≡ kept (installs s e) (installed (events fresh) t) (renumbered_result m (scratch (world_of after) s))
     left_there s t stays at =
         after_event fresh fresh_after f there accepted_there t
@@ -265,6 +279,7 @@ neither_installs n e f carries s t = subst (λ (o : Option Event). option_map_or
     calm (event.Install rows) is = cc
     calm (event.Retire loader) is = refl
     calm (event.RetireAll loaders) is = refl
+    calm (event.Release call_sites points) is = refl
 
 -- ---- an install
 
@@ -277,18 +292,18 @@ module _ (k : Flags) (old fresh : State) (n : Numbers) (beside : IsBeside k old 
 
   -- the new number of a row's site
   module _ (row : ℕ × Link) (now : HasScratch row) where
-    in_class : is_in_staying_class (world_of old) row.0 ≡ true
-    in_class = linked_in_class (world_of old) row.0 row.1 now
+    alive : is_alive (world_of old) row.0 ≡ true
+    alive = alive_of k old fresh n beside row.0 row.1 now
 
     number : (t : ℕ) × (moved k.sites row.0 ≡ Some t) × (new_number n.sites row.0 ≡ Some t)
-    number = site_of k old fresh n beside row.0 in_class
+    number = site_of k old fresh n beside row.0 (first_test (is_in_staying_class (world_of old) row.0) _ alive)
 
     number_is : renumbered n.sites row.0 ≡ number.0
     number_is = ap (λ (o : Option ℕ). unwrap_or o 0) number.2
 
     -- its link there
     now_there : scratch v number.0 ≡ Ok (renumbered_link n row.1)
-    now_there = commutes k old fresh n beside row.0 number.0 in_class number.1 ∙ ap (renumbered_result n) now
+    now_there = commutes k old fresh n beside row.0 number.0 alive number.1 ∙ ap (renumbered_result n) now
 
     row_is : fresh_row v n row ≡ Some (renumbered_install n row)
     row_is =

@@ -178,6 +178,7 @@ all_step limits w (event.Retire loader) good all accepted =
     all_retired w.classes all (loader ∷ []) (may_retire w (loader ∷ []) (free_loader limits w loader accepted))
 all_step limits w (event.RetireAll loaders) good all accepted =
     all_retired w.classes all loaders (may_retire w loaders (free_loaders limits w loaders accepted))
+all_step limits w (event.Release call_sites points) good all accepted = all
 
 -- ---- all events
 
@@ -239,6 +240,7 @@ known_step limits w (event.Retire loader) all accepted l is =
     known_retired w (loader ∷ []) all (may_retire w (loader ∷ []) (free_loader limits w loader accepted)) l is
 known_step limits w (event.RetireAll loaders) all accepted l is =
     known_retired w loaders all (may_retire w loaders (free_loaders limits w loaders accepted)) l is
+known_step limits w (event.Release call_sites points) all accepted l is = all l is
 
 pub known_after : (limits : Limits) (h : List Event) → AllAccepted limits h → AreKnown (world_after h).classes
 known_after limits h all =

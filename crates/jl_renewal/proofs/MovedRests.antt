@@ -14,7 +14,7 @@ use Rattle.jl_types.specs.declared.event.EventOf.TheVariants as event
 use Rattle.jl_types.specs.declared.refusal.Refusal.TheVariants as refusal
 use Rattle.jl_types.specs.declared.refusal.DelegateFault.TheVariants as delegate
 use Rattle.jl_types.specs.Values.Target.{Target}
-use Rattle.jl_types.specs.Values.World.{World, Class, CallSite}
+use Rattle.jl_types.specs.Values.World.{World, Class, CallSite, unreleased}
 use Rattle.jl_types.specs.Values.Members.{lookup, is_present, is_retired}
 use Rattle.jl_types.specs.Linkage.Stages.{invocation_at}
 use Rattle.jl_types.specs.Events.Event.{Event}
@@ -22,14 +22,16 @@ use Rattle.jl_types.specs.Events.Verdict.{verdict, step, same_place, if_invoked,
 use Rattle.jl_types.specs.Events.Definitions.{define_fault, class_made, delegate_fault, is_unknown, with_record}
 use Rattle.jl_types.specs.Events.Retirement.{is_of_any, emptied, retired}
 use Rattle.jl_types.proofs.Firsts.{first_none, test_none}
+use Rattle.jl_types.specs.Events.Release.{released_from}
+use Rattle.jl_types.proofs.Releasing.{length_without}
 use Rattle.jl_types.proofs.Retiring.{retired_after, present_after}
 use Rattle.jl_types.proofs.Bools.{first_test}
 use Rattle.jl_relink.proofs.Closing.{no_fault}
-use Rattle.jl_relink.proofs.Paths.{invalidated_length}
 use Rattle.jl_renewal.specs.Moved.{Flags, Rests, moved}
 use Rattle.jl_renewal.proofs.ClassSteps.{is_free}
 use Rattle.jl_renewal.proofs.FitParts.{at_more}
 use Rattle.jl_renewal.proofs.FitSites.{set_at}
+use Rattle.jl_renewal.proofs.ReleasedRows.{length_invalidated}
 use Rattle.jl_renewal.proofs.MovedLists.{later_stays, length_set, length_emptied}
 use Rattle.jl_renewal.proofs.MovedClasses.{found_stays, live_stays}
 
@@ -229,7 +231,7 @@ module _ (k : Flags) (w : World) (rests : Rests k w) where
                 ∙ (sym (by_class (is_present w.classes place.class) refl accepted) ∙ ap (λ (p : Place). is_some (moved k.classes p.class)) new.1))
           ])
 
-  with_call_sites : (call_sites : List CallSite) → length w.sites.call_sites ≤ length call_sites
+  with_call_sites : (call_sites : List (Option CallSite)) → length w.sites.call_sites ≤ length call_sites
       → Rests k (record w { sites = record w.sites { call_sites = call_sites } })
   with_call_sites call_sites more = record {
     few_loaders = rests.few_loaders;
@@ -245,7 +247,7 @@ module _ (k : Flags) (w : World) (rests : Rests k w) where
     sites = rests.sites;
   }
 
-  with_switches : (switches : List Bool) → length w.sites.switches ≤ length switches
+  with_switches : (switches : List (Option Bool)) → length w.sites.switches ≤ length switches
       → Rests k (record w { sites = record w.sites { switches = switches } })
   with_switches switches more = record {
     few_loaders = rests.few_loaders;
@@ -253,6 +255,22 @@ module _ (k : Flags) (w : World) (rests : Rests k w) where
     few_sites = rests.few_sites;
     few_call_sites = rests.few_call_sites;
     few_switches = let few = rests.few_switches in omega (arith, more, few);
+    first = rests.first;
+    gone = rests.gone;
+    present = rests.present;
+    owned = rests.owned;
+    recorded = rests.recorded;
+    sites = rests.sites;
+  }
+
+  -- numbers are kept
+  rests_released : (call_sites points : List ℕ) → Rests k (record w { sites = released_from w.sites call_sites points })
+  rests_released call_sites points = record {
+    few_loaders = rests.few_loaders;
+    few_classes = rests.few_classes;
+    few_sites = rests.few_sites;
+    few_call_sites = let long = length_without call_sites w.sites.call_sites in let few = rests.few_call_sites in omega (arith, long, few);
+    few_switches = let long = length_without points w.sites.switches in let few = rests.few_switches in omega (arith, long, few);
     first = rests.first;
     gone = rests.gone;
     present = rests.present;
@@ -277,12 +295,12 @@ module _ (k : Flags) (w : World) (rests : Rests k w) where
   }
 
   retargeted_length : (c : ℕ) (t : Target) → length w.sites.call_sites ≤ length (retargeted w.sites.call_sites c t)
-  retargeted_length c t = by_site (slice_get w.sites.call_sites c)
+  retargeted_length c t = by_site (unreleased w.sites.call_sites c)
     where
       by_site : (o : Option CallSite) → length w.sites.call_sites
-          ≤ length (option_map_or (λ site. slice_set w.sites.call_sites c (record site { target = t })) o w.sites.call_sites)
+          ≤ length (option_map_or (λ site. slice_set w.sites.call_sites c (Some (record site { target = t }))) o w.sites.call_sites)
       by_site None = omega arith
-      by_site (Some site) = let long = length_set w.sites.call_sites c (record site { target = t }) in omega (arith, long)
+      by_site (Some site) = let long = length_set w.sites.call_sites c (Some (record site { target = t })) in omega (arith, long)
 
   -- ---- each event
 
@@ -297,15 +315,17 @@ module _ (k : Flags) (w : World) (rests : Rests k w) where
       rests_delegated loader name to (or_parts (is_unknown w.classes loader) (is_unknown w.classes to) (test_none _ delegate.UnknownLoader unknown.0)).1
   rests_after limits (event.Request place) accepted = rests_requested limits place accepted
   rests_after limits (event.NewCallSite kind ty t) accepted =
-      let long = length-append w.sites.call_sites (record { kind = kind; ty = ty; target = t } ∷ []) in
-      with_call_sites (w.sites.call_sites ++ record { kind = kind; ty = ty; target = t } ∷ []) (omega (arith, long))
+      let made : CallSite = record { kind = kind; ty = ty; target = t } in
+      let long = length-append w.sites.call_sites (Some made ∷ []) in
+      with_call_sites (w.sites.call_sites ++ Some made ∷ []) (omega (arith, long))
   rests_after limits (event.SetTarget c t) accepted = with_call_sites (retargeted w.sites.call_sites c t) (retargeted_length c t)
   rests_after limits event.NewSwitch accepted =
-      let long = length-append w.sites.switches (true ∷ []) in with_switches (w.sites.switches ++ true ∷ []) (omega (arith, long))
+      let long = length-append w.sites.switches (Some true ∷ []) in with_switches (w.sites.switches ++ Some true ∷ []) (omega (arith, long))
   rests_after limits (event.Invalidate points) accepted =
-      let long = invalidated_length w.sites.switches points in
+      let long = length_invalidated w.sites.switches points in
       with_switches (step w (event.Invalidate points)).sites.switches (omega (arith, long))
   rests_after limits (event.Bind s c) accepted = with_bindings (w.bindings ++ (s, c) ∷ [])
   rests_after limits (event.Install rows) accepted = rests
   rests_after limits (event.Retire loader) accepted = rests_retired (loader ∷ [])
   rests_after limits (event.RetireAll loaders) accepted = rests_retired loaders
+  rests_after limits (event.Release call_sites points) accepted = rests_released call_sites points

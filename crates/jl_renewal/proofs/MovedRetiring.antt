@@ -1,6 +1,6 @@
 -- A retirement, be it of several loaders at once, is accepted in the fresh core, and leads there to what it has led to in the old one.
 use Rattle.std.specs.Prelude.{◌≡◌, ℕ, zero, suc, ◌+◌, ◌<◌, ◌⊎◌, ◌==◌, ◌&&◌, ◌||◌, not, Bool, true, false, List, [], ◌∷◌, ◌++◌, map, find}
-use Rattle.std.specs.Prelude.{nat_le, nat_lt, length, slice_get, slice_set, filter_map, Option, Some, None, option_map, option_to_list, is_none, is_ok, IsOk}
+use Rattle.std.specs.Prelude.{nat_lt, length, slice_get, slice_set, filter_map, Option, Some, None, option_map, option_to_list, is_none, is_ok, IsOk}
 use Rattle.std.specs.Prelude.{if◌then◌else◌}
 use Rattle.std.specs.Bool.{then_some}
 use Rattle.std.specs.List.{AllByRecursion, cons_option, list_any, range_with_len}
@@ -18,16 +18,15 @@ use Rattle.jl_types.specs.declared.event.Made.TheVariants as made
 use Rattle.jl_types.specs.declared.refusal.CallSiteFault.TheVariants.{UnknownMethod, UnknownSwitch, TooDeep}
 use Rattle.jl_types.specs.declared.refusal.Refusal.{Refusal}
 use Rattle.jl_types.specs.declared.refusal.Refusal.TheVariants as refusal
-use Rattle.jl_types.specs.declared.target.CallSiteKind.TheVariants.{Constant}
 use Rattle.jl_types.specs.declared.refusal.RetireFault.TheVariants.{UnknownLoader, FirstLoader, Inherited, Recorded, Targeted}
 use Rattle.jl_types.specs.Values.Target.{Target, Method, Guard, Invoker, depth}
-use Rattle.jl_types.specs.Values.World.{World, Class, Classes, CallSite}
+use Rattle.jl_types.specs.Values.World.{World, Class, Classes, CallSite, unreleased, is_missing}
 use Rattle.jl_types.specs.Values.Members.{is_present, is_retired, numbers}
 use Rattle.jl_types.specs.Values.Ancestry.{parents, is_parent, IsAncestor, itself, over, is_ancestor_within, AreOrdered}
 use Rattle.jl_types.specs.Linkage.Resolution.{first_of}
 use Rattle.jl_types.specs.Linkage.Targets.{parts, part_fault, may_be_named}
 use Rattle.jl_types.specs.Events.Definitions.{is_unknown}
-use Rattle.jl_types.specs.Events.Retirement.{is_listed, is_of, is_of_any, inherits_from, records_from, names_from, classes_fault, targeted}
+use Rattle.jl_types.specs.Events.Retirement.{is_listed, is_of, is_of_any, inherits_from, records_from, has_target, names_from, classes_fault, targeted}
 use Rattle.jl_types.specs.Events.Retirement.{retire_fault, emptied, gone_with, retired}
 use Rattle.jl_types.specs.Events.Verdict.{unless, verdict, with_classes}
 use Rattle.jl_types.proofs.Ancestors.{ancestor_decides}
@@ -44,6 +43,7 @@ use Rattle.jl_renewal.proofs.MovedFollows.{Follows}
 use Rattle.jl_renewal.proofs.Fit.{IsFit}
 use Rattle.jl_renewal.proofs.FitParts.{find_none, none_in_range, none_placed, none_mapped}
 use Rattle.jl_renewal.proofs.PlacePhase.{position_none}
+use Rattle.jl_renewal.proofs.ReleasedRows.{row_at as call_site_row}
 use Rattle.jl_renewal.proofs.MovedLists.{shifted_is, same_numbers, moved_onto, among_moved, kept_unset}
 use Rattle.jl_renewal.proofs.MovedClasses.{loader_at, known, row_at, owner_stays, tested, present_same, present_stays}
 use Rattle.jl_renewal.proofs.MovedSites.{placed, allowed}
@@ -301,6 +301,12 @@ module _ (k : Flags) (w : World) (rests : Rests k w) (fit : IsFit w) (closed : I
 
     -- ---- no target names a method of one of its classes
 
+    -- a call site's, unless it is released
+    by_row : (row : Option CallSite) → ((site : CallSite) → row ≡ Some site → names_from ds m (moved_target k site.target) ≡ false)
+        → has_target (names_from ds m) (option_map (moved_call_site k) row) ≡ false
+    by_row None h = refl
+    by_row (Some site) h = h site refl
+
     names_same : (c : ℕ) (ty : List ℕ) (t : Target) → part_fault w c ty t ≡ None → names_from ds m (moved_target k t) ≡ names_from cs l t
     names_same c ty (Method n) none =
         let named = test_none (not (may_be_named cs n)) UnknownMethod (first_none (then_some (not (may_be_named cs n)) UnknownMethod) _ none).0 in
@@ -308,7 +314,7 @@ module _ (k : Flags) (w : World) (rests : Rests k w) (fit : IsFit w) (closed : I
         let d = present_stays k w rests n.class present in
         ap (is_of ds m) (shifted_is k.classes n.class d.0 d.1) ∙ of_same n.class d.0 d.1
     names_same c ty (Guard p first fallback) none =
-        let known = first_none (then_some (nat_le (length w.sites.switches) p) UnknownSwitch) _ none in
+        let known = first_none (then_some (is_missing w.sites.switches p) UnknownSwitch) _ none in
         let left = first_none (part_fault w c ty first) _ known.1 in
         let right = first_none (part_fault w c ty fallback) [] left.1 in
         let x = names_same c ty first left.0 in
@@ -316,21 +322,23 @@ module _ (k : Flags) (w : World) (rests : Rests k w) (fit : IsFit w) (closed : I
         λ i. x i || y i
     names_same c ty (Invoker d) none = refl
 
-    module _ (unnamed : (i : ℕ) (site : CallSite) → slice_get w.sites.call_sites i ≡ Some site → names_from cs l site.target ≡ false) where
-      none_named : (stays : List Bool) (xs : List CallSite)
-          → ((i : ℕ) (site : CallSite) → slice_get xs i ≡ Some site → names_from ds m (moved_target k site.target) ≡ false)
-          → list_any (λ site. names_from ds m site.target) (map (moved_call_site k) (kept stays xs)) ≡ false
+    module _ (unnamed : (i : ℕ) (site : CallSite) → unreleased w.sites.call_sites i ≡ Some site → names_from cs l site.target ≡ false) where
+      none_named : (stays : List Bool) (rows : List (Option CallSite))
+          → ((i : ℕ) (site : CallSite) → unreleased rows i ≡ Some site → names_from ds m (moved_target k site.target) ≡ false)
+          → list_any (has_target (names_from ds m)) (map (option_map (moved_call_site k)) (kept stays rows)) ≡ false
       none_named [] [] h = refl
-      none_named [] (x ∷ xs) h =
-          or_from (names_from ds m (moved_target k x.target)) (list_any (λ site. names_from ds m site.target) (map (moved_call_site k) xs))
-          (h zero x refl) (none_named [] xs (λ i. h (suc i)))
+      none_named [] (row ∷ rows) h =
+          or_from (has_target (names_from ds m) (option_map (moved_call_site k) row))
+          (list_any (has_target (names_from ds m)) (map (option_map (moved_call_site k)) rows))
+          (by_row row (h zero)) (none_named [] rows (λ i. h (suc i)))
       none_named (b ∷ stays) [] h = refl
-      none_named (true ∷ stays) (x ∷ xs) h =
-          or_from (names_from ds m (moved_target k x.target)) (list_any (λ site. names_from ds m site.target) (map (moved_call_site k) (kept stays xs)))
-          (h zero x refl) (none_named stays xs (λ i. h (suc i)))
-      none_named (false ∷ stays) (x ∷ xs) h = none_named stays xs (λ i. h (suc i))
+      none_named (true ∷ stays) (row ∷ rows) h =
+          or_from (has_target (names_from ds m) (option_map (moved_call_site k) row))
+          (list_any (has_target (names_from ds m)) (map (option_map (moved_call_site k)) (kept stays rows)))
+          (by_row row (h zero)) (none_named stays rows (λ i. h (suc i)))
+      none_named (false ∷ stays) (row ∷ rows) h = none_named stays rows (λ i. h (suc i))
 
-      target_names : (i : ℕ) (site : CallSite) → slice_get w.sites.call_sites i ≡ Some site → names_from ds m (moved_target k site.target) ≡ false
+      target_names : (i : ℕ) (site : CallSite) → unreleased w.sites.call_sites i ≡ Some site → names_from ds m (moved_target k site.target) ≡ false
       target_names i site is =
           let deep = first_none (then_some (nat_lt 64 (depth site.target) || nat_lt 255 (parts site.target)) TooDeep) _ (fit.targets i site is) in
           let part = first_none (part_fault w i site.ty site.target) [] deep.1 in
@@ -338,11 +346,7 @@ module _ (k : Flags) (w : World) (rests : Rests k w) (fit : IsFit w) (closed : I
 
       still_untargeted : targeted ds v.sites.call_sites m ≡ None
       still_untargeted =
-          position_none (λ site. names_from ds m site.target) v.sites.call_sites none_like
-          (none_named k.call_sites w.sites.call_sites target_names)
-        where
-          none_like : CallSite
-          none_like = record { kind = Constant; ty = []; target = Invoker 0 }
+          position_none (has_target (names_from ds m)) v.sites.call_sites None (none_named k.call_sites w.sites.call_sites target_names)
 
   -- ---- they are accepted
 
@@ -354,7 +358,9 @@ module _ (k : Flags) (w : World) (rests : Rests k w) (fit : IsFit w) (closed : I
       let l = moved_onto k.loaders m in
       let goes = sym (among_moved k.loaders loaders l.0 m l.1) ∙ listed in
       let classes = classes_free loaders l.0 m l.1 (may_retire w loaders free l.0 goes) in
-      let unnamed = none_placed (λ (site : CallSite). names_from cs l.0 site.target) w.sites.call_sites (untargeted w loaders free l.0 goes) in
+      let unnamed : (i : ℕ) (site : CallSite) → unreleased w.sites.call_sites i ≡ Some site → names_from cs l.0 site.target ≡ false =
+      λ i site at. none_placed (has_target (names_from cs l.0)) w.sites.call_sites (untargeted w loaders free l.0 goes) i (Some site)
+      (call_site_row w.sites.call_sites i site at) in
       let targets = still_untargeted loaders l.0 m l.1 unnamed in
       λ i. first_of (classes i ∷ option_map Targeted (targets i) ∷ [])
 

@@ -5,25 +5,29 @@ use Rattle.std.specs.Bool.{then_some}
 use Rattle.std.specs.List.{AllByRecursion, cons_option}
 use Rattle.std.specs.Option.{option_map_or, unwrap_or}
 use Rattle.std.proofs.Common.{refl, sym, ap, ◌∙◌, arith}
-use Rattle.std.proofs.lemmas.Bool.{leb-false, not-false}
+use Rattle.std.proofs.lemmas.Bool.{leb-false, not-true, not-false}
 use Rattle.std.proofs.lemmas.Bool.Decides.{Decides-eqb}
+use Rattle.std.proofs.lemmas.Cmp.{nat_eq_equiv}
 use Rattle.std.proofs.lemmas.List.Elements.{recursion_from_All}
 use Rattle.std.proofs.lemmas.Option.{same_Some, slice_get_within, slice_get-map}
+use Rattle.jl_types.specs.declared.ids.MethodId.{MethodId}
 use Rattle.jl_types.specs.declared.ids.Place.{Place}
 use Rattle.jl_types.specs.declared.refusal.CallSiteFault.TheVariants.{UnknownMethod, UnknownSwitch, TooDeep, InvokerOrder}
 use Rattle.jl_types.specs.Values.Target.{Target, Method, Guard, Invoker, depth}
-use Rattle.jl_types.specs.Values.World.{World, Class, Classes, CallSite}
+use Rattle.jl_types.specs.Values.World.{World, Class, Classes, CallSite, unreleased, is_missing}
 use Rattle.jl_types.specs.Values.Members.{lookup, is_present, is_retired}
 use Rattle.jl_types.specs.Values.Ancestry.{parents, AreOrdered}
-use Rattle.jl_types.specs.Linkage.Targets.{parts, part_fault, may_be_named}
+use Rattle.jl_types.specs.Linkage.Targets.{parts, part_fault, may_be_named, evaluated, method_of}
+use Rattle.jl_types.specs.Linkage.Stages.{bound_to}
 use Rattle.jl_types.proofs.Ancestors.{ancestor_decides}
-use Rattle.jl_types.proofs.Bools.{first_test}
+use Rattle.jl_types.proofs.Bools.{first_test, second_test}
 use Rattle.jl_types.proofs.Firsts.{first_none, test_none}
 use Rattle.jl_types.proofs.Lists.{passes_within}
+use Rattle.jl_types.proofs.Releasing.{unreleased_within}
 use Rattle.jl_types.proofs.Orders.{IsGood, looked_up}
 use Rattle.jl_hierarchy.specs.Constancy.{IsClosed}
 use Rattle.jl_renewal.specs.Numbers.{Numbers, renumbered, renumbered_target}
-use Rattle.jl_renewal.specs.Staying.{is_in_staying_class}
+use Rattle.jl_renewal.specs.Staying.{is_in_staying_class, has_lost_call_site}
 use Rattle.jl_renewal.specs.Renewed.{renumbered_class, renumbered_place, renumbered_binding, renumbered_call_site}
 use Rattle.jl_renewal.specs.Moved.{Flags, Rests, Names, moved, shifted, kept, moved_class, moved_classes, moved_place, moved_binding}
 use Rattle.jl_renewal.specs.Moved.{moved_target, moved_call_site, moved_world, all_numbers}
@@ -33,9 +37,11 @@ use Rattle.jl_renewal.proofs.AlikeLaws.{are_alike}
 use Rattle.jl_renewal.proofs.AlikeSites.{SitesAlike}
 use Rattle.jl_renewal.proofs.AlikeClasses.{present_row}
 use Rattle.jl_renewal.proofs.ClassPhase.{lookup_there}
-use Rattle.jl_renewal.proofs.MovedLists.{there_is, moved_onto, moved_rises, same_numbers, other_moved, kept_at, shifted_is}
+use Rattle.jl_renewal.proofs.MovedLists.{there_is, moved_onto, moved_rises, same_numbers, kept_at, shifted_is}
 use Rattle.jl_renewal.proofs.MovedClasses.{finds, live_stays, present_stays, present_same, row_at}
 use Rattle.jl_renewal.proofs.MovedTargets.{call_site_at}
+use Rattle.jl_renewal.proofs.ReleasedRows.{missing_row, present_within as row_within, row_kept}
+use Rattle.jl_renewal.proofs.RenewedSites.{lost_there}
 use Rattle.jl_renewal.proofs.MovedRetiring.{ancestor_was}
 use Rattle.jl_renewal.proofs.MovedCarries.{number_at}
 use Rattle.jl_renewal.proofs.MovedNames.{invoked_there, guard_there}
@@ -198,51 +204,94 @@ module _ (k : Flags) (w : World) (rests : Rests k w) (names : Names k w) (fit : 
     abbrev t : ℕ
     t = (site_of s kept).0
 
-    binding_alike : (bs : List (ℕ × ℕ)) → ((i : ℕ) (b : ℕ × ℕ) → slice_get bs i ≡ Some b → is_some (moved k.sites b.0) ≡ true
-        → (d : ℕ) × (moved k.call_sites b.1 ≡ Some d) × (renumbered n.call_sites b.1 ≡ d))
-        → find (λ b. b.0 == t) (filter_map (moved_binding k) bs) ≡ option_map (renumbered_binding n) (find (λ b. b.0 == s) bs)
-    binding_alike [] all = refl
-    binding_alike (b ∷ bs) all = by_site (moved k.sites b.0) refl (all zero b refl) (binding_alike bs (λ i. all (suc i)))
+    abbrev found : List (ℕ × ℕ) → Option (ℕ × ℕ)
+    found bs = find (λ b. b.0 == t) bs
+
+    -- one of a site that is gone, or to a call site that is, is passed over
+    abbrev there_or_not : Option ℕ → Option ℕ → Option (ℕ × ℕ)
+    there_or_not o c = option_and_then (λ (s : ℕ). option_map (λ (c : ℕ). (s, c)) c) o
+
+    -- one of another site
+    other_binding : (b : ℕ × ℕ) (rest : List (ℕ × ℕ)) → (b.0 == s) ≡ false → (o c : Option ℕ) → moved k.sites b.0 ≡ o
+        → found (cons_option (there_or_not o c) rest) ≡ found rest
+    other_binding b rest other None c is = refl
+    other_binding b rest other (Some j) None is = refl
+    other_binding b rest other (Some j) (Some d) is =
+        ap (λ (x : Bool). if x then Some (j, d) else found rest) (same_numbers k.sites b.0 s j t is (site_of s kept).1 ∙ other)
+
+    binding_alike : (bs : List (ℕ × ℕ)) → ((i : ℕ) (b : ℕ × ℕ) → slice_get bs i ≡ Some b → is_missing w.sites.call_sites b.1 ≡ false
+        → is_some (moved k.sites b.0) ≡ true → (d : ℕ) × (moved k.call_sites b.1 ≡ Some d) × (renumbered n.call_sites b.1 ≡ d))
+        → option_map_or (is_missing w.sites.call_sites) (option_map (λ b. b.1) (find (λ b. b.0 == s) bs)) false ≡ false
+        → found (filter_map (moved_binding k) bs) ≡ option_map (renumbered_binding n) (find (λ b. b.0 == s) bs)
+    binding_alike [] all there = refl
+    binding_alike (b ∷ bs) all there = by_site (b.0 == s) refl there (all zero b refl) (binding_alike bs (λ i. all (suc i)))
       where
         rest : Option (ℕ × ℕ)
         rest = find (λ a. a.0 == s) bs
 
-        by_site : (o : Option ℕ) → moved k.sites b.0 ≡ o
-            → (is_some (moved k.sites b.0) ≡ true → (d : ℕ) × (moved k.call_sites b.1 ≡ Some d) × (renumbered n.call_sites b.1 ≡ d))
-            → find (λ b. b.0 == t) (filter_map (moved_binding k) bs) ≡ option_map (renumbered_binding n) rest
-            → find (λ b. b.0 == t)
-            (cons_option (option_and_then (λ (s : ℕ). option_map (λ (c : ℕ). (s, c)) (moved k.call_sites b.1)) o) (filter_map (moved_binding k) bs))
-            ≡ option_map (renumbered_binding n) (if b.0 == s then Some b else rest)
-        by_site None is call_site same =
-            same ∙ sym (ap (λ (x : Bool). option_map (renumbered_binding n) (if x then Some b else rest)) (other_moved k.sites b.0 s t is (site_of s kept).1))
-        by_site (Some j) is call_site same =
-            let d = call_site (ap is_some is) in
-            ap (λ (o : Option ℕ). find (λ b. b.0 == t) (cons_option (option_map (λ (c : ℕ). (j, c)) o) (filter_map (moved_binding k) bs))) d.1
-            ∙ by_test (b.0 == s) refl (same_numbers k.sites b.0 s j t is (site_of s kept).1) d.0 d.2 same
-          where
-            by_test : (x : Bool) → (b.0 == s) ≡ x → (j == t) ≡ (b.0 == s) → (d : ℕ) → renumbered n.call_sites b.1 ≡ d
-                → find (λ b. b.0 == t) (filter_map (moved_binding k) bs) ≡ option_map (renumbered_binding n) rest
-                → (if j == t then Some (j, d) else find (λ b. b.0 == t) (filter_map (moved_binding k) bs))
-                ≡ option_map (renumbered_binding n) (if b.0 == s then Some b else rest)
-            by_test true is_s same_test d number same =
-                ap (λ (x : Bool). if x then Some (j, d) else find (λ b. b.0 == t) (filter_map (moved_binding k) bs)) (same_test ∙ is_s)
-                ∙ ((λ i. Some (site_number i, sym number i))
-                ∙ sym (ap (λ (x : Bool). option_map (renumbered_binding n) (if x then Some b else rest)) is_s))
-              where
-                site_number : j ≡ renumbered n.sites b.0
-                site_number =
-                    (Decides-eqb j t).0 (same_test ∙ is_s)
-                    ∙ (sym (site_of s kept).2 ∙ ap (renumbered n.sites) (sym ((Decides-eqb b.0 s).0 is_s)))
-            by_test false is_s same_test d number same =
-                ap (λ (x : Bool). if x then Some (j, d) else find (λ b. b.0 == t) (filter_map (moved_binding k) bs)) (same_test ∙ is_s)
-                ∙ (same ∙ sym (ap (λ (x : Bool). option_map (renumbered_binding n) (if x then Some b else rest)) is_s))
+        here : (b.0 == s) ≡ true → (d : ℕ) → moved k.call_sites b.1 ≡ Some d → renumbered n.call_sites b.1 ≡ d
+            → found (cons_option (moved_binding k b) (filter_map (moved_binding k) bs)) ≡ Some (renumbered_binding n b)
+        here is d call_site number =
+            let same = (Decides-eqb b.0 s).0 is in
+            let at = ap (moved k.sites) same ∙ (site_of s kept).1 in
+            let site = ap (renumbered n.sites) same ∙ (site_of s kept).2 in
+            (λ i. found (cons_option (there_or_not (at i) (call_site i)) (filter_map (moved_binding k) bs)))
+            ∙ (ap (λ (x : Bool). if x then Some (t, d) else found (filter_map (moved_binding k) bs)) (nat_eq_equiv.refl t)
+            ∙ (λ i. Some (sym site i, sym number i)))
 
-  bound_there : (i : ℕ) (b : ℕ × ℕ) → slice_get w.bindings i ≡ Some b → is_some (moved k.sites b.0) ≡ true
+        by_site : (x : Bool) → (b.0 == s) ≡ x
+            → option_map_or (is_missing w.sites.call_sites) (option_map (λ b. b.1) (if x then Some b else rest)) false ≡ false
+            → (is_missing w.sites.call_sites b.1 ≡ false → is_some (moved k.sites b.0) ≡ true
+            → (d : ℕ) × (moved k.call_sites b.1 ≡ Some d) × (renumbered n.call_sites b.1 ≡ d))
+            → (option_map_or (is_missing w.sites.call_sites) (option_map (λ b. b.1) rest) false ≡ false
+            → found (filter_map (moved_binding k) bs) ≡ option_map (renumbered_binding n) rest)
+            → found (cons_option (moved_binding k b) (filter_map (moved_binding k) bs)) ≡ option_map (renumbered_binding n) (if x then Some b else rest)
+        by_site true is there call_site same =
+            let stays = ap (λ (r : ℕ). is_some (moved k.sites r)) ((Decides-eqb b.0 s).0 is) ∙ ap is_some (site_of s kept).1 in
+            let d = call_site there stays in
+            here is d.0 d.1 d.2
+        by_site false is there call_site same =
+            other_binding b (filter_map (moved_binding k) bs) is (moved k.sites b.0) (moved k.call_sites b.1) refl ∙ same there
+
+    -- a site that has lost its call site runs nothing
+    abbrev runs : Option (ℕ × ℕ) → Option MethodId
+    runs o = option_and_then (method_of v.sites) (option_map (λ b. b.1) o)
+
+    none_runs : (bs : List (ℕ × ℕ)) → ((i : ℕ) (b : ℕ × ℕ) → slice_get bs i ≡ Some b → b.0 ≡ s → is_missing w.sites.call_sites b.1 ≡ true)
+        → runs (found (filter_map (moved_binding k) bs)) ≡ None
+    none_runs [] gone = refl
+    none_runs (b ∷ bs) gone = by_site (b.0 == s) refl (none_runs bs (λ i. gone (suc i)))
+      where
+        released_there : (c d : ℕ) → moved k.call_sites c ≡ Some d → is_missing w.sites.call_sites c ≡ true → method_of v.sites d ≡ None
+        released_there c d is missing =
+            ap (option_and_then (λ site. evaluated v.sites d site.target))
+            (call_site_at k w rests c d is ∙ ap (option_map (moved_call_site k)) (missing_row w.sites.call_sites c missing))
+
+        by_call_site : (j : ℕ) (o : Option ℕ) → moved k.call_sites b.1 ≡ o → is_missing w.sites.call_sites b.1 ≡ true
+            → runs (found (filter_map (moved_binding k) bs)) ≡ None
+            → runs (found (cons_option (there_or_not (Some j) o) (filter_map (moved_binding k) bs))) ≡ None
+        by_call_site j None is missing rest = rest
+        by_call_site j (Some d) is missing rest = by_test (j == t)
+          where
+            by_test : (x : Bool) → runs (if x then Some (j, d) else found (filter_map (moved_binding k) bs)) ≡ None
+            by_test true = released_there b.1 d is missing
+            by_test false = rest
+
+        by_site : (x : Bool) → (b.0 == s) ≡ x → runs (found (filter_map (moved_binding k) bs)) ≡ None
+            → runs (found (cons_option (moved_binding k b) (filter_map (moved_binding k) bs))) ≡ None
+        by_site true is rest =
+            let same = (Decides-eqb b.0 s).0 is in
+            ap (λ (o : Option ℕ). runs (found (cons_option (there_or_not o (moved k.call_sites b.1)) (filter_map (moved_binding k) bs))))
+            (ap (moved k.sites) same ∙ (site_of s kept).1)
+            ∙ by_call_site t (moved k.call_sites b.1) refl (gone zero b refl same) rest
+        by_site false is rest =
+            ap runs (other_binding b (filter_map (moved_binding k) bs) is (moved k.sites b.0) (moved k.call_sites b.1) refl) ∙ rest
+
+  bound_there : (i : ℕ) (b : ℕ × ℕ) → slice_get w.bindings i ≡ Some b → is_missing w.sites.call_sites b.1 ≡ false → is_some (moved k.sites b.0) ≡ true
       → (d : ℕ) × (moved k.call_sites b.1 ≡ Some d) × (renumbered n.call_sites b.1 ≡ d)
-  bound_there i b at stays =
-      let d = there_is (moved k.call_sites b.1) (names.bound i b at stays) in
-      let bound = fit.bindings i b at in
-      (d.0, d.1, call_site_number b.1 d.0 (slice_get_within w.sites.call_sites b.1 bound.call_site bound.there) d.1)
+  bound_there i b at there stays =
+      let d = there_is (moved k.call_sites b.1) (names.bound i b at there stays) in
+      (d.0, d.1, call_site_number b.1 d.0 (fit.bindings i b at).within d.1)
 
   -- ---- call sites
 
@@ -252,10 +301,10 @@ module _ (k : Flags) (w : World) (rests : Rests k w) (names : Names k w) (fit : 
       let present = first_test (is_present cs m.class) _ (not-false (may_be_named cs m) named) in
       ap (λ (d : ℕ). Method (record m { class = d })) (class_number m.class (present_within m.class present))
   target_alike c lt ty (Guard p first fallback) none =
-      let known = first_none (then_some (nat_le (length w.sites.switches) p) UnknownSwitch) _ none in
+      let known = first_none (then_some (is_missing w.sites.switches p) UnknownSwitch) _ none in
       let left = first_none (part_fault w c ty first) _ known.1 in
       let right = first_none (part_fault w c ty fallback) [] left.1 in
-      let there = leb-false (length w.sites.switches) p (test_none (nat_le (length w.sites.switches) p) UnknownSwitch known.0) in
+      let there = row_within w.sites.switches p (test_none (is_missing w.sites.switches p) UnknownSwitch known.0) in
       let point = ap (λ (o : Option ℕ). unwrap_or o 0) (sym (number_at k.switches (length w.sites.switches) p there)) in
       let x = target_alike c lt ty first left.0 in
       let y = target_alike c lt ty fallback right.0 in
@@ -265,11 +314,11 @@ module _ (k : Flags) (w : World) (rests : Rests k w) (names : Names k w) (fit : 
       let less = leb-false c d (test_none (nat_le c d) (InvokerOrder d) order.0) in
       ap (λ (o : Option ℕ). Invoker (unwrap_or o 0)) (sym (number_at k.call_sites (length w.sites.call_sites) d (omega (arith, less, lt))))
 
-  call_site_alike : (c : ℕ) (site : CallSite) → slice_get w.sites.call_sites c ≡ Some site → moved_call_site k site ≡ renumbered_call_site n site
+  call_site_alike : (c : ℕ) (site : CallSite) → unreleased w.sites.call_sites c ≡ Some site → moved_call_site k site ≡ renumbered_call_site n site
   call_site_alike c site at =
       let deep = first_none (then_some (nat_lt 64 (depth site.target) || nat_lt 255 (parts site.target)) TooDeep) _ (fit.targets c site at) in
       let part = first_none (part_fault w c site.ty site.target) [] deep.1 in
-      ap (λ (t : Target). record site { target = t }) (target_alike c (slice_get_within w.sites.call_sites c site at) site.ty site.target part.0)
+      ap (λ (t : Target). record site { target = t }) (target_alike c (unreleased_within w.sites.call_sites c site at) site.ty site.target part.0)
 
   call_site_of : (c : ℕ) → is_some (moved k.call_sites c) ≡ true → c < length w.sites.call_sites
       → (d : ℕ) × (moved k.call_sites c ≡ Some d) × (renumbered n.call_sites c ≡ d)
@@ -282,11 +331,17 @@ module _ (k : Flags) (w : World) (rests : Rests k w) (names : Names k w) (fit : 
     fit = fit;
     alike = are_alike n cs ds embeds;
     places = place_alike;
-    bindings = λ s kept. ap (λ (j : ℕ). find (λ b. b.0 == j) v.bindings) (site_of s kept).2 ∙ binding_alike s kept w.bindings bound_there;
-    bound = λ i b at kept. names.bound i b at (ap is_some (site_of b.0 kept).1);
+    bindings = λ s alive.
+        let kept = first_test (is_in_staying_class w s) _ alive in
+        ap (λ (j : ℕ). find (λ b. b.0 == j) v.bindings) (site_of s kept).2
+        ∙ binding_alike s kept w.bindings bound_there (not-true (has_lost_call_site w s) (second_test (is_in_staying_class w s) _ alive));
+    lost = λ s kept lost.
+        ap (λ (j : ℕ). option_and_then (method_of v.sites) (bound_to v j)) (site_of s kept).2
+        ∙ none_runs s kept w.bindings (λ i b at is. lost_there w fit s lost i b at is);
+    bound = λ i b at there kept. names.bound i b at there (ap is_some (site_of b.0 kept).1);
     rows = λ c site stays at.
-        let d = call_site_of c stays (slice_get_within w.sites.call_sites c site at) in
-        ap (slice_get v.sites.call_sites) d.2
+        let d = call_site_of c stays (unreleased_within w.sites.call_sites c site at) in
+        ap (unreleased v.sites.call_sites) d.2
         ∙ (call_site_at k w rests c d.0 d.1 ∙ (ap (option_map (moved_call_site k)) at ∙ ap Some (call_site_alike c site at)));
     order = λ d c d_stays c_stays lt within.
         let x = call_site_of d d_stays (omega (arith, lt, within)) in
@@ -295,10 +350,11 @@ module _ (k : Flags) (w : World) (rests : Rests k w) (names : Names k w) (fit : 
         let ex = x.2 in
         let ey = y.2 in
         omega (arith, rises, ex, ey);
-    invoked = λ c d site at stays lt h. invoked_there k site.target d (names.targets c site at stays) h;
-    valid = λ c p site at stays lt h.
+    invoked = λ c d site at stays lt there h. invoked_there k site.target d (names.targets c site at stays) h;
+    valid = λ c p site at stays there h.
         let q = there_is (moved k.switches p) (guard_there k site.target p (names.targets c site at stays) h) in
         ap (λ (o : Option Bool). option_map_or (λ valid. valid) o false)
-        (ap (slice_get v.sites.switches) (ap (λ (o : Option ℕ). unwrap_or o 0) (number_at k.switches (length w.sites.switches) p lt ∙ q.1))
-        ∙ kept_at k.switches w.sites.switches p q.0 q.1);
+        (ap (unreleased v.sites.switches) (ap (λ (o : Option ℕ). unwrap_or o 0)
+        (number_at k.switches (length w.sites.switches) p (row_within w.sites.switches p there) ∙ q.1))
+        ∙ row_kept k.switches w.sites.switches p q.0 q.1);
   }

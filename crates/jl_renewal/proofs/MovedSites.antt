@@ -1,13 +1,13 @@
 -- Events of call sites, switch points, places and bindings are accepted in the fresh core, and lead there to what they have led to in the
 -- old one.
-use Rattle.std.specs.Prelude.{◌≡◌, ℕ, zero, suc, ◌<◌, ◌≤◌, ◌==◌, ◌&&◌, ◌||◌, not, nat_le, Bool, true, false, List, [], ◌∷◌, ◌++◌, map, filter_map}
-use Rattle.std.specs.Prelude.{length, slice_get, slice_set, find, position, get_or, Option, Some, None, option_map, option_and_then, is_some, is_ok}
+use Rattle.std.specs.Prelude.{◌≡◌, ℕ, zero, suc, ◌≤◌, ◌==◌, ◌&&◌, ◌||◌, not, nat_le, Bool, true, false, List, [], ◌∷◌, ◌++◌, map, filter_map}
+use Rattle.std.specs.Prelude.{length, slice_get, slice_set, find, position, get_or, Option, Some, None, option_map, option_and_then, is_some, is_none, is_ok}
 use Rattle.std.specs.Prelude.{Err, IsOk, if◌then◌else◌}
 use Rattle.std.specs.Bool.{then_some}
 use Rattle.std.specs.List.{cons_option, list_any}
 use Rattle.std.specs.Option.{option_map_or}
 use Rattle.std.proofs.Common.{refl, sym, ap, ◌∙◌, arith}
-use Rattle.std.proofs.lemmas.Bool.{lt-leb, leb-false, or_from, or_parts, both_ways}
+use Rattle.std.proofs.lemmas.Bool.{lt-leb, or_from, or_parts, both_ways}
 use Rattle.std.proofs.lemmas.Cmp.{nat_eq_equiv}
 use Rattle.std.proofs.lemmas.List.{length-map, map_push}
 use Rattle.std.proofs.lemmas.List.Elements.{filter_map-append}
@@ -16,6 +16,7 @@ use Rattle.std.proofs.lemmas.Map.Keys.{any_passes_from_place}
 use Rattle.std.proofs.lemmas.Option.{slice_get-map, slice_get-get_or}
 use Rattle.jl_types.specs.declared.limits.Limits.{Limits}
 use Rattle.jl_class.specs.Site.{Site}
+use Rattle.jl_class.specs.declared.site.Operand.TheVariants as operand
 use Rattle.jl_types.specs.declared.ids.Place.{Place}
 use Rattle.jl_types.specs.declared.event.EventOf.TheVariants as event
 use Rattle.jl_types.specs.declared.event.Made.{Made}
@@ -26,10 +27,10 @@ use Rattle.jl_types.specs.declared.refusal.Refusal.TheVariants.{CallSite, Unknow
 use Rattle.jl_types.specs.declared.refusal.NotLinkable.TheVariants.{ArrayReceiver, PolymorphicSignature}
 use Rattle.jl_types.specs.declared.target.CallSiteKind.{CallSiteKind}
 use Rattle.jl_types.specs.Values.Target.{Target}
-use Rattle.jl_types.specs.Values.World.{World, CallSite as CallSiteRow}
+use Rattle.jl_types.specs.Values.World.{World, CallSite as CallSiteRow, unreleased, is_missing}
 use Rattle.jl_types.specs.Values.Members.{is_present}
 use Rattle.jl_types.specs.Linkage.Resolution.{first_of}
-use Rattle.jl_types.specs.Linkage.Stages.{invocation_at}
+use Rattle.jl_types.specs.Linkage.Stages.{invocation_at, bound_to}
 use Rattle.jl_types.specs.Linkage.Targets.{target_fault}
 use Rattle.jl_types.specs.Events.Limits.{AreNoFewer}
 use Rattle.jl_types.specs.Events.Verdict.{verdict, unless, same_place, names_array, is_polymorphic, new_place_fault, request_place, if_invoked}
@@ -43,9 +44,10 @@ use Rattle.jl_renewal.specs.Moved.{Flags, Rests, moved, kept, moved_place, moved
 use Rattle.jl_renewal.proofs.MovedFollows.{Follows}
 use Rattle.jl_renewal.proofs.Fit.{IsBinding}
 use Rattle.jl_renewal.proofs.FitParts.{none_placed}
-use Rattle.jl_renewal.proofs.MovedLists.{shifted_is, same_numbers, other_moved, kept_at, kept_more, kept_fewer, kept_set, kept_unset, moved_within}
+use Rattle.jl_renewal.proofs.MovedLists.{shifted_is, same_numbers, other_moved, kept_at, kept_more, kept_fewer, kept_set, kept_unset}
 use Rattle.jl_renewal.proofs.MovedLists.{moved_end, map_set, there_is}
 use Rattle.jl_renewal.proofs.MovedClasses.{present_same, invocation_same}
+use Rattle.jl_renewal.proofs.ReleasedRows.{row_kept}
 use Rattle.jl_renewal.proofs.MovedTargets.{target_is, target_free, call_site_at}
 
 -- ---- one element more, and another one in its place
@@ -72,35 +74,36 @@ allowed_by false r m e = refl
 
 -- ---- switch points
 
-invalid_same : (stays : List Bool) (switches : List Bool) (points : List ℕ)
+invalid_same : (stays : List Bool) (switches : List (Option Bool)) (points : List ℕ)
     → invalidated (kept stays switches) (filter_map (moved stays) points) ≡ kept stays (invalidated switches points)
 invalid_same stays switches [] = refl
-invalid_same stays switches (p ∷ points) = by_number (moved stays p) refl (invalid_same stays (slice_set switches p false) points)
+invalid_same stays switches (p ∷ points) = by_number (moved stays p) refl (invalid_same stays (slice_set switches p (Some false)) points)
   where
     by_number : (o : Option ℕ) → moved stays p ≡ o
-        → invalidated (kept stays (slice_set switches p false)) (filter_map (moved stays) points)
-        ≡ kept stays (invalidated (slice_set switches p false) points)
+        → invalidated (kept stays (slice_set switches p (Some false))) (filter_map (moved stays) points)
+        ≡ kept stays (invalidated (slice_set switches p (Some false)) points)
         → invalidated (kept stays switches) (cons_option o (filter_map (moved stays) points))
-        ≡ kept stays (invalidated (slice_set switches p false) points)
+        ≡ kept stays (invalidated (slice_set switches p (Some false)) points)
     by_number None is rest =
-        ap (λ (s : List Bool). invalidated s (filter_map (moved stays) points)) (sym (kept_unset stays switches p false is)) ∙ rest
+        ap (λ (s : List (Option Bool)). invalidated s (filter_map (moved stays) points)) (sym (kept_unset stays switches p (Some false) is)) ∙ rest
     by_number (Some q) is rest =
-        ap (λ (s : List Bool). invalidated s (filter_map (moved stays) points)) (sym (kept_set stays switches p q false is)) ∙ rest
+        ap (λ (s : List (Option Bool)). invalidated s (filter_map (moved stays) points)) (sym (kept_set stays switches p q (Some false) is)) ∙ rest
 
-all_there : (stays : List Bool) (switches : List Bool) (points : List ℕ) → list_any (nat_le (length switches)) points ≡ false
-    → list_any (nat_le (length (kept stays switches))) (filter_map (moved stays) points) ≡ false
-all_there stays switches [] e = refl
-all_there stays switches (p ∷ points) e =
-    let parts = or_parts (nat_le (length switches) p) (list_any (nat_le (length switches)) points) e in
-    by_number (moved stays p) refl (leb-false (length switches) p parts.0) (all_there stays switches points parts.1)
+-- those that aren't released are there
+pub all_there : {A : Type 0} (stays : List Bool) (rows : List (Option A)) (ks : List ℕ) → list_any (is_missing rows) ks ≡ false
+    → list_any (is_missing (kept stays rows)) (filter_map (moved stays) ks) ≡ false
+all_there stays rows [] e = refl
+all_there {A = A} stays rows (p ∷ ks) e =
+    let parts = or_parts (is_missing rows p) (list_any (is_missing rows) ks) e in
+    by_number (moved stays p) refl parts.0 (all_there stays rows ks parts.1)
   where
-    by_number : (o : Option ℕ) → moved stays p ≡ o → p < length switches
-        → list_any (nat_le (length (kept stays switches))) (filter_map (moved stays) points) ≡ false
-        → list_any (nat_le (length (kept stays switches))) (cons_option o (filter_map (moved stays) points)) ≡ false
-    by_number None is lt rest = rest
-    by_number (Some q) is lt rest =
-        or_from (nat_le (length (kept stays switches)) q) (list_any (nat_le (length (kept stays switches))) (filter_map (moved stays) points))
-        (lt-leb (length (kept stays switches)) q (moved_within stays switches p q is lt)) rest
+    by_number : (o : Option ℕ) → moved stays p ≡ o → is_missing rows p ≡ false
+        → list_any (is_missing (kept stays rows)) (filter_map (moved stays) ks) ≡ false
+        → list_any (is_missing (kept stays rows)) (cons_option o (filter_map (moved stays) ks)) ≡ false
+    by_number None is there rest = rest
+    by_number (Some q) is there rest =
+        or_from (is_missing (kept stays rows) q) (list_any (is_missing (kept stays rows)) (filter_map (moved stays) ks))
+        (ap (λ (o : Option A). is_none o) (row_kept stays rows p q is) ∙ there) rest
 
 module _ (k : Flags) (w : World) (rests : Rests k w) (limits more : Limits) (most : AreNoFewer limits more) where
   abbrev v : World
@@ -115,14 +118,14 @@ module _ (k : Flags) (w : World) (rests : Rests k w) (limits more : Limits) (mos
       record {
         accepted = allowed_by (nat_le more.switches (length v.sites.switches)) (CallSite fault.Full) _
             (lt-leb more.switches (length v.sites.switches) (omega (arith, lt, fewer, up)));
-        after = ap (with_switches v) (sym (kept_more k.switches w.sites.switches true rests.few_switches));
+        after = ap (with_switches v) (sym (kept_more k.switches w.sites.switches (Some true) rests.few_switches));
       }
 
   pub invalidation_follows : (points : List ℕ) → IsOk (verdict limits w (event.Invalidate points))
       → Follows more k w (event.Invalidate points) (event.Invalidate (filter_map (moved k.switches) points))
   invalidation_follows points accepted =
       let none = no_fault CallSite (invalidate_fault w points) _ accepted in
-      let there = test_none (list_any (nat_le (length w.sites.switches)) points) fault.UnknownSwitch none in
+      let there = test_none (list_any (is_missing w.sites.switches) points) fault.UnknownSwitch none in
       record {
         accepted = allowed CallSite (invalidate_fault v (filter_map (moved k.switches) points)) _
             (ap (λ (b : Bool). then_some b fault.UnknownSwitch) (all_there k.switches w.sites.switches points there));
@@ -138,43 +141,46 @@ module _ (k : Flags) (w : World) (rests : Rests k w) (limits more : Limits) (mos
       let full = first_none (then_some (nat_le limits.call_sites (length w.sites.call_sites)) fault.Full) _ none in
       let free = first_none (target_fault w (length w.sites.call_sites) ty t) [] full.1 in
       let lt = room_below limits.call_sites (length w.sites.call_sites) fault.Full full.0 in
-      let fewer = map_kept_fewer (moved_call_site k) k.call_sites w.sites.call_sites in
+      let fewer = map_kept_fewer (option_map (moved_call_site k)) k.call_sites w.sites.call_sites in
       let at = moved_end k.call_sites w.sites.call_sites rests.few_call_sites
-      ∙ ap Some (sym (length-map (kept k.call_sites w.sites.call_sites) (moved_call_site k))) in
+      ∙ ap Some (sym (length-map (kept k.call_sites w.sites.call_sites) (option_map (moved_call_site k)))) in
       let up = most.call_sites in
       let room = lt-leb more.call_sites (length v.sites.call_sites) (omega (arith, lt, fewer, up)) in
       let taken = target_free k w rests (length w.sites.call_sites) (length v.sites.call_sites) at ty t u there free.0 in
       record {
         accepted = allowed CallSite (new_call_site_fault more.call_sites v ty u) _ (λ i. first_of (then_some (room i) fault.Full ∷ taken i ∷ []));
         after = ap (with_call_sites v)
-            (ap (λ (x : Target). v.sites.call_sites ++ record { kind = kind; ty = ty; target = x } ∷ []) (sym (target_is k t u there))
-            ∙ sym (pushed (moved_call_site k) k.call_sites w.sites.call_sites (record { kind = kind; ty = ty; target = t }) rests.few_call_sites));
+            (ap (λ (x : Target). v.sites.call_sites ++ Some (record { kind = kind; ty = ty; target = x }) ∷ []) (sym (target_is k t u there))
+            ∙ sym (pushed (option_map (moved_call_site k)) k.call_sites w.sites.call_sites (Some (record { kind = kind; ty = ty; target = t }))
+            rests.few_call_sites));
       }
 
   pub target_follows : (c d : ℕ) (t u : Target) → moved k.call_sites c ≡ Some d → target_there k t ≡ Some u
       → IsOk (verdict limits w (event.SetTarget c t)) → Follows more k w (event.SetTarget c t) (event.SetTarget d u)
   target_follows c d t u at there accepted =
-      by_site (slice_get w.sites.call_sites c) refl (no_fault CallSite (set_target_fault w c (slice_get w.sites.call_sites c) t) _ accepted)
+      by_site (unreleased w.sites.call_sites c) refl (no_fault CallSite (set_target_fault w c (unreleased w.sites.call_sites c) t) _ accepted)
     where
       by_kind : (site : CallSiteRow) (b : Bool) → (if b then Some fault.Constant else target_fault w c site.ty t) ≡ None
           → (if b then Some fault.Constant else target_fault v d site.ty u) ≡ None
       by_kind site true none = cc
       by_kind site false none = target_free k w rests c d at site.ty t u there none
 
-      by_site : (o : Option CallSiteRow) → slice_get w.sites.call_sites c ≡ o → set_target_fault w c o t ≡ None
+      by_site : (o : Option CallSiteRow) → unreleased w.sites.call_sites c ≡ o → set_target_fault w c o t ≡ None
           → Follows more k w (event.SetTarget c t) (event.SetTarget d u)
       by_site None is none = cc
       by_site (Some site) is none =
           let here = call_site_at k w rests c d at ∙ ap (option_map (moved_call_site k)) is in
           record {
-            accepted = allowed CallSite (set_target_fault v d (slice_get v.sites.call_sites d) u) _
+            accepted = allowed CallSite (set_target_fault v d (unreleased v.sites.call_sites d) u) _
                 (ap (λ (o : Option CallSiteRow). set_target_fault v d o u) here ∙ by_kind site (is_constant site.kind) none);
             after = ap (with_call_sites v)
-                (ap (λ (o : Option CallSiteRow). option_map_or (λ row. slice_set v.sites.call_sites d (record row { target = u })) o v.sites.call_sites) here
-                ∙ (ap (λ (x : Target). slice_set v.sites.call_sites d (record { kind = site.kind; ty = site.ty; target = x })) (sym (target_is k t u there))
-                ∙ (sym (placed (moved_call_site k) k.call_sites w.sites.call_sites c d (record site { target = t }) at)
-                ∙ ap (λ (o : Option CallSiteRow). map (moved_call_site k) (kept k.call_sites
-                (option_map_or (λ row. slice_set w.sites.call_sites c (record row { target = t })) o w.sites.call_sites))) (sym is))));
+                (ap (λ (o : Option CallSiteRow).
+                option_map_or (λ row. slice_set v.sites.call_sites d (Some (record row { target = u }))) o v.sites.call_sites) here
+                ∙ (ap (λ (x : Target). slice_set v.sites.call_sites d (Some (record { kind = site.kind; ty = site.ty; target = x })))
+                (sym (target_is k t u there))
+                ∙ (sym (placed (option_map (moved_call_site k)) k.call_sites w.sites.call_sites c d (Some (record site { target = t })) at)
+                ∙ ap (λ (o : Option CallSiteRow). map (option_map (moved_call_site k)) (kept k.call_sites
+                (option_map_or (λ row. slice_set w.sites.call_sites c (Some (record row { target = t }))) o w.sites.call_sites))) (sym is))));
           }
 
 -- ---- places
@@ -315,6 +321,24 @@ module _ (k : Flags) (w : World) (rests : Rests k w) (limits more : Limits) (s c
       by_class true is e = refl
       by_class false is e = cc
 
+  -- the call site isn't released
+  row_there : (row : CallSiteRow) × (unreleased w.sites.call_sites c ≡ Some row)
+  row_there =
+      by_row (unreleased w.sites.call_sites c) refl
+      (first_none (type_fault bound.specifier.ty (unreleased w.sites.call_sites c)) [] (first_none (option_map AlreadyBound (bound_to w s)) _ free).1).0
+    where
+      free : operand_fault w s c (operand.CallSite bound.specifier) ≡ None
+      free =
+          sym (ap (bind_fault w s c) bound.requested
+          ∙ ((λ i. if class_there i then bind_at w s c (bound.at i) else Some (UnknownSite s))
+          ∙ ap (operand_fault w s c) bound.dynamic))
+          ∙ none
+
+      by_row : (o : Option CallSiteRow) → unreleased w.sites.call_sites c ≡ o → type_fault bound.specifier.ty o ≡ None
+          → (row : CallSiteRow) × (unreleased w.sites.call_sites c ≡ Some row)
+      by_row None is e = cc
+      by_row (Some row) is e = (row, is)
+
   -- no site is bound twice
   none_bound : (bs : List (ℕ × ℕ)) → option_map (λ (b : ℕ × ℕ). b.1) (find (λ b. b.0 == s) bs) ≡ None
       → option_map (λ (b : ℕ × ℕ). b.1) (find (λ b. b.0 == t) (filter_map (moved_binding k) bs)) ≡ None
@@ -355,13 +379,13 @@ module _ (k : Flags) (w : World) (rests : Rests k w) (limits more : Limits) (s c
   still_none =
       let present = present_same k w rests bound.place.class j class_number.1 ∙ class_there in
       let here = invocation_same k w rests bound.place j class_number.1 ∙ bound.at in
-      let there = call_site_at k w rests c d c_at ∙ ap (option_map (moved_call_site k)) bound.there in
+      let there = call_site_at k w rests c d c_at ∙ ap (option_map (moved_call_site k)) row_there.1 in
       let unbound = none_bound w.bindings (free_to_bind w s c none) in
       ap (bind_fault x t d) place_at
       ∙ ((λ i. if present i then bind_at x t d (here i) else Some (UnknownSite t))
       ∙ (ap (operand_fault x t d) bound.dynamic
       ∙ ((λ i. first_of (option_map AlreadyBound (unbound i) ∷ type_fault bound.specifier.ty (there i) ∷ []))
-      ∙ ap (λ (t : Bool). first_of (then_some (not t) TypeMismatch ∷ [])) bound.type)))
+      ∙ ap (λ (t : Bool). first_of (then_some (not t) TypeMismatch ∷ [])) (bound.type row_there.0 row_there.1))))
 
   pub binding_follows : Follows more k w (event.Bind s c) (event.Bind t d)
   binding_follows = record {

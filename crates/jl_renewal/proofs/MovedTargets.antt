@@ -1,24 +1,26 @@
 -- A target that the old core takes is taken in the fresh one, under new numbers.
-use Rattle.std.specs.Prelude.{◌≡◌, ℕ, ◌+◌, ◌||◌, not, max, nat_le, nat_lt, false, List, [], ◌∷◌, length, slice_get}
-use Rattle.std.specs.Prelude.{Option, Some, None, option_map, option_and_then, ◌&&◌}
+use Rattle.std.specs.Prelude.{◌≡◌, ℕ, ◌+◌, ◌||◌, not, max, nat_le, nat_lt, Bool, false, List, [], ◌∷◌, slice_get}
+use Rattle.std.specs.Prelude.{Option, Some, None, option_map, option_and_then, is_none, ◌&&◌}
 use Rattle.std.specs.Bool.{then_some}
 use Rattle.std.specs.Option.{option_map_or}
 use Rattle.std.specs.Str.{bytes_eq}
 use Rattle.std.proofs.Common.{refl, sym, ap, ◌∙◌}
 use Rattle.std.proofs.lemmas.Bool.{lt-leb, leb-false}
-use Rattle.std.proofs.lemmas.Option.{same_Some, slice_get-map}
+use Rattle.std.proofs.lemmas.Option.{same_Some}
 use Rattle.jl_class.specs.Flags.{has_flag, STATIC}
 use Rattle.jl_class.specs.Special.{begins_special}
 use Rattle.jl_types.specs.declared.ids.MethodId.{MethodId}
-use Rattle.jl_types.specs.declared.refusal.CallSiteFault.TheVariants.{UnknownMethod, NotStatic, WrongType, UnknownSwitch, TooDeep, InvokerOrder}
+use Rattle.jl_types.specs.declared.refusal.CallSiteFault.TheVariants.{UnknownCallSite, UnknownMethod, NotStatic, WrongType, UnknownSwitch}
+use Rattle.jl_types.specs.declared.refusal.CallSiteFault.TheVariants.{TooDeep, InvokerOrder}
 use Rattle.jl_types.specs.Values.Target.{Target, Method, Guard, Invoker, depth}
-use Rattle.jl_types.specs.Values.World.{World, CallSite}
+use Rattle.jl_types.specs.Values.World.{World, CallSite, unreleased, is_missing}
 use Rattle.jl_types.specs.Linkage.Resolution.{first_of}
 use Rattle.jl_types.specs.Linkage.Targets.{parts, part_fault, target_fault, invokes_type}
 use Rattle.jl_types.proofs.Firsts.{first_none, test_none}
 use Rattle.jl_renewal.specs.Carries.{guarded}
 use Rattle.jl_renewal.specs.Moved.{Flags, Rests, moved, kept, moved_target, moved_call_site, moved_world, target_there}
-use Rattle.jl_renewal.proofs.MovedLists.{shifted_is, moved_rises, moved_within, kept_at}
+use Rattle.jl_renewal.proofs.MovedLists.{shifted_is, moved_rises}
+use Rattle.jl_renewal.proofs.ReleasedRows.{row_kept, row_map, missing_map}
 use Rattle.jl_renewal.proofs.MovedClasses.{present_same, methods_same}
 
 -- ---- what is made of an option
@@ -62,14 +64,20 @@ module _ (k : Flags) (w : World) (rests : Rests k w) where
 
   -- a call site
   pub call_site_at : (c d : ℕ) → moved k.call_sites c ≡ Some d
-      → slice_get v.sites.call_sites d ≡ option_map (moved_call_site k) (slice_get w.sites.call_sites c)
+      → unreleased v.sites.call_sites d ≡ option_map (moved_call_site k) (unreleased w.sites.call_sites c)
   call_site_at c d e =
-      slice_get-map (moved_call_site k) (kept k.call_sites w.sites.call_sites) d
-      ∙ ap (option_map (moved_call_site k)) (kept_at k.call_sites w.sites.call_sites c d e)
+      row_map (moved_call_site k) (kept k.call_sites w.sites.call_sites) d
+      ∙ ap (option_map (moved_call_site k)) (row_kept k.call_sites w.sites.call_sites c d e)
+
+  -- one that isn't released
+  call_site_there : (c d : ℕ) → moved k.call_sites c ≡ Some d → is_missing v.sites.call_sites d ≡ is_missing w.sites.call_sites c
+  call_site_there c d e =
+      missing_map (moved_call_site k) (kept k.call_sites w.sites.call_sites) d
+      ∙ ap (λ (o : Option CallSite). is_none o) (row_kept k.call_sites w.sites.call_sites c d e)
 
   typed_same : (ty : List ℕ) (c d : ℕ) → moved k.call_sites c ≡ Some d → invokes_type v.sites ty d ≡ invokes_type w.sites ty c
   typed_same ty c d e =
-      ap (λ (o : Option CallSite). option_map_or (λ site. bytes_eq site.ty ty) o false) (call_site_at c d e) ∙ by_site (slice_get w.sites.call_sites c)
+      ap (λ (o : Option CallSite). option_map_or (λ site. bytes_eq site.ty ty) o false) (call_site_at c d e) ∙ by_site (unreleased w.sites.call_sites c)
     where
       by_site : (o : Option CallSite) → option_map_or (λ site. bytes_eq site.ty ty) (option_map (moved_call_site k) o) false
           ≡ option_map_or (λ site. bytes_eq site.ty ty) o false
@@ -96,24 +104,26 @@ module _ (k : Flags) (w : World) (rests : Rests k w) where
         let q = inv_then (λ q. guarded q (target_there k first) (target_there k fallback)) (moved k.switches p) u e in
         let a = inv_then (λ a. option_map (Guard q.0 a) (target_there k fallback)) (target_there k first) u q.2 in
         let b = inv_map (Guard q.0 a.0) (target_there k fallback) u a.2 in
-        let known = first_none (then_some (nat_le (length w.sites.switches) p) UnknownSwitch) _ none in
+        let known = first_none (then_some (is_missing w.sites.switches p) UnknownSwitch) _ none in
         let left = first_none (part_fault w c ty first) _ known.1 in
         let right = first_none (part_fault w c ty fallback) [] left.1 in
-        let lt = leb-false (length w.sites.switches) p (test_none (nat_le (length w.sites.switches) p) UnknownSwitch known.0) in
-        let here = moved_within k.switches w.sites.switches p q.0 q.1 lt in
-        let unknown = ap (nat_le (length v.sites.switches)) (shifted_is k.switches p q.0 q.1) ∙ lt-leb (length v.sites.switches) q.0 here in
+        let unknown = ap (is_missing v.sites.switches) (shifted_is k.switches p q.0 q.1)
+        ∙ (ap (λ (o : Option Bool). is_none o) (row_kept k.switches w.sites.switches p q.0 q.1)
+        ∙ test_none (is_missing w.sites.switches p) UnknownSwitch known.0) in
         let x = part_free first a.0 a.1 left.0 in
         let y = part_free fallback b.0 b.1 right.0 in
         λ i. first_of (then_some (unknown i) UnknownSwitch ∷ x i ∷ y i ∷ [])
     part_free (Invoker b) u e none =
         let h = inv_map Invoker (moved k.call_sites b) u e in
         let order = first_none (then_some (nat_le c b) (InvokerOrder b)) _ none in
-        let wrong = first_none (then_some (not (invokes_type w.sites ty b)) WrongType) [] order.1 in
+        let known = first_none (then_some (is_missing w.sites.call_sites b) UnknownCallSite) _ order.1 in
+        let wrong = first_none (then_some (not (invokes_type w.sites ty b)) WrongType) [] known.1 in
         let lt = leb-false c b (test_none (nat_le c b) (InvokerOrder b) order.0) in
         let less = lt-leb d h.0 (moved_rises k.call_sites b c h.0 d h.1 at lt) in
+        let there = call_site_there b h.0 h.1 ∙ test_none (is_missing w.sites.call_sites b) UnknownCallSite known.0 in
         let typed = ap not (typed_same ty b h.0 h.1) ∙ test_none (not (invokes_type w.sites ty b)) WrongType wrong.0 in
         ap (λ (j : ℕ). part_fault v d ty (Invoker j)) (shifted_is k.call_sites b h.0 h.1)
-        ∙ (λ i. first_of (then_some (less i) (InvokerOrder h.0) ∷ then_some (typed i) WrongType ∷ []))
+        ∙ (λ i. first_of (then_some (less i) (InvokerOrder h.0) ∷ then_some (there i) UnknownCallSite ∷ then_some (typed i) WrongType ∷ []))
 
     pub target_free : (t u : Target) → target_there k t ≡ Some u → target_fault w c ty t ≡ None → target_fault v d ty u ≡ None
     target_free t u e none =

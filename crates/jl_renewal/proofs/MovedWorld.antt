@@ -1,11 +1,11 @@
 -- At a renewal the fresh world is what the flags tell.
 use Rattle.std.specs.Prelude.{◌≡◌, ℕ, zero, suc, ◌<◌, ◌≤◌, ◌==◌, Bool, true, false, not, List, [], ◌∷◌, ◌++◌, map, filter, filter_map}
-use Rattle.std.specs.Prelude.{length, slice_get, nat_le, nat_lt, ◌||◌, Option, Some, None, option_map, option_and_then, option_to_list, if◌then◌else◌}
+use Rattle.std.specs.Prelude.{length, slice_get, nat_le, nat_lt, ◌&&◌, ◌||◌, Option, Some, None, option_map, option_and_then, option_to_list, if◌then◌else◌}
 use Rattle.std.specs.Option.{unwrap_or, option_map_or}
 use Rattle.std.specs.List.{AllByRecursion, cons_option, list_any}
 use Rattle.std.specs.Bool.{then_some}
 use Rattle.std.proofs.Common.{refl, sym, ap, ◌∙◌, arith}
-use Rattle.std.proofs.lemmas.Bool.{or_left, or_right, leb-false, not-false}
+use Rattle.std.proofs.lemmas.Bool.{or_left, or_right, leb-false, not-true, not-false}
 use Rattle.std.proofs.lemmas.Cmp.{nat_eq_equiv}
 use Rattle.std.proofs.lemmas.List.{length-map}
 use Rattle.std.proofs.lemmas.List.Elements.{recursion_from_All}
@@ -13,11 +13,11 @@ use Rattle.std.proofs.lemmas.List.FromFn.{length-map-range_with_len}
 use Rattle.std.proofs.lemmas.Option.{same_Some, slice_get_within, slice_get-map}
 use Rattle.jl_types.specs.declared.refusal.CallSiteFault.TheVariants.{UnknownMethod, UnknownSwitch, TooDeep, InvokerOrder}
 use Rattle.jl_types.specs.Values.Target.{Target, Method, Guard, Invoker, depth}
-use Rattle.jl_types.specs.Values.World.{World, Class, Classes}
+use Rattle.jl_types.specs.Values.World.{World, Class, Classes, CallSite, unreleased, is_missing}
 use Rattle.jl_types.specs.Values.Members.{is_present, is_retired}
 use Rattle.jl_types.specs.Values.Ancestry.{parents}
 use Rattle.jl_types.specs.Linkage.Targets.{parts, part_fault, may_be_named}
-use Rattle.jl_types.proofs.Bools.{first_test}
+use Rattle.jl_types.proofs.Bools.{first_test, second_test}
 use Rattle.jl_types.proofs.Firsts.{first_none, test_none}
 use Rattle.jl_types.proofs.Lists.{all_at, passes_within}
 use Rattle.jl_types.proofs.Orders.{IsGood}
@@ -30,7 +30,8 @@ use Rattle.jl_renewal.specs.Moved.{Flags, flags_of, moved, shifted, kept, moved_
 use Rattle.jl_renewal.specs.Moved.{moved_world}
 use Rattle.jl_renewal.proofs.Fit.{IsFit, IsBinding}
 use Rattle.jl_renewal.proofs.ClassLaws.{class_at, tested_at}
-use Rattle.jl_renewal.proofs.StayLaws.{number_of, bound_stays, call_sites_length, switches_length}
+use Rattle.jl_renewal.proofs.StayLaws.{number_of, bound_stays, call_sites_length, call_site_gone, switches_length}
+use Rattle.jl_renewal.proofs.ReleasedRows.{present_within}
 use Rattle.jl_renewal.proofs.MovedLists.{none_of}
 use Rattle.jl_renewal.proofs.MovedRecords.{AllPresent, AreKnown}
 use Rattle.jl_renewal.proofs.MovedFirst.{number_is, moved_some, live_in_range, place_row}
@@ -160,23 +161,25 @@ module _ (w : World) (released : Released) (fit : IsFit w) (closed : IsClosed w.
 
   -- ---- bindings
 
+  abbrev is_kept : ℕ × ℕ → Bool
+  is_kept b = is_in_staying_class w b.0 && not (is_missing w.sites.call_sites b.1)
+
   bindings_alike : (bs : List (ℕ × ℕ))
-      → ((i : ℕ) (b : ℕ × ℕ) → slice_get bs i ≡ Some b → (is_in_staying_class w b.0 ≡ true → moved_binding k b ≡ Some (renumbered_binding n b))
-      × (is_in_staying_class w b.0 ≡ false → moved_binding k b ≡ None))
-      → filter_map (moved_binding k) bs ≡ map (renumbered_binding n) (filter (λ b. is_in_staying_class w b.0) bs)
+      → ((i : ℕ) (b : ℕ × ℕ) → slice_get bs i ≡ Some b → (is_kept b ≡ true → moved_binding k b ≡ Some (renumbered_binding n b))
+      × (is_kept b ≡ false → moved_binding k b ≡ None))
+      → filter_map (moved_binding k) bs ≡ map (renumbered_binding n) (filter is_kept bs)
   bindings_alike [] h = refl
-  bindings_alike (b ∷ bs) h = by_test (is_in_staying_class w b.0) refl (bindings_alike bs (λ i. h (suc i)))
+  bindings_alike (b ∷ bs) h = by_test (is_kept b) refl (bindings_alike bs (λ i. h (suc i)))
     where
-      by_test : (t : Bool) → is_in_staying_class w b.0 ≡ t
-          → filter_map (moved_binding k) bs ≡ map (renumbered_binding n) (filter (λ b. is_in_staying_class w b.0) bs)
+      by_test : (t : Bool) → is_kept b ≡ t → filter_map (moved_binding k) bs ≡ map (renumbered_binding n) (filter is_kept bs)
           → cons_option (moved_binding k b) (filter_map (moved_binding k) bs)
-          ≡ map (renumbered_binding n) (if t then b ∷ filter (λ b. is_in_staying_class w b.0) bs else filter (λ b. is_in_staying_class w b.0) bs)
+          ≡ map (renumbered_binding n) (if t then b ∷ filter is_kept bs else filter is_kept bs)
       by_test true is rest = let first = (h zero b refl).0 is in λ i. cons_option (first i) (rest i)
       by_test false is rest = let first = (h zero b refl).1 is in λ i. cons_option (first i) (rest i)
 
-  binding_alike : (i : ℕ) (b : ℕ × ℕ) → slice_get w.bindings i ≡ Some b → (is_in_staying_class w b.0 ≡ true → moved_binding k b ≡ Some (renumbered_binding n b))
-      × (is_in_staying_class w b.0 ≡ false → moved_binding k b ≡ None)
-  binding_alike i b at = (stays, goes)
+  binding_alike : (i : ℕ) (b : ℕ × ℕ) → slice_get w.bindings i ≡ Some b → (is_kept b ≡ true → moved_binding k b ≡ Some (renumbered_binding n b))
+      × (is_kept b ≡ false → moved_binding k b ≡ None)
+  binding_alike i b at = (stays, λ is. goes (is_in_staying_class w b.0) refl is)
     where
       bound : IsBinding w b
       bound = fit.bindings i b at
@@ -190,16 +193,28 @@ module _ (w : World) (released : Released) (fit : IsFit w) (closed : IsClosed w.
           ∙ (ap (option_map (λ place. is_present cs place.class)) bound.requested
           ∙ ap Some (sym (ap (λ o. option_map_or (λ place. is_present cs place.class) o false) bound.requested) ∙ is))
 
-      stays : is_in_staying_class w b.0 ≡ true → moved_binding k b ≡ Some (renumbered_binding n b)
-      stays is =
+      stays : is_kept b ≡ true → moved_binding k b ≡ Some (renumbered_binding n b)
+      stays both =
+          let is = first_test (is_in_staying_class w b.0) _ both in
+          let there = not-true (is_missing w.sites.call_sites b.1) (second_test (is_in_staying_class w b.0) _ both) in
           let site = sym (number_is k.sites b.0 within) ∙ number_of k.sites b.0 (site_flag true is) in
-          let flag = bound_stays w released i b bound.call_site at bound.there is in
+          let flag = bound_stays w released i b at there is in
           let call_site = sym (number_is k.call_sites b.1 (slice_get_within k.call_sites b.1 true flag)) ∙ number_of k.call_sites b.1 flag in
           λ j. option_and_then (λ s. option_map (λ c. (s, c)) (call_site j)) (site j)
 
-      goes : is_in_staying_class w b.0 ≡ false → moved_binding k b ≡ None
-      goes is = ap (option_and_then (λ s. option_map (λ c. (s, c)) (moved k.call_sites b.1)))
+      nothing : (o : Option ℕ) → option_and_then {U = ℕ × ℕ} (λ (s : ℕ). option_map (λ (c : ℕ). (s, c)) None) o ≡ None
+      nothing None = refl
+      nothing (Some s) = refl
+
+      goes : (t : Bool) → is_in_staying_class w b.0 ≡ t → (t && not (is_missing w.sites.call_sites b.1)) ≡ false → moved_binding k b ≡ None
+      goes false is both = ap (option_and_then (λ s. option_map (λ c. (s, c)) (moved k.call_sites b.1)))
           (none_of (moved k.sites b.0) (moved_some k.sites b.0 false (site_flag false is)))
+      goes true is both =
+          let low = bound.within in
+          let many = call_sites_length w released in
+          let gone = sym (number_is k.call_sites b.1 (omega (arith, low, many)))
+          ∙ call_site_gone w released b.1 (not-false (is_missing w.sites.call_sites b.1) both) in
+          ap (λ (o : Option ℕ). option_and_then (λ s. option_map (λ c. (s, c)) o) (moved k.sites b.0)) gone ∙ nothing (moved k.sites b.0)
 
   -- ---- call sites
 
@@ -215,10 +230,10 @@ module _ (w : World) (released : Released) (fit : IsFit w) (closed : IsClosed w.
       let present = first_test (is_present cs m.class) _ (not-false (may_be_named cs m) named) in
       ap (λ (d : ℕ). Method (record m { class = d })) (class_number m.class (passes_within (λ row. not (is_retired cs row.loader)) cs.rows m.class present))
   target_alike c lt ty (Guard p first fallback) none =
-      let known = first_none (then_some (nat_le (length w.sites.switches) p) UnknownSwitch) _ none in
+      let known = first_none (then_some (is_missing w.sites.switches p) UnknownSwitch) _ none in
       let left = first_none (part_fault w c ty first) _ known.1 in
       let right = first_none (part_fault w c ty fallback) [] left.1 in
-      let there = leb-false (length w.sites.switches) p (test_none (nat_le (length w.sites.switches) p) UnknownSwitch known.0) in
+      let there = present_within w.sites.switches p (test_none (is_missing w.sites.switches p) UnknownSwitch known.0) in
       let many = many_switches in
       let point = shifted_is_number k.switches p (omega (arith, there, many)) in
       let x = target_alike c lt ty first left.0 in
@@ -230,15 +245,23 @@ module _ (w : World) (released : Released) (fit : IsFit w) (closed : IsClosed w.
       let many = many_call_sites in
       ap Invoker (shifted_is_number k.call_sites d (omega (arith, less, lt, many)))
 
-  call_sites_alike : map (moved_call_site k) (kept k.call_sites w.sites.call_sites)
-      ≡ map (renumbered_call_site n) (staying (staying_call_sites w released) w.sites.call_sites)
-  call_sites_alike =
-      ap (map (moved_call_site k)) (kept_is k.call_sites w.sites.call_sites (let many = many_call_sites in omega (arith, many)))
-      ∙ map_alike (moved_call_site k) (renumbered_call_site n) k.call_sites w.sites.call_sites
-      (λ c site at stays.
-      let deep = first_none (then_some (nat_lt 64 (depth site.target) || nat_lt 255 (parts site.target)) TooDeep) _ (fit.targets c site at) in
+  -- a call site, unless it is released
+  row_alike : (c : ℕ) (row : Option CallSite) → slice_get w.sites.call_sites c ≡ Some row
+      → option_map (moved_call_site k) row ≡ option_map (renumbered_call_site n) row
+  row_alike c None at = refl
+  row_alike c (Some site) at =
+      let there : unreleased w.sites.call_sites c ≡ Some site = ap (option_and_then (λ row. row)) at in
+      let deep = first_none (then_some (nat_lt 64 (depth site.target) || nat_lt 255 (parts site.target)) TooDeep) _ (fit.targets c site there) in
       let part = first_none (part_fault w c site.ty site.target) [] deep.1 in
-      ap (λ (t : Target). record site { target = t }) (target_alike c (slice_get_within w.sites.call_sites c site at) site.ty site.target part.0))
+      ap (λ (t : Target). Some (record site { target = t }))
+      (target_alike c (slice_get_within w.sites.call_sites c (Some site) at) site.ty site.target part.0)
+
+  call_sites_alike : map (option_map (moved_call_site k)) (kept k.call_sites w.sites.call_sites)
+      ≡ map (option_map (renumbered_call_site n)) (staying (staying_call_sites w released) w.sites.call_sites)
+  call_sites_alike =
+      ap (map (option_map (moved_call_site k))) (kept_is k.call_sites w.sites.call_sites (let many = many_call_sites in omega (arith, many)))
+      ∙ map_alike (option_map (moved_call_site k)) (option_map (renumbered_call_site n)) k.call_sites w.sites.call_sites
+      (λ c row at stays. row_alike c row at)
 
   pub world_first : moved_world k w ≡ renewed w released
   world_first = λ i. record {

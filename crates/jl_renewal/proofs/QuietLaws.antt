@@ -1,5 +1,5 @@
 -- The events of a renewal without its links install nothing, nor does one that is carried over.
-use Rattle.std.specs.Prelude.{◌≡◌, ℕ, zero, suc, Bool, true, false, List, [], ◌∷◌, ◌++◌, filter_map, drop, length, not, ◌==◌, slice_get, Option, Some}
+use Rattle.std.specs.Prelude.{◌≡◌, ℕ, zero, suc, Bool, true, false, List, [], ◌∷◌, ◌++◌, filter_map, drop, length, not, ◌==◌, Option, Some}
 use Rattle.std.specs.Prelude.{None, option_map, option_and_then, option_to_list}
 use Rattle.std.specs.List.{cons_option, range_with_len}
 use Rattle.std.specs.Option.{option_map_or}
@@ -10,7 +10,7 @@ use Rattle.jl_types.specs.declared.ids.Place.{Place}
 use Rattle.jl_types.specs.declared.event.EventOf.TheVariants as event
 use Rattle.jl_types.specs.Events.Event.{Event}
 use Rattle.jl_types.specs.Events.History.{installs, installed, installed_at}
-use Rattle.jl_types.specs.Values.World.{World, Sites, CallSite}
+use Rattle.jl_types.specs.Values.World.{World, Sites, CallSite, unreleased}
 use Rattle.jl_types.proofs.Installed.{installed_to}
 use Rattle.jl_renewal.specs.Numbers.{Numbers, new_number, renumbered_target}
 use Rattle.jl_renewal.specs.Renewal.{definer, class_event, new_loaders, new_switches, new_call_site, new_call_sites, request, binding, invalid_points}
@@ -70,6 +70,7 @@ module _ (k : ℕ) where
   of_class w n (event.Install rows) = refl
   of_class w n (event.Retire loader) = refl
   of_class w n (event.RetireAll loaders) = refl
+  of_class w n (event.Release call_sites points) = refl
 
   of_loaders : (numbers : List (Option ℕ)) → IsQuiet (new_loaders numbers)
   of_loaders numbers =
@@ -96,8 +97,9 @@ module _ (k : ℕ) where
   of_call_site : (sites : Sites) (n : Numbers) (c : ℕ) → IsCalm (new_call_site sites n c)
   of_call_site sites n c =
       calm_then
-      (λ (k : ℕ). option_map (λ (site : CallSite). event.NewCallSite site.kind site.ty (renumbered_target n site.target)) (slice_get sites.call_sites c))
-      (λ k. calm_map (λ (site : CallSite). event.NewCallSite site.kind site.ty (renumbered_target n site.target)) (λ site. refl) (slice_get sites.call_sites c))
+      (λ (k : ℕ). option_map (λ (site : CallSite). event.NewCallSite site.kind site.ty (renumbered_target n site.target)) (unreleased sites.call_sites c))
+      (λ k. calm_map (λ (site : CallSite). event.NewCallSite site.kind site.ty (renumbered_target n site.target)) (λ site. refl)
+      (unreleased sites.call_sites c))
       (new_number n.call_sites c)
 
   abbrev last : World → Numbers → List Event
@@ -140,6 +142,7 @@ module _ (k : ℕ) where
   of_carried n (event.Install rows) = refl
   of_carried n (event.Retire loader) = calm_map event.Retire (λ l. refl) (new_number n.loaders loader)
   of_carried n (event.RetireAll loaders) = refl
+  of_carried n (event.Release call_sites points) = refl
 
   -- where nothing was installed there is no link
   pub none_there : (h : List Event) → IsQuiet h → installed h k ≡ None

@@ -1,13 +1,13 @@
 -- Rows by number, of which some are released.
-use Rattle.std.specs.Prelude.{◌≡◌, ◌<◌, ◌⊎◌, ◌==◌, ◌||◌, ℕ, zero, suc, Bool, true, false, List, [], ◌∷◌, ◌++◌, map, filter_map, length, slice_get}
+use Rattle.std.specs.Prelude.{◌≡◌, ◌<◌, ◌⊎◌, ℕ, zero, suc, Bool, true, false, List, [], ◌∷◌, ◌++◌, map, filter_map, length, slice_get}
 use Rattle.std.specs.Prelude.{slice_set, Option, Some, None, option_map, option_and_then, is_none, if◌then◌else◌}
 use Rattle.std.specs.List.{cons_option}
-use Rattle.std.proofs.Common.{refl, sym, ap, ◌∙◌, arith, inl, inr}
-use Rattle.std.proofs.lemmas.Option.{same_Some, slice_get_within, slice_get-map}
+use Rattle.std.proofs.Common.{refl, sym, ap, ◌∙◌, inl, inr}
 use Rattle.jl_types.specs.Values.World.{unreleased, is_missing}
 use Rattle.jl_types.specs.Events.Retirement.{is_listed}
 use Rattle.jl_types.specs.Events.Release.{without}
 use Rattle.jl_types.specs.Events.Verdict.{invalidated}
+use Rattle.jl_types.proofs.Releasing.{unreleased_within, unreleased_without}
 use Rattle.jl_renewal.specs.Moved.{moved, kept}
 use Rattle.jl_renewal.proofs.MovedLists.{kept_at, kept_set, kept_unset, map_set, length_set}
 
@@ -37,11 +37,8 @@ module _ {A : Type 0} where
   row_at (row ∷ rows) zero x e = ap Some e
   row_at (row ∷ rows) (suc k) x e = row_at rows k x e
 
-  pub row_within : (rows : List (Option A)) (k : ℕ) (x : A) → unreleased rows k ≡ Some x → k < length rows
-  row_within rows k x e = slice_get_within rows k (Some x) (row_at rows k x e)
-
   pub present_within : (rows : List (Option A)) (k : ℕ) → is_missing rows k ≡ false → k < length rows
-  present_within rows k e = let here = row_there rows k e in row_within rows k here.0 here.1
+  present_within rows k e = let here = row_there rows k e in unreleased_within rows k here.0 here.1
 
   -- ---- a row more, and another row
 
@@ -78,44 +75,17 @@ module _ {A : Type 0} where
 
   -- ---- rows that are let go
 
-  set_none : (rows : List (Option A)) (g k : ℕ) → unreleased (slice_set rows g None) k ≡ (if g == k then None else unreleased rows k)
-  set_none [] g k = nothing (g == k)
-    where
-      nothing : (b : Bool) → ◌≡◌ {A = Option A} None (if b then None else None)
-      nothing true = refl
-      nothing false = refl
-  set_none (row ∷ rows) zero zero = refl
-  set_none (row ∷ rows) zero (suc k) = refl
-  set_none (row ∷ rows) (suc g) zero = refl
-  set_none (row ∷ rows) (suc g) (suc k) = set_none rows g k
-
-  pub row_without : (rows : List (Option A)) (going : List ℕ) (k : ℕ)
-      → unreleased (without rows going) k ≡ (if is_listed going k then None else unreleased rows k)
-  row_without rows [] k = refl
-  row_without rows (g ∷ going) k =
-      row_without (slice_set rows g None) going k
-      ∙ (ap (λ (o : Option A). if is_listed going k then None else o) (set_none rows g k) ∙ either (g == k) (is_listed going k))
-    where
-      either : (a b : Bool) → (if b then None else (if a then None else unreleased rows k)) ≡ (if a || b then None else unreleased rows k)
-      either true true = refl
-      either true false = refl
-      either false b = refl
-
   -- what is left was there, and isn't among those that go
   pub row_left : (rows : List (Option A)) (going : List ℕ) (k : ℕ) (x : A) → unreleased (without rows going) k ≡ Some x
       → (is_listed going k ≡ false) × (unreleased rows k ≡ Some x)
-  row_left rows going k x e = by_test (is_listed going k) (sym (row_without rows going k) ∙ e)
+  row_left rows going k x e = by_test (is_listed going k) (sym (unreleased_without going rows k) ∙ e)
     where
       by_test : (b : Bool) → (if b then None else unreleased rows k) ≡ Some x → (b ≡ false) × (unreleased rows k ≡ Some x)
       by_test true e = cc
       by_test false e = (refl, e)
 
   pub row_stays : (rows : List (Option A)) (going : List ℕ) (k : ℕ) → is_listed going k ≡ false → unreleased (without rows going) k ≡ unreleased rows k
-  row_stays rows going k other = row_without rows going k ∙ ap (λ (b : Bool). if b then None else unreleased rows k) other
-
-  pub length_without : (rows : List (Option A)) (going : List ℕ) → length (without rows going) ≡ length rows
-  length_without rows [] = refl
-  length_without rows (g ∷ going) = length_without (slice_set rows g None) going ∙ length_set rows g None
+  row_stays rows going k other = unreleased_without going rows k ∙ ap (λ (b : Bool). if b then None else unreleased rows k) other
 
   -- ---- what stays by flags
 

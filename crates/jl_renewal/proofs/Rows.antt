@@ -1,6 +1,7 @@
 -- Worked renewals: three loaders, of which one is retired that another one found classes through; call sites, switch points, links;
--- what its owner has let go; and what comes after a renewal.
-use Rattle.std.specs.Prelude.{◌≡◌, ℕ, Bool, true, false, ◌&&◌, List, [], ◌∷◌, ◌++◌, map, filter_map, fold, Option, Some, None, is_ok, codes, refl}
+-- what its owner has let go; what is released; and what comes after a renewal.
+use Rattle.std.specs.Prelude.{◌≡◌, ℕ, Bool, true, false, ◌&&◌, List, [], ◌∷◌, ◌++◌, map, filter_map, fold, Option, Some, None}
+use Rattle.std.specs.Prelude.{option_map, is_some, is_ok, Err, codes, refl}
 use Rattle.std.proofs.Common.{arith}
 use Rattle.jl_types.specs.declared.limits.Limits.{Limits}
 use Rattle.jl_types.specs.declared.refusal.Refusal.TheVariants.{SitesFull, LoadersFull}
@@ -21,10 +22,11 @@ use Rattle.jl_types.specs.declared.target.CallSiteKind.TheVariants.{Constant, Mu
 use Rattle.jl_types.specs.Values.Target as target
 use Rattle.jl_types.specs.Events.Event.{Event}
 use Rattle.jl_types.specs.declared.event.EventOf.TheVariants.{NewLoader, Define, Delegate, Request, NewCallSite, SetTarget, NewSwitch, Invalidate}
-use Rattle.jl_types.specs.declared.event.EventOf.TheVariants.{Bind, Install, Retire, RetireAll}
+use Rattle.jl_types.specs.declared.event.EventOf.TheVariants.{Bind, Install, Retire, RetireAll, Release}
 use Rattle.jl_types.specs.declared.event.Made.TheVariants.{Nothing}
 use Rattle.jl_types.specs.declared.event.Made.TheVariants as made
 use Rattle.jl_types.specs.declared.answer.Recv.TheVariants.{Of}
+use Rattle.jl_types.specs.declared.answer.Unlinked.TheVariants.{Gone, Unbound}
 use Rattle.jl_types.specs.Linkage.Links.{scratch}
 use Rattle.jl_types.specs.Linkage.Calls.{dispatch}
 use Rattle.jl_types.specs.Values.World.{World}
@@ -33,7 +35,7 @@ use Rattle.jl_types.specs.Events.History.{world_after, installed_links}
 use Rattle.jl_core.specs.State.{State, world_of, links_of}
 use Rattle.jl_renewal.specs.declared.released.Released.{Released}
 use Rattle.jl_renewal.specs.Numbers.{Numbers, how_many}
-use Rattle.jl_renewal.specs.Staying.{numbers_of, staying_sites}
+use Rattle.jl_renewal.specs.Staying.{numbers_of, staying_sites, has_lost_call_site, is_alive}
 use Rattle.jl_renewal.specs.Renewal.{renewal, renewal_fault, fresh_rows}
 use Rattle.jl_renewal.specs.Renewed.{renewed, renumbered_result, renumbered_answer}
 use Rattle.jl_renewal.specs.Carries.{carried, made_number, with_made}
@@ -225,6 +227,71 @@ left_is_accepted = refl
 
 has_what_is_needed : world_after (renewal owned let_go) ≡ renewed (world_of owned) let_go
 has_what_is_needed = refl
+
+-- ---- what is released
+
+-- call site 1, to which site 0 is bound, is released, and so are call site 4 and the switch point by which it guards
+abbrev with_release : List Event
+with_release = with_released ++ Release (4 ∷ 1 ∷ []) (1 ∷ []) ∷ []
+
+abbrev lean : State
+lean = core_of with_release
+
+is_a_release : are_accepted with_released (Release (4 ∷ 1 ∷ []) (1 ∷ []) ∷ []) ≡ true
+is_a_release = refl
+
+-- they are left out of a renewal, though nothing was let go besides, and though a site that stays was bound to one of them
+released_ones_go : numbers_of (world_of lean) nothing ≡ record {
+  loaders = Some 0 ∷ None ∷ [];
+  classes = Some 0 ∷ Some 1 ∷ None ∷ [];
+  sites = Some 0 ∷ None ∷ [];
+  call_sites = Some 0 ∷ None ∷ Some 1 ∷ Some 2 ∷ None ∷ [];
+  switches = Some 0 ∷ None ∷ [];
+}
+released_ones_go = refl
+
+what_is_left_is_accepted : are_accepted [] (renewal lean nothing) ≡ true
+what_is_left_is_accepted = refl
+
+has_what_is_left : world_after (renewal lean nothing) ≡ renewed (world_of lean) nothing
+has_what_is_left = refl
+
+targets_left : map (option_map (λ site. site.target)) (renewed (world_of lean) nothing).sites.call_sites
+    ≡ Some (target.Method (of_class 1 1)) ∷ Some (target.Invoker 0) ∷ Some (target.Method (of_class 1 1)) ∷ []
+targets_left = refl
+
+point_left : (renewed (world_of lean) nothing).sites.switches ≡ Some true ∷ []
+point_left = refl
+
+-- the site keeps its place, and is no longer bound
+site_keeps_its_place : map (λ place. place.class) (renewed (world_of lean) nothing).places ≡ 1 ∷ []
+site_keeps_its_place = refl
+
+it_is_unbound : (renewed (world_of lean) nothing).bindings ≡ []
+it_is_unbound = refl
+
+-- it was gone, and may be bound again
+it_was_gone : map (is_alive (world_of lean)) (0 ∷ 1 ∷ []) ≡ false ∷ false ∷ []
+it_was_gone = refl
+
+it_has_lost_its_call_site : map (has_lost_call_site (world_of lean)) (0 ∷ 1 ∷ []) ≡ true ∷ false ∷ []
+it_has_lost_its_call_site = refl
+
+it_was_alive : map (is_alive (world_of owned)) (0 ∷ 1 ∷ []) ≡ true ∷ false ∷ []
+it_was_alive = refl
+
+had_no_link : scratch (world_of lean) 0 ≡ Err Gone
+had_no_link = refl
+
+waits_there : scratch (renewed (world_of lean) nothing) 0 ≡ Err Unbound
+waits_there = refl
+
+may_be_bound_again : is_ok (verdict (fixed 8) (renewed (world_of lean) nothing) (Bind 0 2)) ≡ true
+may_be_bound_again = refl
+
+-- a release under new numbers, without what is gone
+release_is_carried : carried (numbers_of (world_of lean) nothing) (Release (3 ∷ 1 ∷ 2 ∷ 3 ∷ []) (1 ∷ 0 ∷ [])) ≡ Some (Release (2 ∷ 1 ∷ 2 ∷ []) (0 ∷ []))
+release_is_carried = refl
 
 -- ---- what is more than the fresh core may have
 
@@ -429,14 +496,14 @@ places_are = refl
 bindings_are : (moved_world flags later).bindings ≡ (0, 1) ∷ (1, 3) ∷ []
 bindings_are = refl
 
-targets_are : map (λ site. site.target) (moved_world flags later).sites.call_sites
-    ≡ target.Method (of_class 1 2)
-    ∷ target.Guard 0 (target.Method (of_class 1 1)) (target.Method (of_class 1 2))
-    ∷ target.Invoker 0
-    ∷ target.Guard 1 (target.Invoker 2) (target.Method (of_class 3 1)) ∷ []
+targets_are : map (option_map (λ site. site.target)) (moved_world flags later).sites.call_sites
+    ≡ Some (target.Method (of_class 1 2))
+    ∷ Some (target.Guard 0 (target.Method (of_class 1 1)) (target.Method (of_class 1 2)))
+    ∷ Some (target.Invoker 0)
+    ∷ Some (target.Guard 1 (target.Invoker 2) (target.Method (of_class 3 1))) ∷ []
 targets_are = refl
 
-one_is_invalid : (moved_world flags later).sites.switches ≡ true ∷ false ∷ []
+one_is_invalid : (moved_world flags later).sites.switches ≡ Some true ∷ Some false ∷ []
 one_is_invalid = refl
 
 -- loader 3 has a number, though it is retired by now: numbers aren't taken anew
@@ -494,3 +561,29 @@ both_are_retired = refl
 
 both_find_nothing : (moved_world flags without_both).classes.loaders ≡ ((object, 0) ∷ (codes "T", 1) ∷ []) ∷ [] ∷ [] ∷ []
 both_find_nothing = refl
+
+-- ---- a release after a renewal
+
+those_released : event_there flags (Release (5 ∷ 3 ∷ 0 ∷ []) (1 ∷ 0 ∷ 2 ∷ [])) ≡ Some (Release (3 ∷ 0 ∷ []) (0 ∷ 1 ∷ []))
+those_released = refl
+
+a_release_is_never_gone : may_be_gone (Release (3 ∷ []) (1 ∷ [])) ≡ false
+a_release_is_never_gone = refl
+
+-- call site 2, and 4, which is gone
+abbrev two_go : List Event
+two_go = Release (4 ∷ 2 ∷ 1 ∷ []) (1 ∷ []) ∷ []
+
+both_are_let_go : are_accepted with_released two_go ≡ true
+both_are_let_go = refl
+
+same_world_without_those : fold step (renewed (world_of owned) let_go) (filter_map (event_there flags) two_go)
+    ≡ moved_world flags (world_after (with_released ++ two_go))
+same_world_without_those = refl
+
+one_is_left : map is_some (moved_world flags (world_after (with_released ++ two_go))).sites.call_sites ≡ true ∷ false ∷ false ∷ []
+one_is_left = refl
+
+-- a binding to one that is released after the renewal stays, as in the old core
+still_bound : (moved_world flags (world_after (with_released ++ two_go))).bindings ≡ (0, 1) ∷ []
+still_bound = refl

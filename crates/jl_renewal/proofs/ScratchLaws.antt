@@ -7,14 +7,14 @@ use Rattle.jl_types.specs.Linkage.Stages.{Stage, Waits, Fails, Calls, Selects, s
 use Rattle.jl_types.specs.Linkage.Links.{link_of, scratch}
 use Rattle.jl_types.specs.Linkage.Calls.{answer_of, dispatch}
 use Rattle.jl_renewal.specs.Numbers.{Numbers, renumbered}
-use Rattle.jl_renewal.specs.Staying.{is_in_staying_class}
+use Rattle.jl_renewal.specs.Staying.{is_alive}
 use Rattle.jl_renewal.specs.Renewed.{renumbered_result, renumbered_answer, renumbered_receiver, IsPresentReceiver}
 use Rattle.jl_renewal.proofs.Alike.{AreAlike}
 use Rattle.jl_renewal.proofs.AlikeSites.{SitesAlike}
 use Rattle.jl_renewal.proofs.StageLaws.{IsStageThere, renumbered_stage, stage_same, stage_there}
 use Rattle.jl_renewal.proofs.CallLaws.{link_same, selected_same}
 
-module _ (n : Numbers) (w v : World) (stays : ℕ → Bool) (same : SitesAlike n w v stays) (s : ℕ) (kept : is_in_staying_class w s ≡ true) where
+module _ (n : Numbers) (w v : World) (stays : ℕ → Bool) (same : SitesAlike n w v stays) (s : ℕ) (alive : is_alive w s ≡ true) where
   abbrev ds : Classes
   ds = v.classes
 
@@ -29,7 +29,7 @@ module _ (n : Numbers) (w v : World) (stays : ℕ → Bool) (same : SitesAlike n
 
   pub scratch_same : scratch v (renumbered n.sites s) ≡ renumbered_result n (scratch w s)
   scratch_same =
-      ap (link_of ds) (stage_same n w v stays same s kept)
+      ap (link_of ds) (stage_same n w v stays same s alive)
       ∙ link_of_same (stage w s) (stage_there n w v stays same s)
 
   answer_of_same : (recv : Recv) → IsPresentReceiver w.classes recv → (t : Stage) → IsStageThere w.classes t
@@ -42,5 +42,5 @@ module _ (n : Numbers) (w v : World) (stays : ℕ → Bool) (same : SitesAlike n
   pub dispatch_same : (recv : Recv) → IsPresentReceiver w.classes recv
       → dispatch v (renumbered n.sites s) (renumbered_receiver n recv) ≡ renumbered_answer n (dispatch w s recv)
   dispatch_same recv at =
-      ap (λ (t : Stage). answer_of ds t (renumbered_receiver n recv)) (stage_same n w v stays same s kept)
+      ap (λ (t : Stage). answer_of ds t (renumbered_receiver n recv)) (stage_same n w v stays same s alive)
       ∙ answer_of_same recv at (stage w s) (stage_there n w v stays same s)

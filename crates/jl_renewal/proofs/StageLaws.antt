@@ -68,12 +68,12 @@ IsStageThere cs (Calls m) = is_present cs m.class ≡ true
 IsStageThere cs (Selects i) = IsCallThere cs i
 
 -- what is found is among the elements, and passes
-record IsFound {A : Type 0} (p : A → Bool) (xs : List A) (x : A) : Type 0 where
-  place : ℕ
-  at : slice_get xs place ≡ Some x
-  passes : p x ≡ true
+pub record IsFound {A : Type 0} (p : A → Bool) (xs : List A) (x : A) : Type 0 where
+  pub place : ℕ
+  pub at : slice_get xs place ≡ Some x
+  pub passes : p x ≡ true
 
-is_found : {A : Type 0} (p : A → Bool) (xs : List A) (x : A) → find p xs ≡ Some x → IsFound p xs x
+pub is_found : {A : Type 0} (p : A → Bool) (xs : List A) (x : A) → find p xs ≡ Some x → IsFound p xs x
 is_found p [] x e = cc
 is_found {A = A} p (y ∷ xs) x e = by_test (p y) refl e (is_found p xs x)
   where

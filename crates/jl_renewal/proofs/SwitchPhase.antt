@@ -1,5 +1,5 @@
 -- The fresh core's switch points: as many as stay, all valid, and then those that were invalid become so.
-use Rattle.std.specs.Prelude.{◌≡◌, ◌<◌, ◌≤◌, ◌+◌, ℕ, zero, suc, Bool, true, false, not, nat_le, List, [], ◌∷◌, ◌++◌, filter_map, length, slice_get, slice_set}
+use Rattle.std.specs.Prelude.{◌≡◌, ◌<◌, ◌≤◌, ◌+◌, ℕ, zero, suc, Bool, true, false, not, List, [], ◌∷◌, ◌++◌, filter_map, length, slice_get, slice_set}
 use Rattle.std.specs.Prelude.{Option, Some, None, option_map, option_and_then, option_to_list, is_ok}
 use Rattle.std.specs.Bool.{then_some}
 use Rattle.std.specs.Option.{option_map_or}
@@ -61,7 +61,8 @@ module _ (limits : Limits) (cs : Classes) where
 
   leads_to_valid : (stays : List Bool) → how_many stays ≤ limits.switches
       → Leads limits (with_points cs []) (new_switches (numbered stays)) (with_points cs (made_valid stays))
-  leads_to_valid stays le = subst (λ (switches : List (Option Bool)). Leads limits (with_points cs []) (new_switches (numbered stays)) (with_points cs switches))
+  leads_to_valid stays le = subst
+      (λ (switches : List (Option Bool)). Leads limits (with_points cs []) (new_switches (numbered stays)) (with_points cs switches))
       (valid_are 0 stays)
       (leads_through limits (option_map (λ number. event.NewSwitch)) once_valid (numbered stays) (λ front o rest e.
       let split = ap (λ numbers. length (all_valid numbers)) (e ∙ sym (append_assoc front (o ∷ []) rest)) in

@@ -10,7 +10,8 @@ use Rattle.std.proofs.lemmas.Cmp.{nat_eq_equiv}
 use Rattle.jl_class.specs.Flags.{has_flag, STATIC}
 use Rattle.jl_class.specs.Special.{begins_special}
 use Rattle.jl_types.specs.declared.ids.MethodId.{MethodId}
-use Rattle.jl_types.specs.declared.refusal.CallSiteFault.TheVariants.{UnknownCallSite, UnknownMethod, NotStatic, WrongType, UnknownSwitch, TooDeep, InvokerOrder}
+use Rattle.jl_types.specs.declared.refusal.CallSiteFault.TheVariants.{UnknownCallSite, UnknownMethod, NotStatic, WrongType, UnknownSwitch}
+use Rattle.jl_types.specs.declared.refusal.CallSiteFault.TheVariants.{TooDeep, InvokerOrder}
 use Rattle.jl_types.specs.Values.Target.{Target, Method, Guard, Invoker, depth}
 use Rattle.jl_types.specs.Values.World.{World, CallSite, unreleased, is_missing}
 use Rattle.jl_types.specs.Values.Members.{is_present, methods_of, method_test}

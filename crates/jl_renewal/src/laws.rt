@@ -46,8 +46,8 @@ pub fn only_sites_can_be_short()
 {}
 
 /// Linking commutes with renumbering: of each site that isn't gone, the link from scratch, and each call's answer, is the same under new
-/// numbers. A site is gone where its class is retired, or where the call site to which it was bound is released: it is no longer bound in the
-/// fresh core, so its bootstrap method may give another call site there.
+/// numbers. A site is gone where its class is retired, or where its call site is released. One whose call site is released stays, and is no
+/// longer bound in the fresh core, so its bootstrap method may give another call site there.
 pub fn linking_commutes()
     ensures links { (old : State) (released : Released) → AreAccepted old.limits (events old)
         → (s : ℕ) → is_alive (world_of old) s ≡ true

@@ -21,7 +21,8 @@ use std::alloc::Global;
 
 /// A fresh core that has what stays of the old one, in the same order, under new numbers, and that gives numbers up to these limits. They may
 /// be any, be they lower than the old core's. What stays are the loaders that aren't retired with their classes and the sites in these, and of
-/// the call sites and switch points those that aren't released, or are still needed. Each site that had a link has one.
+/// the call sites and switch points that aren't released those that the owner hasn't let go, or that are still needed. A site whose call site
+/// is released stays, and is no longer bound. Each site that had a link has one.
 ///
 /// # Errors
 ///

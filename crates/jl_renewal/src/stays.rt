@@ -1,16 +1,19 @@
 //! What stays.
 
-ghost use Rattle.std.specs.Prelude.{◌≡◌, ◌≤◌, ◌<◌, ◌^◌, ◌||◌, false, not, map, length, get_or, nat_lt, None, option_copied, IfOk, IfErr, OnOk};
+ghost use Rattle.std.specs.Prelude.{◌≡◌, ◌≤◌, ◌<◌, ◌^◌, ◌&&◌, false, not, map, length, get_or, slice_set, nat_lt};
+ghost use Rattle.std.specs.Prelude.{if◌then◌else◌, None, option_copied, IfOk, IfErr, OnOk};
 ghost use Rattle.std.specs.Bool.{then_some};
 ghost use Rattle.std.specs.List.{list_any, range_with_len};
 ghost use Rattle.jl_types.specs.Values.Members as members;
+ghost use Rattle.jl_types.specs.Values.World.{is_missing};
+ghost use Rattle.jl_types.specs.Events.Retirement.{has_target};
 ghost use Rattle.jl_renewal.specs.Numbers.{numbered, staying, how_many};
 ghost use Rattle.jl_renewal.specs.Renewal.{renewal_fault, IsRefusedRenewal};
 ghost use Rattle.jl_renewal.specs.Room.{class_fault, call_site_fault, IsFault};
 ghost use Rattle.jl_renewal.specs.Staying as what_stays;
 ghost use Rattle.jl_renewal.specs.Staying.{numbers_of, staying_loaders, staying_classes, staying_sites, staying_call_sites, staying_switches};
-ghost use Rattle.jl_renewal.specs.Staying.{staying_from, is_held, is_among, guards_by};
-ghost use Rattle.jl_renewal.specs.Marks.{marked, binds_staying, flagged_target};
+ghost use Rattle.jl_renewal.specs.Staying.{staying_from, guards_by};
+ghost use Rattle.jl_renewal.specs.Marks.{marked, binds_staying, is_wanted, is_wanted_point, flagged_target};
 
 use crate::marks::{clear_call_sites, clear_switches, mark_guards, mark_invoked, set_flag};
 use crate::numbers::{Renumbering, how_many, numbered};
@@ -21,7 +24,7 @@ use jl_hierarchy::Classes;
 use jl_relink::World;
 use jl_types::{
     CallSiteFault, CallSiteId, ClassId, DefineFault, Limits, LoaderId, Place, Refusal, SiteNo,
-    Target,
+    SwitchId, Target,
 };
 use std::alloc::{AllocError, Global};
 
@@ -165,8 +168,8 @@ pub(crate) fn sites_that_stay(
         .collect(alloc)
 }
 
-/// Whether each call site stays: those that are held, and those that the target of a later one which stays invokes. One that is released
-/// goes. Want of memory is an error.
+/// Whether each call site stays: those that are wanted, and those that the target of a later one which stays invokes, but for those that
+/// are released. Want of memory is an error.
 pub(crate) fn call_sites_that_stay(
     alloc: Global,
     old: &World,
@@ -174,21 +177,26 @@ pub(crate) fn call_sites_that_stay(
 ) -> Result<Vec<bool>, AllocError>
     ensures { IfOk result (λ stays. stays.items ≡ staying_call_sites old.now released.now) }
 {
-    let mut stays = held_call_sites(alloc, old, released)?;
+    let mut stays = wanted_call_sites(alloc, old, released)?;
     keep_invoked(stays.as_mut_slice(), &old.sites);
     Ok(stays)
 }
 
-/// Whether each call site is held: those that aren't released, and those to which a site is bound that stays. Want of memory is an
-/// error.
-fn held_call_sites(alloc: Global, old: &World, released: &Released) -> Result<Vec<bool>, AllocError>
-    ensures { IfOk result (λ held. held.items ≡ map (is_held old.now released.now) (range_with_len 0 (length old.now.sites.call_sites))) }
+/// Whether each call site is wanted: those that the owner hasn't let go, and those to which a site is bound that stays. One that is
+/// released may be among them. Want of memory is an error.
+fn wanted_call_sites(
+    alloc: Global,
+    old: &World,
+    released: &Released,
+) -> Result<Vec<bool>, AllocError>
+    ensures { IfOk result (λ wanted. wanted.items
+        ≡ map (is_wanted old.now released.now) (range_with_len 0 (length old.now.sites.call_sites))) }
 {
-    let mut held = vec![in alloc; true; old.sites.call_site_count()]?;
-    let flags = held.as_mut_slice();
+    let mut wanted = vec![in alloc; true; old.sites.call_site_count()]?;
+    let flags = wanted.as_mut_slice();
     clear_call_sites(flags, released.call_sites.as_slice());
     mark_bound(flags, old);
-    Ok(held)
+    Ok(wanted)
 }
 
 /// Sets the flags of the call sites to which sites are bound that stay.
@@ -223,7 +231,8 @@ fn is_in_staying_class(old: &World, site: SiteNo) -> bool
     }
 }
 
-/// Goes from the last call site to the first, and sets the flags of those that the target of one whose flag is set invokes.
+/// Goes from the last call site to the first: takes back the flag of one that is released, and sets the flags of those that the target of
+/// one whose flag is set invokes.
 fn keep_invoked(stays: &mut [bool], sites: &Sites)
     requires { length stays.old ≡ length sites.now.call_sites }
     ensures { stays.new ≡ staying_from (λ c. get_or stays.old c false) 0 sites.now.call_sites }
@@ -231,10 +240,22 @@ fn keep_invoked(stays: &mut [bool], sites: &Sites)
     // Shows that each target invokes call sites with smaller numbers.
     let _points = sites.known_switches();
     for number in (0..sites.few_call_sites()).rev() {
+        clear_if_released(stays, sites, number);
         if let Some(target) = staying_target(stays, sites, number) {
             mark_invoked(stays, target);
         }
     }
+}
+
+/// Takes back the flag of the call site of this number, if that is released.
+fn clear_if_released(stays: &mut [bool], sites: &Sites, number: usize)
+    requires { number < 2 ^ 20 }
+    ensures { stays.new ≡ (if is_missing sites.now.call_sites number then slice_set stays.old number false else stays.old) }
+{
+    if sites.has_call_site(CallSiteId::new(number as u32)) {
+        return;
+    }
+    set_flag(stays, number as u32, false);
 }
 
 /// The target of the call site of this number, if its flag is set.
@@ -250,8 +271,7 @@ fn staying_target<'a>(stays: &[bool], sites: &'a Sites, number: usize) -> Option
     }
 }
 
-/// Whether each switch point stays: those that aren't released, and those by which the target of a call site guards that stays. Want of
-/// memory is an error.
+/// Whether each switch point stays: those that are wanted and aren't released. Want of memory is an error.
 pub(crate) fn switches_that_stay(
     alloc: Global,
     sites: &Sites,
@@ -259,19 +279,62 @@ pub(crate) fn switches_that_stay(
     released: &Released,
 ) -> Result<Vec<bool>, AllocError>
     ensures { IfOk result (λ kept. kept.items
-        ≡ map (λ p. not (is_among released.now.switches p) || list_any (λ site. guards_by p site.target) (staying stays.now sites.now.call_sites))
+        ≡ map (λ p. not (is_missing sites.now.switches p) && is_wanted_point sites.now stays.now released.now p)
         (range_with_len 0 (length sites.now.switches))) }
 {
-    let mut kept = vec![in alloc; true; sites.few_switches()]?;
-    let flags = kept.as_mut_slice();
+    let wanted = wanted_switches(alloc, sites, stays, released)?;
+    let kept = those_there(alloc, sites, wanted.as_slice())?;
+    Ok(kept)
+}
+
+/// Of these switch points those that aren't released. Want of memory is an error.
+fn those_there(alloc: Global, sites: &Sites, wanted: &[bool]) -> Result<Vec<bool>, AllocError>
+    ensures { IfOk result (λ kept. kept.items
+        ≡ map (λ p. not (is_missing sites.now.switches p) && get_or wanted.now p false) (range_with_len 0 (length sites.now.switches))) }
+{
+    let count = sites.few_switches();
+    let mut kept = Vec::with_capacity(alloc, count)?;
+    for point in 0..count {
+        kept.push(is_there(sites, wanted, point))?;
+    }
+    Ok(kept)
+}
+
+/// Whether the flag of the switch point is set, and it isn't released.
+fn is_there(sites: &Sites, wanted: &[bool], point: usize) -> bool
+    requires { point < 2 ^ 20 }
+    ensures { result ≡ (not (is_missing sites.now.switches point) && get_or wanted.now point false) }
+{
+    if !sites.has_switch(SwitchId::new(point as u32)) {
+        return false;
+    }
+    match wanted.get(point) {
+        Some(flag) => *flag,
+        None => false,
+    }
+}
+
+/// Whether each switch point is wanted: those that the owner hasn't let go, and those by which the target of a call site guards that
+/// stays. One that is released may be among them. Want of memory is an error.
+fn wanted_switches(
+    alloc: Global,
+    sites: &Sites,
+    stays: &[bool],
+    released: &Released,
+) -> Result<Vec<bool>, AllocError>
+    ensures { IfOk result (λ wanted. wanted.items
+        ≡ map (is_wanted_point sites.now stays.now released.now) (range_with_len 0 (length sites.now.switches))) }
+{
+    let mut wanted = vec![in alloc; true; sites.few_switches()]?;
+    let flags = wanted.as_mut_slice();
     clear_switches(flags, released.switches.as_slice());
     keep_guards(flags, sites, stays);
-    Ok(kept)
+    Ok(wanted)
 }
 
 /// Sets the flags of the switch points by which the targets of call sites guard that stay.
 fn keep_guards(kept: &mut [bool], sites: &Sites, stays: &[bool])
-    ensures { kept.new ≡ marked (λ p. list_any (λ site. guards_by p site.target) (staying stays.now sites.now.call_sites)) kept.old }
+    ensures { kept.new ≡ marked (λ p. list_any (has_target (guards_by p)) (staying stays.now sites.now.call_sites)) kept.old }
 {
     for number in 0..sites.few_call_sites() {
         if let Some(target) = staying_target(stays, sites, number) {

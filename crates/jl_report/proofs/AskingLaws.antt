@@ -1,6 +1,6 @@
 -- A link is that of its place among its classes, whatever else is requested, where no call site is bound.
 use Rattle.std.proofs.Common.{◌≡◌, ◌∙◌, ap, refl, ℕ, Option, Some, None, List, [], if◌then◌else◌}
-use Rattle.std.specs.Prelude.{slice_get, option_and_then}
+use Rattle.std.specs.Prelude.{slice_get}
 use Rattle.jl_class.specs.Site.{Site}
 use Rattle.jl_class.specs.declared.site.Kind.{Kind}
 use Rattle.jl_class.specs.declared.site.Operand.{Operand}
@@ -8,8 +8,7 @@ use Rattle.jl_class.specs.declared.site.Operand.TheVariants as operand
 use Rattle.jl_types.specs.declared.ids.Place.{Place}
 use Rattle.jl_types.specs.Values.World.{World}
 use Rattle.jl_types.specs.Values.Members.{is_present}
-use Rattle.jl_types.specs.Linkage.Targets.{method_of}
-use Rattle.jl_types.specs.Linkage.Stages.{Stage, Waits, bound_to, by_method, by_operand, stage_of, stage_at, invocation_at}
+use Rattle.jl_types.specs.Linkage.Stages.{Stage, Waits, bound_to, by_binding, by_operand, stage_of, stage_at, invocation_at}
 use Rattle.jl_types.specs.declared.answer.Unlinked.TheVariants.{Gone}
 use Rattle.jl_types.specs.Linkage.Links.{scratch, link_of}
 use Rattle.jl_types.specs.declared.key.Key.{Key}
@@ -19,7 +18,7 @@ use Rattle.jl_report.specs.Reports.{asking}
 same_operand : (w : World) (s : ℕ) (place : Place) (kind : Kind) (named : Operand (List ℕ)) → bound_to w s ≡ None
     → by_operand w s place.class kind named ≡ by_operand (asking w.classes place) 0 place.class kind named
 same_operand w s place kind (operand.Method ref) none = refl
-same_operand w s place kind (operand.CallSite specifier) none = ap (λ bound. by_method (option_and_then (method_of w.sites) bound)) none
+same_operand w s place kind (operand.CallSite specifier) none = ap (by_binding w.sites) none
 
 same_stage : (w : World) (s : ℕ) (place : Place) (invocation : Option Site) → bound_to w s ≡ None
     → stage_of w s place.class invocation ≡ stage_of (asking w.classes place) 0 place.class invocation

@@ -30,8 +30,9 @@ use Rattle.jl_types.specs.Linkage.Resolution.{first_element, pick, only, candida
 use Rattle.jl_types.specs.Linkage.Resolution.{found_in_class, found_in_interface}
 use Rattle.jl_types.specs.Linkage.Selection.{is_init}
 use Rattle.jl_types.specs.Linkage.Stages.{Selector, ByVirtual, ByInterface, BySpecial, ResolvedCall, Waits, Fails, Calls, Selects}
-use Rattle.jl_types.specs.Linkage.Stages.{selecting, by_kind, by_resolution, by_method, bound_method, invocation_at, by_operand}
+use Rattle.jl_types.specs.Linkage.Stages.{selecting, by_kind, by_resolution, by_method, by_binding, bound_to, invocation_at, by_operand}
 use Rattle.jl_types.specs.Linkage.Stages.{stage_of, stage}
+use Rattle.jl_types.specs.Linkage.Targets.{method_of}
 use Rattle.jl_resolve.proofs.Unchanged.{all_filter, all_found, first_there, first_of_there}
 use Rattle.jl_report.specs.Reports.{asking}
 
@@ -148,11 +149,15 @@ module _ (cs : Classes) (d : ℕ) (ref : Reference (List ℕ)) where
 module _ (cs : Classes) (place : Place) (i : ResolvedCall) where
   operand_found : (kind : Kind) (o : Operand (List ℕ)) → by_operand (asking cs place) 0 place.class kind o ≡ Selects i → IsResolved cs i
   operand_found kind (operand.Method ref) e = reference_found cs place.class ref i kind (resolved cs place.class ref) refl e
-  operand_found kind (operand.CallSite specifier) e = by_bound (bound_method (asking cs place) 0) e
+  operand_found kind (operand.CallSite specifier) e = by_bound (bound_to (asking cs place) 0) e
     where
-      by_bound : (o : Option MethodId) → by_method o ≡ Selects i → IsResolved cs i
+      by_run : (o : Option MethodId) → by_method o ≡ Selects i → IsResolved cs i
+      by_run None e = cc
+      by_run (Some m) e = cc
+
+      by_bound : (o : Option ℕ) → by_binding (asking cs place).sites o ≡ Selects i → IsResolved cs i
       by_bound None e = cc
-      by_bound (Some m) e = cc
+      by_bound (Some c) e = by_run (method_of (asking cs place).sites c) e
 
   invocation_found : (o : Option Site) → stage_of (asking cs place) 0 place.class o ≡ Selects i → IsResolved cs i
   invocation_found None e = cc

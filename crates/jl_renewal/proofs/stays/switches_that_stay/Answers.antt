@@ -1,20 +1,13 @@
-use Rattle.std.specs.Prelude.{◌≡◌, ℕ, Bool, true, length, replicate}
-use Rattle.std.specs.List.{list_any}
-use Rattle.std.proofs.Common.{rules, ap, ◌∙◌}
-use Rattle.jl_renewal.specs.Numbers.{staying}
-use Rattle.jl_renewal.specs.Staying.{is_among, guards_by}
-use Rattle.jl_renewal.specs.Marks.{marked, cleared}
-use Rattle.jl_renewal.proofs.MarkLaws.{all_but, whole_slice}
+use Rattle.std.specs.Prelude.{not, length}
+use Rattle.std.proofs.Common.{◌∙◌}
+use Rattle.jl_types.specs.Values.World.{is_missing}
+use Rattle.jl_renewal.specs.Marks.{is_wanted_point}
+use Rattle.jl_renewal.proofs.HeldLaws.{those_kept}
 use Rattle.jl_renewal.proofs.stays.switches_that_stay.Goals as goal
 
 pub returns : goal.returns
 returns c =
     let sites = c.args.sites.now in
-    let released = c.args.released.now.switches in
-    let guarded : ℕ → Bool = λ p. list_any (λ site. guards_by p site.target) (staying c.args.stays.now sites.call_sites) in
-    let kept = c.in_ok-kept.kept in
-    let flags : kept.items ≡ replicate (length sites.switches) true = search rules in
-    let clears : c.clear_switches.new.flags ≡ cleared (is_among released) kept.items = search rules in
-    whole_slice kept.len c.keep_guards.new.kept _ (c.keep_guards.auto.kept ∙ c.clear_switches.auto.flags ∙ c.as_mut_slice-flags.ensures.len)
-    ∙ (c.keep_guards.ensures
-    ∙ (ap (marked guarded) (clears ∙ ap (cleared (is_among released)) flags) ∙ all_but (is_among released) guarded (length sites.switches)))
+    c.in_ok-kept.ensures
+    ∙ those_kept c.in_ok-wanted.wanted.items (is_wanted_point sites c.args.stays.now c.args.released.now) (λ p. not (is_missing sites.switches p))
+    (length sites.switches) c.in_ok-wanted.ensures
