@@ -82,10 +82,10 @@ static void write_caller(const char *name) {
     put(0, 2);
 }
 
-/* A class of this name with a static method m and a method with ten invokedynamics, at each fifth pc (JVMS 4.4.10, 4.7.23). */
+/* A class of this name with a static method k and a method with ten invokedynamics, at each fifth pc (JVMS 4.4.10, 4.7.23). */
 static void write_lambdas(const char *name) {
     begin(13);
-    put_text(name), put(7, 1), put(1, 2), put_text("java/lang/Object"), put(7, 1), put(3, 2), put_text("m"), put_text("()V");
+    put_text(name), put(7, 1), put(1, 2), put_text("java/lang/Object"), put(7, 1), put(3, 2), put_text("k"), put_text("()V");
     put_text("Code"), put_text("r"), put_text("BootstrapMethods"), put(12, 1), put(5, 2), put(6, 2), put(10, 1), put(2, 2), put(10, 2);
     put(15, 1), put(6, 1), put(11, 2), put(18, 1), put(0, 2), put(10, 2);
     put(0x21, 2), put(2, 2), put(4, 2), put(0, 2), put(0, 2), put(2, 2);
