@@ -4,7 +4,6 @@ ghost use Rattle.std.specs.Prelude.{◌≡◌, ◌≤◌, ◌^◌, ◌∷◌, []
 ghost use Rattle.std.specs.Bool.{then_some};
 ghost use Rattle.jl_types.specs.declared.event.EventOf.TheVariants as event;
 ghost use Rattle.jl_types.specs.declared.event.Made.{Made};
-ghost use Rattle.jl_types.specs.declared.event.Made.TheVariants as made;
 ghost use Rattle.jl_types.specs.declared.refusal.Refusal.TheVariants as refusal;
 ghost use Rattle.jl_types.specs.Events.Definitions.{delegate_fault};
 ghost use Rattle.jl_types.specs.Events.Retirement.{retire_fault};
@@ -20,11 +19,9 @@ use crate::request::judged_request;
 use jl_callsites::discard_target;
 use jl_class::ClassFile;
 use jl_hierarchy::{Classes, Leaving};
-use jl_names::Seq;
 use jl_relink::World;
 use jl_types::{
-    CallSiteFault, CallSiteId, Event, Limits, LoaderId, Refusal, ReleaseFault, RetireFault,
-    SwitchId, Work,
+    CallSiteFault, CallSiteId, Event, Limits, LoaderId, Refusal, RetireFault, SwitchId, Work,
 };
 use std::alloc::Global;
 use std::slice::from_ref;
@@ -92,7 +89,10 @@ pub fn judged(
             let refusal = retirement_refusal(alloc, world, loaders.as_slice());
             unless(refusal, Event::RetireAll(loaders))
         }
-        Event::Release(call_sites, points) => judged_release(alloc, world, call_sites, points),
+        Event::Release(call_sites, points) => {
+            let refusal = release_refusal(alloc, world, call_sites.as_slice(), points.as_slice());
+            unless(refusal, Event::Release(call_sites, points))
+        }
     }
 }
 
@@ -202,20 +202,6 @@ fn first_held(world: &World, loaders: &[LoaderId]) -> Option<Refusal>
     None
 }
 
-/// The release once more, if nothing speaks against it.
-fn judged_release(
-    alloc: Global,
-    world: &World,
-    call_sites: Seq<CallSiteId>,
-    points: Seq<SwitchId>,
-) -> Result<Event, Refusal>
-    ensures { IsJudged (events.unless (option_map refusal.Release (release_fault world.now.sites call_sites points)) made.Nothing)
-        (event.Release call_sites points) result }
-{
-    let refusal = release_refusal(alloc, world, call_sites.as_slice(), points.as_slice());
-    unless(refusal, Event::Release(call_sites, points))
-}
-
 /// Why the call sites and switch points aren't let go.
 fn release_refusal(
     alloc: Global,
@@ -225,14 +211,8 @@ fn release_refusal(
 ) -> Option<Refusal>
     ensures { result ≡ option_map refusal.Release (release_fault world.now.sites call_sites.now points.now) }
 {
-    of_release(world.sites.release_fault(alloc, call_sites, points))
-}
-
-/// The refusal of a release that is this fault.
-fn of_release(fault: Option<ReleaseFault>) -> Option<Refusal>
-    ensures { result ≡ option_map refusal.Release fault }
-{
-    Some(Refusal::Release(fault?))
+    let fault = world.sites.release_fault(alloc, call_sites, points)?;
+    Some(Refusal::Release(fault))
 }
 
 /// The refusal that is this fault.

@@ -1,11 +1,9 @@
 use Rattle.std.specs.Prelude.{length, option_map}
-use Rattle.std.proofs.Common.{rules, refl, sym, subst}
+use Rattle.std.proofs.Common.{rules, refl, ◌∙◌}
 use Rattle.jl_types.specs.declared.event.Made.TheVariants as made
 use Rattle.jl_types.specs.declared.event.EventOf.TheVariants as event
 use Rattle.jl_types.specs.declared.refusal.Refusal.TheVariants as refusal
-use Rattle.jl_types.specs.Events.Event.{Event}
-use Rattle.jl_types.specs.Events.Verdict.{verdict}
-use Rattle.jl_events.specs.Judging.{IsJudged}
+use Rattle.jl_types.specs.Events.Release.{release_fault}
 use Rattle.jl_callsites.proofs.Worlds.{new_switch_comes_to, invalidate_comes_to}
 use Rattle.jl_events.proofs.CallSiteLaws.{as_judged, new_site_verdict, set_target_verdict}
 use Rattle.jl_events.proofs.judge.judged.Goals as goal
@@ -71,5 +69,8 @@ returns-in-RetireAll-clause-judged c =
 
 pub returns-in-Release-clause-judged : goal.returns-in-Release-clause-judged
 returns-in-Release-clause-judged c =
-    subst (λ (asked : Event). IsJudged (verdict c.args.limits c.args.world.now asked) asked c.judged_release.result) (sym c.in-Release.is)
-    c.judged_release.ensures
+    as_judged c.args.limits c.args.world.now c.args.event (event.Release c.in-Release.call_sites c.in-Release.points) c.release_refusal-refusal.result _
+    made.Nothing c.unless-in-Release.result c.in-Release.is refl
+    (c.release_refusal-refusal.ensures
+    ∙ (λ i. option_map refusal.Release (release_fault c.args.world.now.sites (c.as_slice-in-Release.ensures i) (c.as_slice-in-Release-2.ensures i))))
+    (c.unless-in-Release.ensures made.Nothing)
