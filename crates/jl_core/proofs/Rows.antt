@@ -60,7 +60,7 @@ refused_in_between = (both, Err (CallSite UnknownSwitch), (inl refl, refl), refl
 both_happened : events both ≡ event.NewLoader ∷ event.NewSwitch ∷ []
 both_happened = refl
 
-one_switch : (world_of both).sites.switches ≡ true ∷ []
+one_switch : (world_of both).sites.switches ≡ Some true ∷ []
 one_switch = refl
 
 two_loaders : (world_of both).classes.loaders ≡ [] ∷ [] ∷ []
