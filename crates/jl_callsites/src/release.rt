@@ -1,7 +1,7 @@
 //! Call sites and switch points that are let go (java.lang.invoke).
 
 ghost use Rattle.std.specs.Prelude.{◌≡◌, ◌||◌, nat_le, false, None, find, length, IfOk};
-ghost use Rattle.std.specs.List.{list_any, range_with_len};
+ghost use Rattle.std.specs.List.{list_any};
 ghost use Rattle.jl_types.specs.Values.World.{is_missing};
 ghost use Rattle.jl_types.specs.Events.Retirement.{is_listed};
 ghost use Rattle.jl_types.specs.Events.Release as release;

@@ -3,7 +3,7 @@
 use crate::class_id::ClassId;
 
 /// A method, by its class and its place among the methods that the class declares.
-#[derive(Clone, Copy, Debug, PartialEq, Eq)]
+#[derive(Clone, Copy, Debug, PartialEq, Eq, Hash)]
 pub struct MethodId {
     pub class: ClassId,
     pub index: u16,

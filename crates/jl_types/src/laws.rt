@@ -188,7 +188,7 @@ pub fn fewer_loaders()
 {}
 
 /// A release takes away call sites and switch points. Each has nothing any more, and all others have what they had. Numbers that were given
-/// count as before, so none is given again. An invokedynamic that is bound to a released call site has no link, for good. No released call
+/// count as before, so none is given again. An invokedynamic that is bound to a released call site has no link then. No released call
 /// site holds a loader.
 pub fn fewer_call_sites()
     ensures call_sites { (sites : Sites) (call_sites points : List ℕ) (c : ℕ) → unreleased (released_from sites call_sites points).call_sites c

@@ -34,6 +34,14 @@ impl Work {
         self.ticks += 1;
     }
 
+    /// That many more were made. Takes no memory.
+    pub fn add(&mut self, count: u64)
+        requires { self.old + count < 2 ^ 64 }
+        ensures { self.new ≡ self.old + count }
+    {
+        self.ticks += count;
+    }
+
     /// How many were made.
     pub fn ticks(&self) -> u64
         ensures { result ≡ self.now }

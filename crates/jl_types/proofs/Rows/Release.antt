@@ -1,19 +1,17 @@
 -- Releases, over the whole history, and one after another.
-use Rattle.std.specs.Prelude.{◌≡◌, ℕ, Bool, true, false, List, [], ◌∷◌, ◌++◌, map, length, Option, Some, None, Result, Ok, Err, codes, refl}
+use Rattle.std.specs.Prelude.{◌≡◌, true, false, List, [], ◌∷◌, ◌++◌, map, Some, None, Result, Ok, Err, codes, refl}
 use Rattle.jl_types.specs.Events.Limits.{fixed}
-use Rattle.jl_types.specs.declared.ids.MethodId.{MethodId}
 use Rattle.jl_types.specs.declared.answer.Recv.TheVariants.{Null}
 use Rattle.jl_types.specs.declared.answer.Answer.TheVariants as answer
 use Rattle.jl_types.specs.declared.answer.Unlinked.TheVariants.{Unbound, Gone}
-use Rattle.jl_types.specs.declared.link.Link.{Link}
 use Rattle.jl_types.specs.declared.link.Link.TheVariants.{Plain}
 use Rattle.jl_types.specs.declared.target.CallSiteKind.TheVariants.{Constant, Mutable}
 use Rattle.jl_types.specs.declared.key.Key.TheVariants as key
-use Rattle.jl_types.specs.Values.Target.{Target, Guard, Invoker}
+use Rattle.jl_types.specs.Values.Target.{Guard, Invoker}
 use Rattle.jl_types.specs.Values.Target as target
-use Rattle.jl_types.specs.Values.World.{unreleased, is_missing}
+use Rattle.jl_types.specs.Values.World.{is_missing}
 use Rattle.jl_types.specs.Events.Event.{Event}
-use Rattle.jl_types.specs.declared.event.EventOf.TheVariants.{NewLoader, Define, Delegate, Request, NewCallSite, SetTarget, NewSwitch, Invalidate}
+use Rattle.jl_types.specs.declared.event.EventOf.TheVariants.{NewLoader, Define, Delegate, NewCallSite, SetTarget, NewSwitch, Invalidate}
 use Rattle.jl_types.specs.declared.event.EventOf.TheVariants.{Bind, Install, Retire, Release}
 use Rattle.jl_types.specs.declared.event.Made.{Made}
 use Rattle.jl_types.specs.declared.event.Made.TheVariants as made
@@ -26,7 +24,7 @@ use Rattle.jl_types.specs.declared.refusal.RetireFault.TheVariants as retire
 use Rattle.jl_types.specs.Linkage.Targets.{is_valid, method_of}
 use Rattle.jl_types.specs.Linkage.Links.{scratch}
 use Rattle.jl_types.specs.Linkage.Calls.{dispatch}
-use Rattle.jl_types.specs.Events.Verdict.{verdict, step}
+use Rattle.jl_types.specs.Events.Verdict.{verdict}
 use Rattle.jl_types.specs.Events.History.{world_after, installed_links, reply}
 use Rattle.jl_types.specs.Events.Footprints.{bound, footprint, keys, path, touched}
 use Rattle.jl_types.proofs.Rows.Sketch.{method, file}
@@ -74,6 +72,14 @@ invoked_first = refl
 guarded_on_the_other_side : told (SetTarget 2 (Guard 1 (target.Method m) (Guard 0 (target.Method m) (target.Method n))) ∷ [])
     (Release (1 ∷ []) (0 ∷ [])) ≡ Err (refusal.Release (release.Guarded 2))
 guarded_on_the_other_side = refl
+
+-- on the side that is taken
+invoked_on_the_first_side : told (SetTarget 2 (Guard 1 (Invoker 0) (target.Method n)) ∷ []) (Release (0 ∷ 1 ∷ []) []) ≡ Err (refusal.Release (release.Invoked 2))
+invoked_on_the_first_side = refl
+
+guarded_on_the_first_side : told (SetTarget 2 (Guard 1 (Guard 0 (target.Method m) (target.Method n)) (target.Method n)) ∷ [])
+    (Release (1 ∷ []) (0 ∷ [])) ≡ Err (refusal.Release (release.Guarded 2))
+guarded_on_the_first_side = refl
 
 -- the least is told
 least_invoker : told (NewCallSite Mutable (codes "()V") (Invoker 2) ∷ NewCallSite Mutable (codes "()V") (Invoker 2) ∷ [])

@@ -1,5 +1,5 @@
 -- The release of call sites and switch points (java.lang.invoke: CallSite, SwitchPoint) which no call site that stays needs.
-use Rattle.std.specs.Prelude.{ℕ, Bool, true, false, not, ◌&&◌, ◌||◌, ◌==◌, List, [], ◌∷◌, find, fold, length, slice_set, Option, None, option_map}
+use Rattle.std.specs.Prelude.{ℕ, Bool, false, not, ◌&&◌, ◌||◌, List, [], ◌∷◌, find, fold, length, slice_set, Option, None, option_map}
 use Rattle.std.specs.List.{range_with_len}
 use Rattle.jl_types.specs.declared.refusal.ReleaseFault.{ReleaseFault}
 use Rattle.jl_types.specs.declared.refusal.ReleaseFault.TheVariants.{UnknownCallSite, UnknownSwitch, Invoked, Guarded}
