@@ -6,7 +6,9 @@ ghost use Rattle.jl_types.specs.declared.answer.Recv.TheVariants.{Of};
 ghost use Rattle.jl_types.specs.declared.link.Link.TheVariants as variant;
 ghost use Rattle.jl_types.specs.Events.Fast as fast;
 ghost use Rattle.jl_cache.specs.Links.{fast_link};
+ghost use Rattle.jl_cache.specs.ForProofs.Few.{rows_of};
 
+use crate::few::{Few, method_of, receiver_of};
 use jl_types::{Answer, ClassId, Fast, Link, Outcome, Recv, Table, TableKind, Throwable};
 
 /// What a call is answered by the site's installed link alone: nothing where there is none, and where it is megamorphic. Takes no
@@ -56,6 +58,47 @@ pub fn table_answer(classes: usize, kind: TableKind, table: &Table, recv: Recv) 
     match recv {
         Recv::Null => Fast::Now(Answer::Throws(Throwable::NullPointerException)),
         Recv::Of(class) => row_for(classes, kind, table, class),
+    }
+}
+
+/// What a call is answered by a table of one or two classes, where there are so many: nothing where the receiver's class is newer. Takes no
+/// memory.
+pub(crate) fn few_answer(classes: usize, kind: TableKind, few: &Few, recv: Recv) -> Fast
+    ensures { result ≡ fast.fast_answer (Some (variant.Table kind (rows_of few.now))) classes recv }
+{
+    match recv {
+        Recv::Null => Fast::Now(Answer::Throws(Throwable::NullPointerException)),
+        Recv::Of(class) => {
+            if is_newer(classes, class) {
+                Fast::Miss
+            } else {
+                Fast::Now(few_entry(kind, few, class))
+            }
+        }
+    }
+}
+
+/// The answer of one of the rows, or of there being none for the class.
+fn few_entry(kind: TableKind, few: &Few, class: ClassId) -> Answer
+    ensures { result ≡ fast.entry_answer kind (find (λ row. row.0 == class) (rows_of few.now)) }
+{
+    match few {
+        Few::One(row) => {
+            if receiver_of(row) == class {
+                Answer::Run(method_of(row))
+            } else {
+                entry_answer(kind, None)
+            }
+        }
+        Few::Two(first, second) => {
+            if receiver_of(first) == class {
+                Answer::Run(method_of(first))
+            } else if receiver_of(second) == class {
+                Answer::Run(method_of(second))
+            } else {
+                entry_answer(kind, None)
+            }
+        }
     }
 }
 

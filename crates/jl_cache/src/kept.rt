@@ -2,9 +2,12 @@
 
 ghost use Rattle.std.specs.Prelude.{◌≡◌, Some, None, IfOk};
 ghost use Rattle.jl_types.specs.Events.Fast as fast;
+ghost use Rattle.jl_types.specs.declared.link.Link.TheVariants as link;
 ghost use Rattle.jl_cache.specs.Links as links;
+ghost use Rattle.jl_cache.specs.ForProofs.Kept.{link_of};
 
-use crate::answers::{direct_answer, table_answer};
+use crate::answers::{direct_answer, few_answer, table_answer};
+use crate::few::{Few, few_of, table_of};
 use jl_pages::Again;
 use jl_types::{Answer, Fast, Link, MethodId, Outcome, Recv, Table, TableKind, Throwable};
 use std::alloc::{AllocError, Global};
@@ -12,7 +15,8 @@ use std::marker::Model;
 use std::mem::size_of;
 use std::sync::Arc;
 
-/// A site's link as it is kept, or none, in sixteen bytes: a table stands apart, and copies share it. A clause sees the link or none.
+/// A site's link as it is kept, or none, in sixteen bytes: a table of more than two classes stands apart, and copies share it. A clause sees
+/// the link or none.
 pub struct KeptSlot {
     kept: Kept,
 }
@@ -22,6 +26,7 @@ pub struct KeptSlot {
 enum Kept {
     Fixed(Fixed),
     Direct(Outcome),
+    Few(TableKind, Few),
     Table(TableKind, Arc<Table>),
 }
 
@@ -61,6 +66,7 @@ impl Clone for KeptSlot {
         let kept = match &self.kept {
             Kept::Fixed(fixed) => Kept::Fixed(*fixed),
             Kept::Direct(outcome) => Kept::Direct(*outcome),
+            Kept::Few(kind, few) => Kept::Few(*kind, *few),
             Kept::Table(kind, table) => Kept::Table(*kind, Arc::try_clone(table)?),
         };
         Ok(KeptSlot { kept })
@@ -92,7 +98,7 @@ impl KeptSlot {
             Link::Fault(throwable) => Kept::Fixed(Fixed::Fault(*throwable)),
             Link::Plain(method) => Kept::Fixed(Fixed::Plain(*method)),
             Link::Direct(outcome) => Kept::Direct(*outcome),
-            Link::Table(kind, table) => Kept::Table(*kind, Arc::new(alloc, *table)?),
+            Link::Table(kind, table) => kept_table(alloc, *kind, table)?,
             Link::Mega => Kept::Fixed(Fixed::Mega),
         };
         Ok(KeptSlot { kept })
@@ -108,6 +114,7 @@ impl KeptSlot {
             Kept::Fixed(Fixed::Plain(method)) => Some(Link::Plain(*method)),
             Kept::Fixed(Fixed::Mega) => Some(Link::Mega),
             Kept::Direct(outcome) => Some(Link::Direct(*outcome)),
+            Kept::Few(kind, few) => Some(Link::Table(*kind, table_of(few))),
             Kept::Table(kind, table) => Some(Link::Table(*kind, **table)),
         }
     }
@@ -120,6 +127,7 @@ impl KeptSlot {
             Kept::Fixed(Fixed::Mega) => true,
             Kept::Fixed(Fixed::Nothing | Fixed::Fault(_) | Fixed::Plain(_)) => false,
             Kept::Direct(_) => false,
+            Kept::Few(_, _) => false,
             Kept::Table(_, _) => false,
         }
     }
@@ -134,12 +142,23 @@ impl KeptSlot {
             Kept::Fixed(Fixed::Fault(throwable)) => Fast::Now(Answer::Throws(*throwable)),
             Kept::Fixed(Fixed::Plain(method)) => Fast::Now(Answer::Run(*method)),
             Kept::Direct(outcome) => direct_answer(classes, *outcome, recv),
+            Kept::Few(kind, few) => few_answer(classes, *kind, few, recv),
             Kept::Table(kind, table) => table_answer(classes, *kind, table, recv),
         }
     }
 }
 
-/// A link as it is kept, in sixteen bytes: a table stands apart, and copies share it. A clause sees the link.
+/// What is kept of a table. Want of memory is an error.
+fn kept_table(alloc: Global, kind: TableKind, table: &Table) -> Result<Kept, AllocError>
+    ensures { IfOk result (λ kept. link_of kept ≡ Some (link.Table kind table.now)) }
+{
+    match few_of(table) {
+        Some(few) => Ok(Kept::Few(kind, few)),
+        None => Ok(Kept::Table(kind, Arc::new(alloc, *table)?)),
+    }
+}
+
+/// A link as it is kept, in sixteen bytes: a table of more than two classes stands apart, and copies share it. A clause sees the link.
 pub struct KeptLink {
     slot: KeptSlot,
 }

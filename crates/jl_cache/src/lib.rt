@@ -6,6 +6,7 @@
 
 mod answers;
 mod cache;
+mod few;
 mod kept;
 
 pub use answers::{direct_answer, fast, table_answer};

@@ -6,6 +6,7 @@ use Rattle.jl_cache.specs.declared.kept.Kept.{Kept}
 use Rattle.jl_cache.specs.declared.kept.Kept.TheVariants as kept
 use Rattle.jl_cache.specs.declared.kept.Fixed.{Fixed}
 use Rattle.jl_cache.specs.declared.kept.Fixed.TheVariants.{Nothing, Fault, Plain, Mega}
+use Rattle.jl_cache.specs.ForProofs.Few.{rows_of}
 
 -- the link of which this is kept, or none
 abbrev pub fixed_link : Fixed → Option Link
@@ -18,6 +19,7 @@ fixed_link Mega = Some link.Mega
 abbrev pub link_of : Kept → Option Link
 link_of (kept.Fixed fixed) = fixed_link fixed
 link_of (kept.Direct outcome) = Some (link.Direct outcome)
+link_of (kept.Few kind few) = Some (link.Table kind (rows_of few))
 link_of (kept.Table kind rows) = Some (link.Table kind rows.value)
 
 -- the link of a slot that has one
