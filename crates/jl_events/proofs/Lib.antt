@@ -3,7 +3,6 @@ pub mod PlaceLaws
 pub mod RetireLaws
 pub mod CallSiteLaws
 pub mod InstallLaws
-pub mod InstallCounts
 -- an accepted event: what it finds, what it changes, what is kept of it
 pub mod ChangeLaws
 pub mod ConstantLaws

@@ -1,10 +1,10 @@
 //! Whether a class inherits a method from its superclasses.
 
-ghost use Rattle.std.specs.Prelude.{◌≡◌, ◌+◌, ◌^◌, ◌<◌, if◌then◌else◌};
+ghost use Rattle.std.specs.Prelude.{◌≡◌};
 ghost use Rattle.jl_relink.specs.Receivers.{inherits};
 
 use jl_hierarchy::{Classes, NameAndType};
-use jl_types::{ClassId, MethodId, Work};
+use jl_types::{ClassId, MethodId};
 
 /// Whether the method stands in a class, and is what this class, from itself upward, first declares of its name and descriptor. A new
 /// class that inherits the one method that a link runs changes no such link (JVMS SE 17 §5.4.6). Takes no memory.
@@ -23,23 +23,4 @@ pub fn inherits(classes: &Classes, class: ClassId, method: &MethodId) -> bool
         Some(first) => method.class == first.class && method.index == first.index,
         None => false,
     }
-}
-
-/// The same with one tick where it does: this search upward stands in the place of a selection. Where it doesn't, the selection is still to
-/// come, and takes the tick. Takes no memory.
-pub fn inherits_counted(
-    classes: &Classes,
-    class: ClassId,
-    method: &MethodId,
-    work: &mut Work,
-) -> bool
-    requires fits { work.old + 1 < 2 ^ 64 }
-    ensures inherits { result ≡ inherits classes.now class method.now }
-    ensures ticks { work.new ≡ work.old + (if inherits classes.now class method.now then 1 else 0) }
-{
-    if inherits(classes, class, method) {
-        work.tick();
-        return true;
-    }
-    false
 }

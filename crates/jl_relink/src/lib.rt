@@ -30,13 +30,13 @@ mod world;
 
 pub use answer::dispatch;
 pub use batch::{Row, is_bad_size, sites_fault};
-pub use inherited::{inherits, inherits_counted};
+pub use inherited::inherits;
 pub use laws::{
     accepted_events_are_in_order, links_stay, one_receiver_more, touched_sites_take_one_evaluation,
     untouched_links_stay,
 };
 pub use located::invocation_at;
-pub use preparation::{Prepared, prepare, prepare_in};
+pub use preparation::{Prepared, prepare, prepare_counted, prepare_in};
 pub use receiver::stays_with_receiver;
 pub use scratch::{link_counted, link_of};
 pub use snapshot::Snapshot;

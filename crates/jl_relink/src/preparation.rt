@@ -1,19 +1,18 @@
 //! Links that are looked up apart from the events, and installed later.
 
-ghost use Rattle.std.specs.Prelude.{◌≡◌, ◌+◌, ◌≤◌, ◌⊎◌, [], None, Some, Ok, length, IfOk, IfErr, OnOk};
+ghost use Rattle.std.specs.Prelude.{◌≡◌, ◌+◌, ◌^◌, ◌<◌, ◌≤◌, ◌⊎◌, [], ◌∷◌, ◌++◌, false, None, Some, sum_by, length, IfOk, IfErr, OnOk};
 ghost use Rattle.std.specs.Vec.{vec_len, vec_capacity};
+ghost use Rattle.jl_types.specs.Events.Batches.{is_bad_size};
 ghost use Rattle.jl_types.specs.Events.Preparation as prepared;
-ghost use Rattle.jl_types.specs.Events.Preparation.{link_fault};
+ghost use Rattle.jl_types.specs.Events.Footprints.{most_for};
 ghost use Rattle.jl_relink.specs.Preparations.{IsPreparation, IsFault};
-ghost use Rattle.jl_types.specs.Linkage.Links.{scratch};
 
 use crate::batch::{is_bad_size, sites_fault};
-use crate::fill::fill;
-use crate::scratch::link_of;
+use crate::scratch::{link_counted, link_of};
 use crate::snapshot::Snapshot;
 use crate::world::World;
 use jl_names::Seq;
-use jl_types::{Link, PrepareFault, SiteNo};
+use jl_types::{Link, PrepareFault, SiteNo, Work};
 use std::alloc::Global;
 
 /// Sites with their links from scratch, as they were after so many accepted events.
@@ -54,12 +53,69 @@ pub fn prepare_in(
 ) -> Result<Prepared, PrepareFault>
     ensures { IsPreparation (record { world = world.now; serial = serial }) sites.now result }
 {
+    let mut work = Work::new();
+    prepare_counted(alloc, world, serial, sites, &mut work)
+}
+
+/// As [`prepare_in`], and counts each selection, special search and evaluation of a call site.
+///
+/// # Errors
+///
+/// Those of [`prepare`].
+pub fn prepare_counted(
+    alloc: Global,
+    world: &World,
+    serial: u64,
+    sites: &[SiteNo],
+    work: &mut Work,
+) -> Result<Prepared, PrepareFault>
+    requires nothing_yet { work.old ≡ 0 }
+    ensures prepared { IsPreparation (record { world = world.now; serial = serial }) sites.now result }
+    ensures ticks { IfOk result (λ prepared. work.new ≤ sum_by (λ row. most_for world.now row.0) prepared.rows) }
+    ensures small { work.new ≤ 2 ^ 28 }
+{
+    // Shows how few classes there are, which bounds the work.
+    let _classes = world.classes.count_in_order();
     let mut rows = room_for(alloc, world, sites)?;
-    fill(sites, &mut rows, |site| row(world, *site))?;
+    push_rows(world, sites, &mut rows, work)?;
     Ok(Prepared {
         serial,
         rows: Seq::of(rows),
     })
+}
+
+/// Adds the sites in order, each with its link from scratch, to an empty list that has room for them.
+fn push_rows(
+    world: &World,
+    sites: &[SiteNo],
+    rows: &mut Vec<(SiteNo, Link)>,
+    work: &mut Work,
+) -> Result<(), PrepareFault>
+    requires empty { rows.old.items ≡ [] }
+    requires room { vec_len rows.old + length sites.now ≤ vec_capacity rows.old }
+    requires fits { work.old + sum_by (most_for world.now) sites.now < 2 ^ 64 }
+    ensures rows { OnOk result (prepared.ArePrepared world.now sites.now rows.new.items) }
+    ensures unready { IfErr result (λ f. prepared.ready_fault world.now sites.now ≡ Some f) }
+    ensures ticks { work.new ≤ work.old + sum_by (most_for world.now) sites.now }
+{
+    for site in sites {
+        let site = *site;
+        match link_counted(world, site, work) {
+            Ok(link) => push_row(rows, site, link),
+            Err(_) => return Err(PrepareFault::NotReady(site)),
+        }
+    }
+    Ok(())
+}
+
+/// Adds the row, for which there is room.
+fn push_row<T: Copy>(rows: &mut Vec<(SiteNo, T)>, site: SiteNo, one: T)
+    requires { vec_len rows.old + 1 ≤ vec_capacity rows.old }
+    ensures items { rows.new.items ≡ rows.old.items ++ (site, one) ∷ [] }
+    ensures len { vec_len rows.new ≡ vec_len rows.old + 1 }
+    ensures capacity { vec_capacity rows.new ≡ vec_capacity rows.old }
+{
+    rows.push_reserved((site, one));
 }
 
 /// An empty list with room for something of each site, where the batch has the right size and its sites are requested, each once.
@@ -69,6 +125,7 @@ pub(crate) fn room_for<T: Drop>(
     sites: &[SiteNo],
 ) -> Result<Vec<T>, PrepareFault>
     ensures checked { OnOk result (prepared.prepare_fault world.now sites.now ≡ prepared.ready_fault world.now sites.now) }
+    ensures few { OnOk result (is_bad_size (length sites.now) ≡ false) }
     ensures empty { IfOk result (λ made. made.items ≡ []) }
     ensures room { IfOk result (λ made. vec_len made + length sites.now ≤ vec_capacity made) }
     ensures fault { IfErr result (λ f. IsFault world.now sites.now f) }
@@ -95,15 +152,4 @@ fn ready_fault(world: &World, sites: &[SiteNo]) -> Option<PrepareFault>
         }
     }
     None
-}
-
-/// The site with its link from scratch.
-fn row(world: &World, site: SiteNo) -> Result<(SiteNo, Link), PrepareFault>
-    ensures ok { IfOk result (λ row. (row.0 ≡ site) × (scratch world.now site ≡ Ok row.1)) }
-    ensures err { IfErr result (λ f. link_fault site (scratch world.now site) ≡ Some f) }
-{
-    match link_of(world, site) {
-        Ok(link) => Ok((site, link)),
-        Err(_) => Err(PrepareFault::NotReady(site)),
-    }
 }
