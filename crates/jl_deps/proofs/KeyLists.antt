@@ -1,15 +1,19 @@
 -- The sites that are listed under each key, key by key.
-use Rattle.std.specs.Prelude.{◌≡◌, ℕ, zero, suc, ◌==◌, ◌&&◌, ◌||◌, not, Bool, true, false, nat_eq, List, [], ◌∷◌, ◌++◌, take, Option, Some, if◌then◌else◌}
+use Rattle.std.specs.Prelude.{◌≡◌, ℕ, zero, suc, ◌==◌, ◌&&◌, ◌||◌, not, Bool, true, false, nat_eq, List, [], ◌∷◌, ◌++◌, take, Option, Some, None, if◌then◌else◌}
 use Rattle.std.specs.Option.{option_map_or}
 use Rattle.std.proofs.Common.{refl, ap, sym, ◌∙◌}
+use Rattle.std.proofs.lemmas.Bool.Decides.{Decides-eqb}
 use Rattle.std.proofs.lemmas.List.Folds.{list_any-append}
 use Rattle.indexmap.specs.IndexMap.{IndexMap, get}
 use Rattle.indexmap.specs.IndexSet.{IndexSet}
 use Rattle.jl_types.specs.declared.key.Key.{Key}
 use Rattle.jl_types.specs.declared.key.Key.TheVariants as key
 use Rattle.jl_types.specs.Events.Footprints.{same_key, has_key}
+use Rattle.jl_deps.specs.declared.form.Form.{Form}
+use Rattle.jl_deps.specs.declared.form.Form.TheVariants as forms
+use Rattle.jl_deps.specs.declared.form.Rests.{Rests}
 use Rattle.jl_relink.proofs.Untouched.{same_key_is}
-use Rattle.jl_deps.specs.ForProofs.Lists.{key_eq, listed, AreListed}
+use Rattle.jl_deps.specs.ForProofs.Lists.{form_eq, key_eq, listed, AreListed, keys_in, form_in}
 
 pub key_same : (k j : Key) → key_eq k j ≡ same_key k j
 key_same (key.Receivers c) (key.Receivers d) = refl
@@ -46,6 +50,22 @@ pub others_listed : (keys : List Key) (n : ℕ) (k : Key) (b now old : Bool) →
     → now ≡ old
 others_listed keys n k true now old is h = is ∙ ap (λ (d : Bool). d || old) (has_front keys n k h)
 others_listed keys n k false now old is h = is
+
+-- one key more is listed
+pub all_more : (front : List Key) (key k : Key) (b next now old : Bool) → next ≡ ((key_eq key k && b) || now)
+    → now ≡ ((b && has_key front k) || old) → next ≡ ((b && has_key (front ++ key ∷ []) k) || old)
+all_more front key k b next now old step before =
+    step ∙ (λ i. (key_same key k i && b) || before i)
+    ∙ by_tests (same_key key k) (has_key front k) b
+    ∙ ap (λ (d : Bool). (b && d) || old) (sym (has_more front key k))
+  where
+    by_tests : (e h b : Bool) → ((e && b) || ((b && h) || old)) ≡ ((b && (h || e)) || old)
+    by_tests true true true = refl
+    by_tests true false true = refl
+    by_tests false true true = refl
+    by_tests false false true = refl
+    by_tests true h false = refl
+    by_tests false h false = refl
 
 -- one key less
 pub gone_more : (kept front : List Key) (key k : Key) (b next now old : Bool) → has_key kept key ≡ false
@@ -101,15 +121,82 @@ stays_more kept front key k b now old present before =
 
 -- ---- the footprints and the lists
 
-pub put_listed : {R S T : Type 0} (old new : IndexMap ℕ (List Key) R) (before after : IndexMap Key (IndexSet ℕ S) T) (site : ℕ) (footprint : List Key)
-    → ((s : ℕ) → get nat_eq new s ≡ (if site == s then Some footprint else get nat_eq old s))
+pub put_listed : {Q R S T : Type 0} (old new : IndexMap ℕ Rests R) (before after : IndexMap Key (IndexMap Form (IndexSet ℕ Q) S) T) (site : ℕ) (r : Rests)
+    → ((s : ℕ) → get nat_eq new s ≡ (if site == s then Some r else get nat_eq old s))
     → AreListed old before
-    → ((k : Key) (s : ℕ) → listed after k s ≡ (if site == s then has_key footprint k else listed before k s))
+    → ((k : Key) (f : Form) (s : ℕ) → listed after k f s ≡ (if site == s then form_eq r.form f && has_key r.footprint k else listed before k f s))
     → AreListed new after
-put_listed old new before after site footprint puts were anew s k =
-    anew k s ∙ by_site (site == s) ∙ ap (λ (o : Option (List Key)). option_map_or (λ keys. has_key keys k) o false) (sym (puts s))
+put_listed old new before after site r puts were anew s k f =
+    anew k f s ∙ by_site (site == s)
+    ∙ ap (λ (o : Option Rests). option_map_or (λ (q : Rests). form_eq q.form f && has_key q.footprint k) o false) (sym (puts s))
   where
-    by_site : (b : Bool) → (if b then has_key footprint k else listed before k s)
-        ≡ option_map_or (λ keys. has_key keys k) (if b then Some footprint else get nat_eq old s) false
+    by_site : (b : Bool) → (if b then form_eq r.form f && has_key r.footprint k else listed before k f s)
+        ≡ option_map_or (λ (q : Rests). form_eq q.form f && has_key q.footprint k) (if b then Some r else get nat_eq old s) false
     by_site true = refl
-    by_site false = were s k
+    by_site false = were s k f
+
+-- what was listed of the site, by what it rested on
+pub was_listed : {Q R S T : Type 0} (sites : IndexMap ℕ Rests R) (lists : IndexMap Key (IndexMap Form (IndexSet ℕ Q) S) T) (site : ℕ) → AreListed sites lists
+    → (k : Key) (f : Form) → listed lists k f site ≡ (form_eq (form_in (get nat_eq sites site)) f && has_key (keys_in (get nat_eq sites site)) k)
+was_listed sites lists site are k f = are site k f ∙ by_rests (get nat_eq sites site)
+  where
+    never : (b : Bool) → false ≡ (b && false)
+    never true = refl
+    never false = refl
+
+    by_rests : (o : Option Rests) → option_map_or (λ (q : Rests). form_eq q.form f && has_key q.footprint k) o false
+        ≡ (form_eq (form_in o) f && has_key (keys_in o) k)
+    by_rests None = never (form_eq (form_in None) f)
+    by_rests (Some r) = refl
+
+-- ---- the site is listed anew
+
+-- in the place of the old keys and form
+pub listed_anew : (b e g other h all next now before : Bool) → (b ≡ true → before ≡ (e && h)) → (e ≡ true → other ≡ g)
+    → now ≡ (((b && g) && all) || before) → next ≡ (not ((b && e) && (h && not (other && all))) && now)
+    → next ≡ (if b then g && all else before)
+listed_anew false e g other h all next now before was same listed less = less ∙ listed
+listed_anew true e g other h all next now before was same listed less =
+    less ∙ ap (λ (d : Bool). not (e && (h && not (other && all))) && d) (listed ∙ ap (λ (d : Bool). (g && all) || d) (was refl)) ∙ by_form e refl
+  where
+    there : (h n : Bool) → (not (h && not n) && (n || h)) ≡ n
+    there true true = refl
+    there true false = refl
+    there false true = refl
+    there false false = refl
+
+    nowhere : (n : Bool) → (n || false) ≡ n
+    nowhere true = refl
+    nowhere false = refl
+
+    by_form : (d : Bool) → e ≡ d → (not (d && (h && not (other && all))) && ((g && all) || (d && h))) ≡ (g && all)
+    by_form true is = ap (λ (o : Bool). not (h && not (o && all)) && ((g && all) || h)) (same is) ∙ there h (g && all)
+    by_form false is = nowhere (g && all)
+
+-- forms that are equal by their derived `==`
+pub form_is : (f g : Form) → form_eq f g ≡ true → f ≡ g
+form_is forms.Mega forms.Mega e = refl
+form_is forms.Mega (forms.Runs n) e = cc
+form_is forms.Mega forms.Other e = cc
+form_is (forms.Runs m) forms.Mega e = cc
+form_is (forms.Runs m) (forms.Runs n) e = λ k. forms.Runs (record {
+  class = (Decides-eqb m.class n.class).0 (first (m.class == n.class) (m.index == n.index) e) k;
+  index = (Decides-eqb m.index n.index).0 (second (m.class == n.class) (m.index == n.index) e) k;
+})
+  where
+    first : (a b : Bool) → (a && b) ≡ true → a ≡ true
+    first true b h = refl
+    first false b h = cc
+
+    second : (a b : Bool) → (a && b) ≡ true → b ≡ true
+    second true b h = h
+    second false b h = cc
+form_is (forms.Runs m) forms.Other e = cc
+form_is forms.Other forms.Mega e = cc
+form_is forms.Other (forms.Runs n) e = cc
+form_is forms.Other forms.Other e = refl
+
+pub form_same : (f : Form) → form_eq f f ≡ true
+form_same forms.Mega = refl
+form_same (forms.Runs m) = λ i. (Decides-eqb m.class m.class).1 refl i && (Decides-eqb m.index m.index).1 refl i
+form_same forms.Other = refl

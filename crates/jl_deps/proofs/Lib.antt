@@ -3,6 +3,8 @@ pub mod KeyLists
 pub mod ListLaws
 pub mod IndexLaws
 pub mod TouchLaws
+pub mod GroupLaws
+pub mod CountLaws
 pub mod BoundLaws
 -- what a link rests on, and what an event changes of that
 pub mod PointLaws

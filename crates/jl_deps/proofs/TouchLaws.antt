@@ -1,20 +1,22 @@
 -- The sites that keys touch, by the footprints that a map has.
-use Rattle.std.specs.Prelude.{◌≡◌, ℕ, ◌<◌, ◌==◌, ◌||◌, Bool, true, false, cond, List, [], ◌∷◌, map, filter, find, Option, Some, None, option_map}
+use Rattle.std.specs.Prelude.{◌≡◌, ℕ, ◌<◌, ◌==◌, ◌||◌, ◌&&◌, ◌++◌, not, Bool, true, false, cond, List, [], ◌∷◌, map, filter, find, Option, Some, None, option_map}
 use Rattle.std.specs.List.{AllByRecursion, list_any}
 use Rattle.std.specs.Option.{option_map_or}
-use Rattle.std.specs.Map.{lookup}
 use Rattle.std.proofs.Common.{refl, ap, sym, ◌∙◌, arith}
 use Rattle.std.proofs.lemmas.Bool.Decides.{Decides-eqb}
 use Rattle.std.proofs.lemmas.Cmp.{nat_eq_equiv}
+use Rattle.std.proofs.lemmas.List.Folds.{list_any-append}
 use Rattle.jl_hierarchy.specs.ForProofs.Kept as kept
 use Rattle.jl_hierarchy.proofs.Rising.{has, none_up_to}
 use Rattle.jl_types.specs.declared.key.Key.{Key}
 use Rattle.jl_types.specs.declared.key.Key.TheVariants as key
 use Rattle.jl_types.specs.Events.Footprints.{same_key, has_key, meets}
-use Rattle.jl_deps.specs.Indexes.{touched_by}
-use Rattle.jl_types.specs.ForProofs.BySite.{by_site}
+use Rattle.jl_types.specs.Values.World.{Classes}
 use Rattle.jl_types.specs.ForProofs.BySite.{value_at}
-use Rattle.jl_types.proofs.BySite.{Rises, rises, found_by_site}
+use Rattle.jl_types.proofs.BySite.{Rises}
+use Rattle.jl_deps.specs.declared.form.Form.{Form}
+use Rattle.jl_deps.specs.declared.form.Rests.{Rests}
+use Rattle.jl_deps.specs.Forms.{may_change}
 
 -- ---- keys
 
@@ -56,7 +58,7 @@ meets_turned (k ∷ footprint) keys =
 
 -- ---- sites
 
-all_kept : (n : ℕ) (p : List Key → Bool) (rows : List (ℕ × List Key)) → AllByRecursion (λ (r : ℕ × List Key). n < r.0) rows
+all_kept : (n : ℕ) (p : Rests → Bool) (rows : List (ℕ × Rests)) → AllByRecursion (λ (r : ℕ × Rests). n < r.0) rows
     → AllByRecursion (λ m. n < m) (map (λ r. r.0) (filter (λ r. p r.1) rows))
 all_kept n p [] h = tt
 all_kept n p (row ∷ rows) h = by_test (p row.1) (all_kept n p rows h.1)
@@ -66,7 +68,7 @@ all_kept n p (row ∷ rows) h = by_test (p row.1) (all_kept n p rows h.1)
     by_test true rest = (h.0, rest)
     by_test false rest = rest
 
-pub sites_rise : (p : List Key → Bool) (rows : List (ℕ × List Key)) → Rises rows → kept.Rises (map (λ r. r.0) (filter (λ r. p r.1) rows))
+pub sites_rise : (p : Rests → Bool) (rows : List (ℕ × Rests)) → Rises rows → kept.Rises (map (λ r. r.0) (filter (λ r. p r.1) rows))
 sites_rise p [] h = tt
 sites_rise p (row ∷ rows) h = by_test (p row.1) (sites_rise p rows h.1)
   where
@@ -76,7 +78,7 @@ sites_rise p (row ∷ rows) h = by_test (p row.1) (sites_rise p rows h.1)
     by_test false rest = rest
 
 -- a site is among those that pass where its footprint does
-pub passing : (p : List Key → Bool) (s : ℕ) (rows : List (ℕ × List Key)) → Rises rows
+pub passing : (p : Rests → Bool) (s : ℕ) (rows : List (ℕ × Rests)) → Rises rows
     → has s (map (λ r. r.0) (filter (λ r. p r.1) rows)) ≡ option_map_or p (value_at rows s) false
 passing p s [] h = refl
 passing p s (row ∷ rows) h = by_tests (p row.1) (row.0 == s) refl refl (passing p s rows h.1)
@@ -93,17 +95,78 @@ passing p s (row ∷ rows) h = by_tests (p row.1) (row.0 == s) refl refl (passin
     by_tests false true passes is rest = absent ((Decides-eqb row.0 s).0 is) ∙ sym passes
     by_tests false false passes is rest = rest
 
-module _ (entries : List (ℕ × List Key)) (keys : List Key) where
-  pub touched_rise : kept.Rises (touched_by (by_site entries) keys)
-  touched_rise = sites_rise (λ f. meets f keys) (by_site entries) (rises entries)
+-- ---- those of some forms alone
 
-  pub touched_are : (s : ℕ) → has s (touched_by (by_site entries) keys)
-      ≡ list_any (λ k. option_map_or (λ f. has_key f k) (lookup (λ t. s == t) entries) false) keys
-  touched_are s =
-      passing (λ f. meets f keys) s (by_site entries) (rises entries)
-      ∙ ap (λ (o : Option (List Key)). option_map_or (λ f. meets f keys) o false) (found_by_site entries s)
-      ∙ by_found (lookup (λ t. s == t) entries)
+and_turned : (a b : Bool) → (a && b) ≡ (b && a)
+and_turned true true = refl
+and_turned true false = refl
+and_turned false true = refl
+and_turned false false = refl
+
+-- a test of what is touched, beside one of its form
+abbrev pub OfForms : (Form → Bool) → (List Key → Rests → Bool) → Type 0
+OfForms p test = (keys : List Key) (r : Rests) → test keys r ≡ (p r.form && list_any (has_key r.footprint) keys)
+
+pub all_touched : OfForms (λ f. true) (λ keys r. meets r.footprint keys)
+all_touched keys r = meets_turned r.footprint keys
+
+pub touched_asked : (cs : Classes) (x : ℕ) → OfForms (may_change cs x) (λ keys r. meets r.footprint keys && may_change cs x r.form)
+touched_asked cs x keys r =
+    and_turned (meets r.footprint keys) (may_change cs x r.form) ∙ ap (λ (b : Bool). may_change cs x r.form && b) (meets_turned r.footprint keys)
+
+pub touched_unasked : (cs : Classes) (x : ℕ) → OfForms (λ f. not (may_change cs x f)) (λ keys r. meets r.footprint keys && not (may_change cs x r.form))
+touched_unasked cs x keys r =
+    and_turned (meets r.footprint keys) (not (may_change cs x r.form))
+    ∙ ap (λ (b : Bool). not (may_change cs x r.form) && b) (meets_turned r.footprint keys)
+
+module _ (p : Form → Bool) (test : List Key → Rests → Bool) (tests : OfForms p test) (index : List (ℕ × Rests)) (rising : Rises index) where
+  abbrev pub picked : List Key → List ℕ
+  picked keys = map (λ row. row.0) (filter (λ row. test keys row.1) index)
+
+  picked_are : (keys : List Key) (s : ℕ)
+      → has s (picked keys) ≡ option_map_or (λ (r : Rests). p r.form && list_any (has_key r.footprint) keys) (value_at index s) false
+  picked_are keys s = passing (test keys) s index rising ∙ (λ i. option_map_or (λ (r : Rests). tests keys r i) (value_at index s) false)
+
+  -- no keys touch a site
+  pub by_none : (s : ℕ) → has s (picked []) ≡ false
+  by_none s = picked_are [] s ∙ by_found (value_at index s)
     where
-      by_found : (o : Option (List Key)) → option_map_or (λ f. meets f keys) o false ≡ list_any (λ k. option_map_or (λ f. has_key f k) o false) keys
-      by_found None = sym (none_any keys)
-      by_found (Some f) = meets_turned f keys
+      never : (b : Bool) → (b && false) ≡ false
+      never true = refl
+      never false = refl
+
+      by_found : (o : Option Rests) → option_map_or (λ (r : Rests). p r.form && list_any (has_key r.footprint) []) o false ≡ false
+      by_found None = refl
+      by_found (Some r) = never (p r.form)
+
+  -- what one key touches
+  pub by_one : (k : Key) (s : ℕ)
+      → has s (picked (k ∷ [])) ≡ option_map_or (λ (r : Rests). p r.form && has_key r.footprint k) (value_at index s) false
+  by_one k s = picked_are (k ∷ []) s ∙ by_found (value_at index s)
+    where
+      alone : (b : Bool) → (b || false) ≡ b
+      alone true = refl
+      alone false = refl
+
+      by_found : (o : Option Rests) → option_map_or (λ (r : Rests). p r.form && list_any (has_key r.footprint) (k ∷ [])) o false
+          ≡ option_map_or (λ (r : Rests). p r.form && has_key r.footprint k) o false
+      by_found None = refl
+      by_found (Some r) = ap (λ (b : Bool). p r.form && b) (alone (has_key r.footprint k))
+
+  -- one key more
+  pub by_more : (front : List Key) (k : Key) (s : ℕ) → has s (picked (front ++ k ∷ [])) ≡ (has s (picked front) || has s (picked (k ∷ [])))
+  by_more front k s =
+      picked_are (front ++ k ∷ []) s ∙ by_found (value_at index s) ∙ sym (λ i. picked_are front s i || picked_are (k ∷ []) s i)
+    where
+      any_of : Option Rests → List Key → Bool
+      any_of o keys = option_map_or (λ (r : Rests). p r.form && list_any (has_key r.footprint) keys) o false
+
+      spread : (a b d : Bool) → (a && (b || d)) ≡ ((a && b) || (a && d))
+      spread true b d = refl
+      spread false b d = refl
+
+      by_found : (o : Option Rests) → any_of o (front ++ k ∷ []) ≡ (any_of o front || any_of o (k ∷ []))
+      by_found None = refl
+      by_found (Some r) =
+          ap (λ (b : Bool). p r.form && b) (list_any-append (has_key r.footprint) front (k ∷ []))
+          ∙ spread (p r.form) (list_any (has_key r.footprint) front) (list_any (has_key r.footprint) (k ∷ []))

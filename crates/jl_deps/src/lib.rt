@@ -6,6 +6,7 @@
 #![tactic(auto)]
 
 mod footprint;
+mod form;
 mod index;
 mod kept;
 mod keys;
@@ -13,6 +14,7 @@ mod laws;
 mod lists;
 
 pub use footprint::{footprint_of, footprint_of_linked};
+pub use form::{Form, Rests};
 pub use index::Index;
 pub use kept::Footprint;
 pub use keys::{

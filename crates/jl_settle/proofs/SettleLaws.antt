@@ -3,6 +3,7 @@ use Rattle.std.specs.Prelude.{◌≡◌, ℕ, suc, ◌+◌, ◌<◌, ◌==◌, �
 use Rattle.std.specs.Prelude.{map, length, Option, Some, None, option_map, Result, Ok, Err, is_some, is_none, IfSome, OnOk, if◌then◌else◌}
 use Rattle.std.specs.List.{AllByRecursion}
 use Rattle.std.specs.Bool.{one_answer}
+use Rattle.std.specs.Option.{option_map_or}
 use Rattle.std.proofs.Common.{refl, ap, sym, subst, ◌∙◌, arith, add-one, length-append}
 use Rattle.std.proofs.lemmas.Bool.{or_left, or_right}
 use Rattle.std.proofs.lemmas.Cmp.{nat_eq_equiv}
@@ -13,13 +14,12 @@ use Rattle.std.proofs.lemmas.List.Sums.{sum_by-cons, sum_by_push}
 use Rattle.std.proofs.lemmas.List.Folds.{list_any-append}
 use Rattle.jl_class.specs.Class.{ClassFile}
 use Rattle.jl_types.specs.declared.answer.Unlinked.{Unlinked}
-use Rattle.jl_types.specs.declared.ids.MethodId.{MethodId}
 use Rattle.jl_types.specs.declared.answer.Outcome.TheVariants.{Run, Throws}
 use Rattle.jl_types.specs.declared.link.Link.{Link}
 use Rattle.jl_types.specs.declared.link.Link.TheVariants.{Fault, Plain, Direct, Table, Mega}
 use Rattle.jl_types.specs.Linkage.Links.{same_link}
 use Rattle.jl_types.specs.ForProofs.SameLink.{link_decides}
-use Rattle.jl_types.specs.Values.World.{World, Classes}
+use Rattle.jl_types.specs.Values.World.{World}
 use Rattle.jl_types.specs.Events.Definitions.{class_made}
 use Rattle.jl_types.specs.Events.Event.{Event}
 use Rattle.jl_types.specs.declared.event.EventOf.TheVariants as event
@@ -28,16 +28,20 @@ use Rattle.jl_types.specs.Linkage.Links.{outcome, scratch}
 use Rattle.jl_types.specs.Linkage.Stages.{stage}
 use Rattle.jl_types.specs.Events.Verdict.{step}
 use Rattle.jl_types.specs.Events.History.{has_link, is_link, kept}
-use Rattle.jl_types.specs.Events.Footprints.{footprint, most_for, stays_with, touches}
+use Rattle.jl_types.specs.Events.Footprints.{footprint, meets, most_for, stays_with, touches}
 use Rattle.jl_hierarchy.proofs.Rising.{has}
 use Rattle.jl_relink.specs.Laws.{OneMore, changes_receivers}
 use Rattle.jl_relink.specs.Receivers.{TellsStay, inherits}
 use Rattle.jl_relink.proofs.OneReceiver.{one_more}
 use Rattle.jl_relink.proofs.Costs.{takes_one_evaluation}
 use Rattle.jl_cache.specs.Links.{link_with}
-use Rattle.jl_deps.specs.Indexes.{footprint_at, AreRising, IsIndex, StaysIndexed, touched_by}
+use Rattle.jl_deps.specs.declared.form.Rests.{Rests}
+use Rattle.jl_deps.specs.Forms.{form_of, may_change, rests}
+use Rattle.jl_deps.specs.Indexes.{rests_at, AreRising, IsIndex, StaysIndexed, touched_by, asked_by}
 use Rattle.jl_deps.proofs.IndexLaws.{touched_of, others_stay}
-use Rattle.jl_settle.specs.Settling.{kept_at, goes, defined_by, AreUpToDate, HasChanged, IsTold, MayBeAsked, inherits_run, most_asked}
+use Rattle.jl_deps.proofs.TouchLaws.{passing}
+use Rattle.jl_types.proofs.BySite.{rises_of}
+use Rattle.jl_settle.specs.Settling.{kept_at, goes, defined_by, AreUpToDate, HasChanged, IsTold, MayBeAsked, asked_of, most_asked}
 
 -- ---- loops over sites
 
@@ -103,11 +107,11 @@ kept_scratch installs_it o (Ok now) l e = by_test (installs_it || has_link o now
 
 -- ---- the sites that aren't touched, and those that are
 
-module _ (world : World) (keys : List Key) (defined : Option ℕ) (links : ℕ → Option Link) (index : List (ℕ × List Key))
+module _ (world : World) (keys : List Key) (defined : Option ℕ) (links : ℕ → Option Link) (index : List (ℕ × Rests))
     (changed : HasChanged world keys defined links index) (rising : AreRising index) where
   -- a site that isn't touched
   pub untouched_stays : (s : ℕ) → has s (touched_by index keys) ≡ false
-      → (kept_at world links s ≡ links s) × (option_map (λ l. footprint world s) (links s) ≡ footprint_at index s)
+      → (kept_at world links s ≡ links s) × (option_map (rests world s) (links s) ≡ rests_at index s)
   untouched_stays s none =
       let stays : StaysIndexed changed.before changed.event links index s =
       others_stay changed.before changed.event links index rising changed.index_is changed.accepted.0 changed.order changed.accepted.1 changed.scratch
@@ -115,67 +119,16 @@ module _ (world : World) (keys : List Key) (defined : Option ℕ) (links : ℕ �
       (ap (λ (k : List Key). has s (touched_by index k)) (sym changed.keys_are) ∙ none)
       in (
         ap (λ (w : World). kept_at w links s) changed.step ∙ stays.link,
-        ap (λ (w : World). option_map (λ l. footprint w s) (links s)) changed.step ∙ stays.rests_on,
+        ap (λ (w : World). option_map (rests w s) (links s)) changed.step ∙ stays.rests_on,
       )
+
+  pub untouched_keeps : (s : ℕ) → has s (touched_by index keys) ≡ false → goes world links s ≡ false
+  untouched_keeps s none = ap (λ (o : Option Link). is_some (links s) && is_none o) (untouched_stays s none).0 ∙ some_none (links s)
 
   is_touched : (s : ℕ) → has s (touched_by index keys) ≡ true → (is_some (links s) && touches changed.before changed.event s) ≡ true
   is_touched s inside =
       sym (touched_of changed.before changed.event links index rising changed.index_is s)
       ∙ ap (λ (k : List Key). has s (touched_by index k)) (sym changed.keys_are) ∙ inside
-
-  -- ---- once the links that go were dropped
-
-  module _ (lost : List ℕ) (now : ℕ → Option Link)
-      (listed : (s : ℕ) → has s lost ≡ (has s (touched_by index keys) && goes world links s))
-      (removed : (s : ℕ) → now s ≡ (if has s lost then None else links s)) where
-    are_lost : (s : ℕ) → has s lost ≡ goes world links s
-    are_lost s = listed s ∙ by_touched (has s (touched_by index keys)) refl
-      where
-        by_touched : (b : Bool) → has s (touched_by index keys) ≡ b → (b && goes world links s) ≡ goes world links s
-        by_touched true is = refl
-        by_touched false is = sym (ap (λ (o : Option Link). is_some (links s) && is_none o) (untouched_stays s is).0 ∙ some_none (links s))
-
-    are_kept : (s : ℕ) → now s ≡ kept_at world links s
-    are_kept s = removed s ∙ ap (λ (b : Bool). if b then None else links s) (are_lost s) ∙ kept_or (links s) (scratch world s)
-
-    -- which is the link from scratch
-    pub are_scratch : (s : ℕ) (l : Link) → now s ≡ Some l → scratch world s ≡ Ok l
-    are_scratch s l at = kept_scratch false (links s) (scratch world s) l (sym (are_kept s) ∙ at)
-
-    up_to_date : (left : List (ℕ × List Key)) → IsIndex world now left → AreUpToDate world (λ s. false) links now left lost
-    up_to_date left indexed = record {
-      links = are_kept;
-      index = indexed;
-      lost = λ s. are_lost s ∙ ap (λ (o : Option Link). is_some (links s) && is_none o) (sym (are_kept s));
-    }
-
-    -- the touched sites were looked up again
-    refreshed : (left : List (ℕ × List Key))
-        → ((s : ℕ) → footprint_at left s ≡ (if has s (touched_by index keys) then option_map (λ l. footprint world s) (now s) else footprint_at index s))
-        → AreUpToDate world (λ s. false) links now left lost
-    refreshed left indexed = up_to_date left (λ s. indexed s ∙ by_touched s (has s (touched_by index keys)) refl)
-      where
-        by_touched : (s : ℕ) (b : Bool) → has s (touched_by index keys) ≡ b
-            → (if b then option_map (λ l. footprint world s) (now s) else footprint_at index s) ≡ option_map (λ l. footprint world s) (now s)
-        by_touched s true is = refl
-        by_touched s false is =
-            let stays = untouched_stays s is in
-            sym stays.1 ∙ ap (option_map (λ l. footprint world s)) (sym (are_kept s ∙ stays.0))
-
-    -- the sites whose links went were taken out, and what the others rest on stays
-    left_out : ((s : ℕ) → has s (touched_by index keys) ≡ true → footprint_at index s ≡ option_map (λ l. footprint world s) (links s))
-        → (left : List (ℕ × List Key)) → ((s : ℕ) → footprint_at left s ≡ (if has s lost then None else footprint_at index s))
-        → AreUpToDate world (λ s. false) links now left lost
-    left_out rests left taken =
-        up_to_date left (λ s. taken s ∙ by_lost s (has s lost) ∙ ap (option_map (λ l. footprint world s)) (sym (removed s)))
-      where
-        as_before : (s : ℕ) (b : Bool) → has s (touched_by index keys) ≡ b → footprint_at index s ≡ option_map (λ l. footprint world s) (links s)
-        as_before s true is = rests s is
-        as_before s false is = sym (untouched_stays s is).1
-
-        by_lost : (s : ℕ) (b : Bool) → (if b then None else footprint_at index s) ≡ option_map (λ l. footprint world s) (if b then None else links s)
-        by_lost s true = refl
-        by_lost s false = as_before s (has s (touched_by index keys)) refl
 
 all_of : (P : ℕ → Type 0) (xs : List ℕ) → ((s : ℕ) → has s xs ≡ true → P s) → AllByRecursion P xs
 all_of P [] h = tt
@@ -190,15 +143,17 @@ same_turned a b =
     one_answer (same_link a b) (same_link b a) (λ e. e, λ e. e)
     (λ h. (link_decides a b).1 (sym ((link_decides b a).0 h)), λ h. (link_decides b a).1 (sym ((link_decides a b).0 h)))
 
--- a link that runs one method, by that
-by_method : (cs : Classes) (x : ℕ) (l : Link) (G : Type 0) → ((m : MethodId) → l ≡ Direct (Run m) → inherits cs x m ≡ true → G)
-    → inherits_run cs x l ≡ true → G
-by_method cs x (Direct (Run m)) G f h = f m refl h
-by_method cs x (Direct (Throws throwable)) G f h = cc
-by_method cs x (Fault throwable) G f h = cc
-by_method cs x (Plain m) G f h = cc
-by_method cs x (Table kind rows) G f h = cc
-by_method cs x Mega G f h = cc
+second_false : (a b : Bool) → a ≡ true → (a && b) ≡ false → b ≡ false
+second_false true b is h = h
+second_false false b is h = cc is
+
+not_false : (b : Bool) → not b ≡ false → b ≡ true
+not_false true h = refl
+not_false false h = cc h
+
+some_kept : (o : Option Link) → is_some o ≡ true → is_none o ≡ false
+some_kept None e = cc
+some_kept (Some k) e = refl
 
 told_kept : (l : Link) (r : Result Link Unlinked) → is_link r l ≡ is_some (kept false (Some l) r)
 told_kept l (Err reason) = refl
@@ -251,23 +206,27 @@ definition w (event.Retire loader) x is = cc
 definition w (event.RetireAll loaders) x is = cc
 definition w (event.Release call_sites points) x is = cc
 
-module _ (world : World) (keys : List Key) (links : ℕ → Option Link) (index : List (ℕ × List Key)) (rising : AreRising index) where
-  -- each touched site takes one evaluation, where no loader goes
-  as_many : (f : ℕ → ℕ) (xs : List ℕ) → AllByRecursion (λ s. f s ≡ 1) xs → sum_by f xs ≡ length xs
-  as_many f [] all = refl
-  as_many f (x ∷ xs) all =
-      let split = sum_by-cons f x xs in
-      let one = all.0 in
-      let rest = as_many f xs all.1 in
-      omega (arith, split, one, rest)
+as_many : (f : ℕ → ℕ) (xs : List ℕ) → AllByRecursion (λ s. f s ≡ 1) xs → sum_by f xs ≡ length xs
+as_many f [] all = refl
+as_many f (x ∷ xs) all =
+    let split = sum_by-cons f x xs in
+    let one = all.0 in
+    let rest = as_many f xs all.1 in
+    omega (arith, split, one, rest)
 
+-- of a class that was defined each site that is asked takes one
+pub ones : (w : World) (x : ℕ) (sites : List ℕ) → sum_by (most_asked w (Some x)) sites ≡ length sites
+ones w x sites = as_many (most_asked w (Some x)) sites (always sites)
+  where
+    always : (xs : List ℕ) → AllByRecursion (λ s. most_asked w (Some x) s ≡ 1) xs
+    always [] = tt
+    always (y ∷ xs) = (refl, always xs)
+
+module _ (world : World) (keys : List Key) (links : ℕ → Option Link) (index : List (ℕ × Rests)) (rising : AreRising index) where
+  -- each touched site takes one evaluation, where no loader goes
   pub most_are : (defined : Option ℕ) → (changed : HasChanged world keys defined links index) → is_retirement changed.event ≡ false
       → sum_by (most_asked world defined) (touched_by index keys) ≡ length (touched_by index keys)
-  most_are (Some x) changed other = as_many (most_asked world (Some x)) (touched_by index keys) (always (touched_by index keys))
-    where
-      always : (xs : List ℕ) → AllByRecursion (λ s. most_asked world (Some x) s ≡ 1) xs
-      always [] = tt
-      always (x ∷ xs) = (refl, always xs)
+  most_are (Some x) changed other = ones world x (touched_by index keys)
   most_are None changed other =
       as_many (most_asked world None) (touched_by index keys)
       (all_of (λ s. most_for world s ≡ 1) (touched_by index keys) (λ s inside.
@@ -314,39 +273,148 @@ module _ (world : World) (keys : List Key) (links : ℕ → Option Link) (index 
               ∙ sym here.link
               ∙ ap (λ (w : World). is_link (scratch w s) l) (sym after)
               ∙ told_kept l (scratch world s);
-          inherited =
-              by_method world.classes x l (is_some (kept false (Some l) (scratch world s)) ≡ true) (λ m direct h.
-              sym (told_kept l (scratch world s))
-              ∙ ap (λ (w : World). is_link (scratch w s) l) after
-              ∙ here.inherited m direct (sym (λ i. inherits (after i).classes (is_definition.class i) m) ∙ h));
         }
 
-    each_told : AllByRecursion (MayBeAsked world (Some x) links) (touched_by index keys)
-    each_told = all_of (MayBeAsked world (Some x) links) (touched_by index keys) (λ s inside. told_at s (links s) refl inside)
+    -- an asked site is one of the touched
+    asked_touched : (s : ℕ) → has s (asked_by index keys world.classes x) ≡ true → has s (touched_by index keys) ≡ true
+    asked_touched s inside =
+        passing (λ (r : Rests). meets r.footprint keys) s index (rises_of index rising)
+        ∙ by_rests (rests_at index s)
+        (sym (passing (λ (r : Rests). meets r.footprint keys && may_change world.classes x r.form) s index (rises_of index rising)) ∙ inside)
+      where
+        first : (a b : Bool) → (a && b) ≡ true → a ≡ true
+        first true b h = refl
+        first false b h = cc
+
+        by_rests : (o : Option Rests) → option_map_or (λ (r : Rests). meets r.footprint keys && may_change world.classes x r.form) o false ≡ true
+            → option_map_or (λ (r : Rests). meets r.footprint keys) o false ≡ true
+        by_rests None h = cc
+        by_rests (Some r) h = first (meets r.footprint keys) (may_change world.classes x r.form) h
+
+    each_told : AllByRecursion (MayBeAsked world (Some x) links) (asked_by index keys world.classes x)
+    each_told =
+        all_of (MayBeAsked world (Some x) links) (asked_by index keys world.classes x) (λ s inside. told_at s (links s) refl (asked_touched s inside))
+
+    -- a touched link that the class can't change, by its form, is the one from scratch
+    form_stays : (s : ℕ) (l : Link) → OneMore changed.before is_definition.loader is_definition.file s l → may_change world.classes x (form_of l) ≡ false
+        → is_link (scratch world s) l ≡ true
+    form_stays s Mega here none = ap (λ (w : World). is_link (scratch w s) Mega) after ∙ here.link
+    form_stays s (Direct (Run m)) here none =
+        ap (λ (w : World). is_link (scratch w s) (Direct (Run m))) after
+        ∙ here.inherited m refl (sym (λ i. inherits (after i).classes (is_definition.class i) m) ∙ not_false (inherits world.classes x m) none)
+    form_stays s (Direct (Throws throwable)) here none = cc
+    form_stays s (Fault throwable) here none = cc
+    form_stays s (Plain m) here none = cc
+    form_stays s (Table kind rows) here none = cc
+
+    unasked_touched : (s : ℕ) → has s (touched_by index keys) ≡ true → has s (asked_by index keys world.classes x) ≡ false → goes world links s ≡ false
+    unasked_touched s inside none = by_link (links s) refl
+      where
+        may : (r : Rests) → rests_at index s ≡ Some r → may_change world.classes x r.form ≡ false
+        may r is =
+            second_false (meets r.footprint keys) (may_change world.classes x r.form)
+            (sym (passing (λ (r : Rests). meets r.footprint keys) s index (rises_of index rising)
+            ∙ ap (λ (o : Option Rests). option_map_or (λ (r : Rests). meets r.footprint keys) o false) is) ∙ inside)
+            (sym (passing (λ (r : Rests). meets r.footprint keys && may_change world.classes x r.form) s index (rises_of index rising)
+            ∙ ap (λ (o : Option Rests). option_map_or (λ (r : Rests). meets r.footprint keys && may_change world.classes x r.form) o false) is) ∙ none)
+
+        by_link : (o : Option Link) → links s ≡ o → goes world links s ≡ false
+        by_link None is = ap (λ (o : Option Link). is_some o && is_none (kept false o (scratch world s))) is
+        by_link (Some l) is =
+            let form = may (rests changed.before s l) (changed.index_is s ∙ ap (option_map (rests changed.before s)) is) in
+            ap (λ (o : Option Link). is_some o && is_none (kept false o (scratch world s))) is
+            ∙ some_kept (kept false (Some l) (scratch world s))
+            (sym (told_kept l (scratch world s)) ∙ form_stays s l (more s l is inside) form)
 
     -- and what its link rests on stays
-    pub footprint_stays : (s : ℕ) → has s (touched_by index keys) ≡ true → footprint_at index s ≡ option_map (λ l. footprint world s) (links s)
+    pub footprint_stays : (s : ℕ) → has s (touched_by index keys) ≡ true → rests_at index s ≡ option_map (rests world s) (links s)
     footprint_stays s inside = by_link (links s) refl
       where
-        by_link : (o : Option Link) → links s ≡ o → footprint_at index s ≡ option_map (λ l. footprint world s) o
-        by_link None is = changed.index_is s ∙ ap (option_map (λ l. footprint changed.before s)) is
+        by_link : (o : Option Link) → links s ≡ o → rests_at index s ≡ option_map (rests world s) o
+        by_link None is = changed.index_is s ∙ ap (option_map (rests changed.before s)) is
         by_link (Some l) is =
-            changed.index_is s ∙ ap (option_map (λ l. footprint changed.before s)) is
-            ∙ ap Some (sym (more s l is inside).rests_on ∙ ap (λ (w : World). footprint w s) (sym after))
+            changed.index_is s ∙ ap (option_map (rests changed.before s)) is
+            ∙ ap (λ (ks : List Key). Some (record { footprint = ks; form = form_of l }))
+            (sym (more s l is inside).rests_on ∙ ap (λ (w : World). footprint w s) (sym after))
 
--- each touched site may be asked
-pub each_asked : (world : World) (keys : List Key) (defined : Option ℕ) (links : ℕ → Option Link) (index : List (ℕ × List Key))
-    → HasChanged world keys defined links index → AreRising index → (sites : List ℕ) → sites ≡ touched_by index keys
+-- each asked site may be
+pub each_asked : (world : World) (keys : List Key) (defined : Option ℕ) (links : ℕ → Option Link) (index : List (ℕ × Rests))
+    → HasChanged world keys defined links index → AreRising index → (sites : List ℕ) → sites ≡ asked_of world defined index keys
     → AllByRecursion (MayBeAsked world defined links) sites
 each_asked world keys None links index changed rising sites are =
     all_of (MayBeAsked world None links) sites (λ s inside. tt)
 each_asked world keys (Some x) links index changed rising sites are =
     subst (AllByRecursion (MayBeAsked world (Some x) links)) (sym are) (each_told world keys links index rising x changed)
 
-pub is_there : (world : World) (keys : List Key) (defined : Option ℕ) (links : ℕ → Option Link) (index : List (ℕ × List Key))
+pub is_there : (world : World) (keys : List Key) (defined : Option ℕ) (links : ℕ → Option Link) (index : List (ℕ × Rests))
     → HasChanged world keys defined links index → AreRising index → IfSome defined (λ x. x < length world.classes.rows)
 is_there world keys None links index changed rising = tt
 is_there world keys (Some x) links index changed rising = there world keys links index rising x changed
+
+-- a site that isn't asked keeps its link
+pub unasked_stays : (world : World) (keys : List Key) (defined : Option ℕ) (links : ℕ → Option Link) (index : List (ℕ × Rests))
+    → HasChanged world keys defined links index → AreRising index → (s : ℕ) → has s (asked_of world defined index keys) ≡ false → goes world links s ≡ false
+unasked_stays world keys None links index changed rising s none = untouched_keeps world keys None links index changed rising s none
+unasked_stays world keys (Some x) links index changed rising s none = by_touched (has s (touched_by index keys)) refl
+  where
+    by_touched : (b : Bool) → has s (touched_by index keys) ≡ b → goes world links s ≡ false
+    by_touched true inside = unasked_touched world keys links index rising x changed s inside none
+    by_touched false outside = untouched_keeps world keys (Some x) links index changed rising s outside
+
+-- ---- once the links that go were dropped
+
+module _ (world : World) (keys : List Key) (defined : Option ℕ) (links : ℕ → Option Link) (index : List (ℕ × Rests))
+    (changed : HasChanged world keys defined links index) (rising : AreRising index) (lost : List ℕ) (now : ℕ → Option Link)
+    (listed : (s : ℕ) → has s lost ≡ (has s (asked_of world defined index keys) && goes world links s))
+    (removed : (s : ℕ) → now s ≡ (if has s lost then None else links s)) where
+  are_lost : (s : ℕ) → has s lost ≡ goes world links s
+  are_lost s = listed s ∙ by_asked (has s (asked_of world defined index keys)) refl
+    where
+      by_asked : (b : Bool) → has s (asked_of world defined index keys) ≡ b → (b && goes world links s) ≡ goes world links s
+      by_asked true is = refl
+      by_asked false is = sym (unasked_stays world keys defined links index changed rising s is)
+
+  are_kept : (s : ℕ) → now s ≡ kept_at world links s
+  are_kept s = removed s ∙ ap (λ (b : Bool). if b then None else links s) (are_lost s) ∙ kept_or (links s) (scratch world s)
+
+  -- which is the link from scratch
+  pub are_scratch : (s : ℕ) (l : Link) → now s ≡ Some l → scratch world s ≡ Ok l
+  are_scratch s l at = kept_scratch false (links s) (scratch world s) l (sym (are_kept s) ∙ at)
+
+  up_to_date : (left : List (ℕ × Rests)) → IsIndex world now left → AreUpToDate world (λ s. false) links now left lost
+  up_to_date left indexed = record {
+    links = are_kept;
+    index = indexed;
+    lost = λ s. are_lost s ∙ ap (λ (o : Option Link). is_some (links s) && is_none o) (sym (are_kept s));
+  }
+
+  -- the touched sites were looked up again
+  refreshed : (left : List (ℕ × Rests))
+      → ((s : ℕ) → rests_at left s ≡ (if has s (touched_by index keys) then option_map (rests world s) (now s) else rests_at index s))
+      → AreUpToDate world (λ s. false) links now left lost
+  refreshed left indexed = up_to_date left (λ s. indexed s ∙ by_touched s (has s (touched_by index keys)) refl)
+    where
+      by_touched : (s : ℕ) (b : Bool) → has s (touched_by index keys) ≡ b
+          → (if b then option_map (rests world s) (now s) else rests_at index s) ≡ option_map (rests world s) (now s)
+      by_touched s true is = refl
+      by_touched s false is =
+          let stays = untouched_stays world keys defined links index changed rising s is in
+          sym stays.1 ∙ ap (option_map (rests world s)) (sym (are_kept s ∙ stays.0))
+
+  -- the sites whose links went were taken out, and what the others rest on stays
+  left_out : ((s : ℕ) → has s (touched_by index keys) ≡ true → rests_at index s ≡ option_map (rests world s) (links s))
+      → (left : List (ℕ × Rests)) → ((s : ℕ) → rests_at left s ≡ (if has s lost then None else rests_at index s))
+      → AreUpToDate world (λ s. false) links now left lost
+  left_out rests_on left taken =
+      up_to_date left (λ s. taken s ∙ by_lost s (has s lost) ∙ ap (option_map (rests world s)) (sym (removed s)))
+    where
+      as_before : (s : ℕ) (b : Bool) → has s (touched_by index keys) ≡ b → rests_at index s ≡ option_map (rests world s) (links s)
+      as_before s true is = rests_on s is
+      as_before s false is = sym (untouched_stays world keys defined links index changed rising s is).1
+
+      by_lost : (s : ℕ) (b : Bool) → (if b then None else rests_at index s) ≡ option_map (rests world s) (if b then None else links s)
+      by_lost s true = refl
+      by_lost s false = as_before s (has s (touched_by index keys)) refl
 
 -- ---- what is told of one site
 
@@ -364,22 +432,6 @@ told_gone w x links s l stays told is tells = sym (ap (λ (o : Option Link). is_
     by_kept None e = sym (ap not e)
     by_kept (Some k) e = sym (ap not e)
 
--- a link stays whose method the class inherits
-pub inherited_stays : (w : World) (x : ℕ) (links : ℕ → Option Link) (s : ℕ) (l : Link) → IsTold w x links s → links s ≡ Some l
-    → inherits_run w.classes x l ≡ true → false ≡ goes w links s
-inherited_stays w x links s l told is h = sym (ap (λ (o : Option Link). is_some o && is_none (kept false o (scratch w s))) is
-    ∙ some_kept (kept false (Some l) (scratch w s)) there)
-  where
-    there : is_some (kept false (Some l) (scratch w s)) ≡ true
-    there =
-        let same : told.link ≡ l = same_Some told.link l (sym told.is ∙ is) in
-        sym (ap (λ (m : Link). is_some (kept false (Some m) (scratch w s))) same)
-        ∙ told.inherited (ap (inherits_run w.classes x) same ∙ h)
-
-    some_kept : (o : Option Link) → is_some o ≡ true → is_none o ≡ false
-    some_kept None e = cc
-    some_kept (Some k) e = refl
-
 -- ---- installs
 
 not_with : (rows : List (ℕ × Link)) (before : Option Link) (s : ℕ) → has s (map (λ (row : ℕ × Link). row.0) rows) ≡ false → link_with rows before s ≡ before
@@ -393,27 +445,27 @@ not_with (row ∷ rows) before s e = by_test (row.0 == s) e (λ f. not_with rows
     by_test false f rest = rest f
 
 -- the index is that of the links once the installed sites were looked up
-pub installed_index : (w : World) (rows : List (ℕ × Link)) (links now : ℕ → Option Link) (index left : List (ℕ × List Key)) → IsIndex w links index
+pub installed_index : (w : World) (rows : List (ℕ × Link)) (links now : ℕ → Option Link) (index left : List (ℕ × Rests)) → IsIndex w links index
     → ((s : ℕ) → now s ≡ link_with rows (links s) s)
-    → ((s : ℕ) → footprint_at left s ≡ (if has s (map (λ (row : ℕ × Link). row.0) rows) then option_map (λ l. footprint w s) (now s) else footprint_at index s))
+    → ((s : ℕ) → rests_at left s ≡ (if has s (map (λ (row : ℕ × Link). row.0) rows) then option_map (rests w s) (now s) else rests_at index s))
     → IsIndex w now left
 installed_index w rows links now index left was linked looked s = looked s ∙ by_test (has s (map (λ (row : ℕ × Link). row.0) rows)) refl
   where
     by_test : (b : Bool) → has s (map (λ (row : ℕ × Link). row.0) rows) ≡ b
-        → (if b then option_map (λ l. footprint w s) (now s) else footprint_at index s) ≡ option_map (λ l. footprint w s) (now s)
+        → (if b then option_map (rests w s) (now s) else rests_at index s) ≡ option_map (rests w s) (now s)
     by_test true e = refl
-    by_test false e = was s ∙ ap (option_map (λ l. footprint w s)) (sym (linked s ∙ not_with rows (links s) s e))
+    by_test false e = was s ∙ ap (option_map (rests w s)) (sym (linked s ∙ not_with rows (links s) s e))
 
 -- ---- once all is done
 
-pub are_up_to_date : (world : World) (keys : List Key) (defined : Option ℕ) (links : ℕ → Option Link) (index : List (ℕ × List Key))
+pub are_up_to_date : (world : World) (keys : List Key) (defined : Option ℕ) (links : ℕ → Option Link) (index : List (ℕ × Rests))
     → (changed : HasChanged world keys defined links index) → (rising : AreRising index) → (lost : List ℕ) (now : ℕ → Option Link)
-    → ((s : ℕ) → has s lost ≡ (has s (touched_by index keys) && goes world links s))
+    → ((s : ℕ) → has s lost ≡ (has s (asked_of world defined index keys) && goes world links s))
     → ((s : ℕ) → now s ≡ (if has s lost then None else links s))
-    → (left : List (ℕ × List Key))
-    → (is_some defined ≡ true → (s : ℕ) → footprint_at left s ≡ (if has s lost then None else footprint_at index s))
+    → (left : List (ℕ × Rests))
+    → (is_some defined ≡ true → (s : ℕ) → rests_at left s ≡ (if has s lost then None else rests_at index s))
     → (is_some defined ≡ false → (s : ℕ)
-    → footprint_at left s ≡ (if has s (touched_by index keys) then option_map (λ l. footprint world s) (now s) else footprint_at index s))
+    → rests_at left s ≡ (if has s (asked_of world defined index keys) then option_map (rests world s) (now s) else rests_at index s))
     → AreUpToDate world (λ s. false) links now left lost
 are_up_to_date world keys None links index changed rising lost now listed removed left taken looked_up =
     refreshed world keys None links index changed rising lost now listed removed left (looked_up refl)

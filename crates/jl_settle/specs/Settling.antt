@@ -1,13 +1,11 @@
 -- What is left of the links and the index once an event has changed the world.
-use Rattle.std.specs.Prelude.{◌≡◌, ◌==◌, ℕ, Bool, true, false, length, ◌&&◌, List, Option, Some, None, Ok, IsOk, is_some, is_none, ⊤}
+use Rattle.std.specs.Prelude.{◌≡◌, ◌==◌, ℕ, Bool, false, length, ◌&&◌, List, Option, Some, None, Ok, IsOk, is_some, is_none, ⊤}
 use Rattle.std.specs.List.{list_any}
 use Rattle.jl_types.specs.declared.limits.Limits.{Limits}
 use Rattle.jl_types.specs.Events.Event.{Event}
 use Rattle.jl_types.specs.declared.event.EventOf.TheVariants as event
-use Rattle.jl_types.specs.declared.answer.Outcome.TheVariants.{Run, Throws}
 use Rattle.jl_types.specs.declared.link.Link.{Link}
-use Rattle.jl_types.specs.declared.link.Link.TheVariants.{Fault, Plain, Direct, Table, Mega}
-use Rattle.jl_types.specs.Values.World.{World, Classes}
+use Rattle.jl_types.specs.Values.World.{World}
 use Rattle.jl_types.specs.Linkage.Links.{scratch}
 use Rattle.jl_types.specs.Events.Verdict.{verdict, step}
 use Rattle.jl_types.specs.Events.History.{kept}
@@ -15,8 +13,9 @@ use Rattle.jl_types.specs.declared.key.Key.{Key}
 use Rattle.jl_types.specs.Events.Footprints as footprints
 use Rattle.jl_types.specs.Events.Footprints.{most_for}
 use Rattle.jl_relink.specs.Laws.{IsInOrder}
-use Rattle.jl_relink.specs.Receivers.{TellsStay, inherits}
-use Rattle.jl_deps.specs.Indexes.{IsIndex}
+use Rattle.jl_relink.specs.Receivers.{TellsStay}
+use Rattle.jl_deps.specs.declared.form.Rests.{Rests}
+use Rattle.jl_deps.specs.Indexes.{IsIndex, touched_by, asked_by}
 
 -- the site's link, where it is the one from scratch
 abbrev pub kept_at : World → (ℕ → Option Link) → ℕ → Option Link
@@ -33,7 +32,7 @@ defined_by w _ = None
 
 -- An accepted event with these keys, which defined this class or none, and retired no site that has a link, led to the world. Before it
 -- each link was the one from scratch, the index that of the links, and the world in order.
-pub record HasChanged (world : World) (keys : List Key) (defined : Option ℕ) (links : ℕ → Option Link) (index : List (ℕ × List Key)) : Type 0 where
+pub record HasChanged (world : World) (keys : List Key) (defined : Option ℕ) (links : ℕ → Option Link) (index : List (ℕ × Rests)) : Type 0 where
   pub before : World
   pub event : Event
   pub step : world ≡ step before event
@@ -47,28 +46,18 @@ pub record HasChanged (world : World) (keys : List Key) (defined : Option ℕ) (
 
 -- After an event that installed links at these sites, or at none: a link is there where it is the one from scratch and was there before or is
 -- installed, the index is that of the links, and these are the sites whose links went.
-pub record AreUpToDate (world : World) (installs : ℕ → Bool) (before after : ℕ → Option Link) (further : List (ℕ × List Key)) (gone : List ℕ) : Type 0 where
+pub record AreUpToDate (world : World) (installs : ℕ → Bool) (before after : ℕ → Option Link) (further : List (ℕ × Rests)) (gone : List ℕ) : Type 0 where
   pub links : (s : ℕ) → after s ≡ kept (installs s) (before s) (scratch world s)
   pub index : IsIndex world after further
   pub lost : (s : ℕ) → list_any (λ t. t == s) gone ≡ (is_some (before s) && is_none (after s))
 
 -- ---- a touched site
 
--- the link runs one method for each receiver, and the class x inherits that
-abbrev pub inherits_run : Classes → ℕ → Link → Bool
-inherits_run cs x (Direct (Run m)) = inherits cs x m
-inherits_run cs x (Direct (Throws throwable)) = false
-inherits_run cs x (Fault throwable) = false
-inherits_run cs x (Plain m) = false
-inherits_run cs x (Table kind rows) = false
-inherits_run cs x Mega = false
-
--- The site has a link, and the receiver x tells whether it stays: it does where x inherits the one method that it runs.
+-- The site has a link, and the receiver x tells whether it stays.
 pub record IsTold (w : World) (x : ℕ) (links : ℕ → Option Link) (s : ℕ) : Type 0 where
   pub link : Link
   pub is : links s ≡ Some link
   pub told : (stays : Bool) → TellsStay w s link x stays → stays ≡ is_some (kept false (Some link) (scratch w s))
-  pub inherited : inherits_run w.classes x link ≡ true → is_some (kept false (Some link) (scratch w s)) ≡ true
 
 -- whether its link stays is known: by the class that was defined, or by the link from scratch
 abbrev pub MayBeAsked : World → Option ℕ → (ℕ → Option Link) → ℕ → Type 0
@@ -79,3 +68,9 @@ MayBeAsked w None links s = ⊤
 abbrev pub most_asked : World → Option ℕ → ℕ → ℕ
 most_asked w (Some x) s = 1
 most_asked w None s = most_for w s
+
+-- The sites at which settling looks: those that the event touches, and of those that a definition touches the ones whose links it may change
+-- by their form.
+abbrev pub asked_of : World → Option ℕ → List (ℕ × Rests) → List Key → List ℕ
+asked_of w None index keys = touched_by index keys
+asked_of w (Some x) index keys = asked_by index keys w.classes x

@@ -4,10 +4,10 @@ ghost use Rattle.std.specs.Prelude.{◌≡◌, ◌==◌, ℕ, OnOk, if◌then◌
 ghost use Rattle.std.specs.List.{list_any};
 ghost use Rattle.std.specs.Option.{option_copied};
 ghost use Rattle.jl_cache.specs.Links.{link_at};
-ghost use Rattle.jl_deps.specs.Indexes.{footprint_at};
+ghost use Rattle.jl_deps.specs.Indexes.{rests_at};
 
 use jl_cache::Cache;
-use jl_deps::{Footprint, Index};
+use jl_deps::{Index, Rests};
 use jl_types::SiteNo;
 use std::alloc::{AllocError, Global};
 
@@ -26,12 +26,12 @@ pub fn take_over(
 ) -> Result<(), AllocError>
     ensures links { OnOk result ((s : ℕ) → link_at links.new s
         ≡ (if list_any (λ t. t == s) sites.now then link_at links_ahead.now s else link_at links.old s)) }
-    ensures index { OnOk result ((s : ℕ) → footprint_at index.new s
-        ≡ (if list_any (λ t. t == s) sites.now then footprint_at index_ahead.now s else footprint_at index.old s)) }
+    ensures index { OnOk result ((s : ℕ) → rests_at index.new s
+        ≡ (if list_any (λ t. t == s) sites.now then rests_at index_ahead.now s else rests_at index.old s)) }
 {
     for site in sites {
         take_link(links, *site, links_ahead)?;
-        take_footprint(alloc, index, *site, index_ahead.footprint(*site))?;
+        take_rests(alloc, index, *site, index_ahead.rests(*site))?;
     }
     Ok(())
 }
@@ -44,17 +44,17 @@ fn take_link(links: &mut Cache, site: SiteNo, ahead: &Cache) -> Result<(), Alloc
 }
 
 /// The site has this footprint, or none. Want of memory is an error; the index is of no use then.
-fn take_footprint(
+fn take_rests(
     alloc: Global,
     index: &mut Index,
     site: SiteNo,
-    footprint: Option<&Footprint>,
+    rests: Option<&Rests>,
 ) -> Result<(), AllocError>
-    ensures { OnOk result ((s : ℕ) → footprint_at index.new s ≡ (if site == s then option_copied footprint.entry else footprint_at index.old s)) }
+    ensures { OnOk result ((s : ℕ) → rests_at index.new s ≡ (if site == s then option_copied rests.entry else rests_at index.old s)) }
 {
-    match footprint {
-        Some(footprint) => {
-            let copy = footprint.clone()?;
+    match rests {
+        Some(rests) => {
+            let copy = rests.again()?;
             index.add(alloc, site, copy)
         }
         None => {

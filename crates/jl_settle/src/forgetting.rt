@@ -3,7 +3,7 @@
 ghost use Rattle.std.specs.Prelude.{◌≡◌, ◌==◌, ◌&&◌, ℕ, None, is_some, IfOk, OnOk, OnErr, if◌then◌else◌};
 ghost use Rattle.std.specs.List.{list_any};
 ghost use Rattle.jl_cache.specs.Links.{link_at};
-ghost use Rattle.jl_deps.specs.Indexes.{footprint_at};
+ghost use Rattle.jl_deps.specs.Indexes.{rests_at};
 
 use crate::lost::push_if;
 use crate::settling::remove_all;
@@ -25,8 +25,8 @@ pub fn forget(
 ) -> Result<Vec<SiteNo>, AllocError>
     ensures links { OnOk result ((s : ℕ) → link_at links.new s
         ≡ (if list_any (λ t. t == s) sites.now then None else link_at links.old s)) }
-    ensures index { OnOk result ((s : ℕ) → footprint_at index.new s
-        ≡ (if list_any (λ t. t == s) sites.now then None else footprint_at index.old s)) }
+    ensures index { OnOk result ((s : ℕ) → rests_at index.new s
+        ≡ (if list_any (λ t. t == s) sites.now then None else rests_at index.old s)) }
     ensures lost { IfOk result (λ lost. (s : ℕ) → list_any (λ t. t == s) lost.items
         ≡ (list_any (λ t. t == s) sites.now && is_some (link_at links.old s))) }
     ensures links_err { OnErr result (links.new ≡ links.old) }

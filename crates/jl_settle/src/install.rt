@@ -37,7 +37,7 @@ pub fn install_rows(
 }
 
 /// The sites of the rows. Want of memory is an error.
-fn sites_of(alloc: Global, rows: &[(SiteNo, KeptLink)]) -> Result<Vec<SiteNo>, AllocError>
+fn sites_of<T>(alloc: Global, rows: &[(SiteNo, T)]) -> Result<Vec<SiteNo>, AllocError>
     ensures { IfOk result (λ sites. sites.items ≡ map (λ row. row.0) rows.now) }
 {
     rows.iter().map(|row| row.0).collect(alloc)

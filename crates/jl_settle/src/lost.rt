@@ -1,18 +1,16 @@
 //! Which links an event took.
 
-ghost use Rattle.std.specs.Prelude.{◌≡◌, ◌==◌, ◌&&◌, ◌||◌, ◌+◌, ◌^◌, ◌<◌, ◌≤◌, ℕ, length, sum_by, false, Some, is_some, IfOk, IfSome, OnOk, if◌then◌else◌};
+ghost use Rattle.std.specs.Prelude.{◌≡◌, ◌==◌, ◌&&◌, ◌||◌, ◌+◌, ◌^◌, ◌<◌, ◌≤◌, ℕ, length, sum_by, false, Some, is_some, IfOk, IfSome, OnOk};
 ghost use Rattle.std.specs.List.{AllByRecursion, list_any};
 ghost use Rattle.jl_types.specs.Linkage.Links.{scratch};
 ghost use Rattle.jl_types.specs.Events.History.{kept};
 ghost use Rattle.jl_types.specs.Events.Footprints.{most_for};
-ghost use Rattle.jl_relink.specs.Receivers.{TellsStay};
 ghost use Rattle.jl_cache.specs.Links.{link_at};
-ghost use Rattle.jl_settle.specs.Settling.{goes, MayBeAsked, inherits_run, most_asked};
+ghost use Rattle.jl_settle.specs.Settling.{goes, MayBeAsked, most_asked};
 
-use jl_cache::{Cache, KeptLink};
-use jl_hierarchy::Classes;
-use jl_relink::{World, inherits_counted, link_counted, stays_with_receiver};
-use jl_types::{ClassId, Link, Outcome, SiteNo, Work};
+use jl_cache::Cache;
+use jl_relink::{World, link_counted, stays_with_receiver};
+use jl_types::{ClassId, Link, SiteNo, Work};
 use std::alloc::{AllocError, Global};
 
 /// Those of the sites whose links aren't the ones from scratch any more. Want of memory is an error.
@@ -69,45 +67,11 @@ fn is_lost(
     };
     match defined {
         Some(receiver) => {
-            if inherits_run(&world.classes, *receiver, kept, work) {
-                return false;
-            }
-            !stays(world, site, kept, *receiver, work)
+            let link = kept.get();
+            !stays_with_receiver(world, site, &link, *receiver, work)
         }
         None => !is_still(world, site, kept.get(), work),
     }
-}
-
-/// Whether the link runs one method for each receiver, which the new class inherits: such a link stays, without a look at the site, and
-/// with one tick.
-fn inherits_run(classes: &Classes, receiver: ClassId, kept: &KeptLink, work: &mut Work) -> bool
-    requires fits { work.old + 1 < 2 ^ 64 }
-    ensures inherits { result ≡ inherits_run classes.now receiver kept.now }
-    ensures ticks { work.new ≡ work.old + (if inherits_run classes.now receiver kept.now then 1 else 0) }
-{
-    match kept.get() {
-        Link::Direct(Outcome::Run(method)) => inherits_counted(classes, receiver, &method, work),
-        Link::Direct(Outcome::Throws(_)) => false,
-        Link::Fault(_) => false,
-        Link::Plain(_) => false,
-        Link::Table(_, _) => false,
-        Link::Mega => false,
-    }
-}
-
-/// Whether the link of a site that selects by its receiver stays, once this receiver has come. A megamorphic one does, without a look at
-/// the site.
-fn stays(world: &World, site: SiteNo, kept: &KeptLink, receiver: ClassId, work: &mut Work) -> bool
-    requires there { receiver < length world.now.classes.rows }
-    requires fits { work.old + 1 < 2 ^ 64 }
-    ensures stays { TellsStay world.now site kept.now receiver result }
-    ensures ticks { work.new ≤ work.old + 1 }
-{
-    if kept.is_mega() {
-        return true;
-    }
-    let link = kept.get();
-    stays_with_receiver(world, site, &link, receiver, work)
 }
 
 /// Whether the site's link from scratch is this one.

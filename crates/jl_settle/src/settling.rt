@@ -4,21 +4,22 @@ ghost use Rattle.std.specs.Prelude.{◌≡◌, ◌==◌, ◌+◌, ◌^◌, ◌<�
 ghost use Rattle.std.specs.List.{list_any};
 ghost use Rattle.jl_types.specs.declared.link.Link.{Link};
 ghost use Rattle.jl_types.specs.Linkage.Links.{scratch};
-ghost use Rattle.jl_types.specs.Events.Footprints.{footprint};
 ghost use Rattle.jl_cache.specs.Links.{link_at};
-ghost use Rattle.jl_deps.specs.Indexes.{footprint_at, touched_by};
-ghost use Rattle.jl_settle.specs.Settling.{AreUpToDate, HasChanged, most_asked};
+ghost use Rattle.jl_deps.specs.Forms.{rests};
+ghost use Rattle.jl_deps.specs.Indexes.{AreRising, rests_at, touched_by};
+ghost use Rattle.jl_settle.specs.Settling.{AreUpToDate, HasChanged, asked_of, most_asked};
 
 use crate::lost::lost_among;
 use jl_cache::Cache;
-use jl_deps::{Index, footprint_of_linked};
+use jl_deps::{Index, Rests, footprint_of_linked};
 use jl_relink::World;
 use jl_types::{ClassId, Key, SiteNo, Work};
 use std::alloc::{AllocError, Global};
 
 /// Drops the links that aren't those from scratch any more, once an event with these keys has changed the world, and brings the index
 /// up to date. It evaluates the link of each site that the event touches, and looks at no others; where the event defined a class, it
-/// asks of a touched site what a call runs on an object of this class alone. It gives the sites whose links went.
+/// looks at none of those whose links the class can't change, and asks of the others what a call runs on an object of this class alone.
+/// It gives the sites whose links went.
 ///
 /// # Errors
 ///
@@ -37,7 +38,7 @@ pub fn settle(
     ensures ticks { OnOk result (work.new ≤ work.old + sum_by (most_asked world.now defined) (touched_by index.old keys.now)) }
     ensures up_to_date { IfOk result (λ lost. AreUpToDate world.now (λ s. false) (link_at links.old) (link_at links.new) index.new lost.items) }
 {
-    let sites = index.touched_by(alloc, keys)?;
+    let sites = asked(alloc, world, index, keys, &defined, work)?;
     let lost = lost_among(alloc, world, links, sites.as_slice(), &defined, work)?;
     links.drop_changed(lost.as_slice());
     reindex(
@@ -52,6 +53,28 @@ pub fn settle(
     Ok(lost)
 }
 
+/// The sites that an event with these keys touches; of those that the definition of a class touches the ones whose links that may change.
+/// To tell takes no more than looking at the others. Want of memory is an error.
+fn asked(
+    alloc: Global,
+    world: &World,
+    index: &Index,
+    keys: &[Key],
+    defined: &Option<ClassId>,
+    work: &mut Work,
+) -> Result<Vec<SiteNo>, AllocError>
+    requires fits { work.old + sum_by (most_asked world.now defined.now) (touched_by index.now keys.now) < 2 ^ 64 }
+    ensures sites { IfOk result (λ sites. sites.items ≡ asked_of world.now defined.now index.now keys.now) }
+    ensures ticks { OnOk result (work.new + sum_by (most_asked world.now defined.now) (asked_of world.now defined.now index.now keys.now)
+        ≤ work.old + sum_by (most_asked world.now defined.now) (touched_by index.now keys.now)) }
+    ensures rising { AreRising index.now }
+{
+    match defined {
+        Some(class) => index.asked_by(alloc, keys, &world.classes, *class, work),
+        None => index.touched_by(alloc, keys),
+    }
+}
+
 /// Takes the sites whose links went out of the index; where no class was defined, the other touched sites may rest on other things than
 /// before. Want of memory is an error; the index is of no use then.
 fn reindex(
@@ -64,10 +87,10 @@ fn reindex(
     defined: &Option<ClassId>,
 ) -> Result<(), AllocError>
     requires { (s : ℕ) (l : Link) → link_at links.now s ≡ Some l → scratch world.now s ≡ Ok l }
-    ensures taken { is_some defined.now ≡ true → OnOk result ((s : ℕ) → footprint_at index.new s
-        ≡ (if list_any (λ t. t == s) lost.now then None else footprint_at index.old s)) }
-    ensures looked_up { is_some defined.now ≡ false → OnOk result ((s : ℕ) → footprint_at index.new s ≡ (if list_any (λ t. t == s) sites.now
-        then option_map (λ l. footprint world.now s) (link_at links.now s) else footprint_at index.old s)) }
+    ensures taken { is_some defined.now ≡ true → OnOk result ((s : ℕ) → rests_at index.new s
+        ≡ (if list_any (λ t. t == s) lost.now then None else rests_at index.old s)) }
+    ensures looked_up { is_some defined.now ≡ false → OnOk result ((s : ℕ) → rests_at index.new s ≡ (if list_any (λ t. t == s) sites.now
+        then option_map (rests world.now s) (link_at links.now s) else rests_at index.old s)) }
 {
     if defined.is_some() {
         remove_all(index, lost);
@@ -78,7 +101,7 @@ fn reindex(
 
 /// Takes these sites out of the index.
 pub(crate) fn remove_all(index: &mut Index, sites: &[SiteNo])
-    ensures { (s : ℕ) → footprint_at index.new s ≡ (if list_any (λ t. t == s) sites.now then None else footprint_at index.old s) }
+    ensures { (s : ℕ) → rests_at index.new s ≡ (if list_any (λ t. t == s) sites.now then None else rests_at index.old s) }
 {
     for site in sites {
         index.remove(*site);
@@ -95,8 +118,8 @@ pub(crate) fn refresh(
     sites: &[SiteNo],
 ) -> Result<(), AllocError>
     requires { (s : ℕ) (l : Link) → link_at links.now s ≡ Some l → scratch world.now s ≡ Ok l }
-    ensures { OnOk result ((s : ℕ) → footprint_at index.new s ≡ (if list_any (λ t. t == s) sites.now
-        then option_map (λ l. footprint world.now s) (link_at links.now s) else footprint_at index.old s)) }
+    ensures { OnOk result ((s : ℕ) → rests_at index.new s ≡ (if list_any (λ t. t == s) sites.now
+        then option_map (rests world.now s) (link_at links.now s) else rests_at index.old s)) }
 {
     for site in sites {
         refresh_site(alloc, world, links, index, *site)?;
@@ -113,13 +136,13 @@ fn refresh_site(
     site: SiteNo,
 ) -> Result<(), AllocError>
     requires { (l : Link) → link_at links.now site ≡ Some l → scratch world.now site ≡ Ok l }
-    ensures { OnOk result ((s : ℕ) → footprint_at index.new s ≡ (if site == s
-        then option_map (λ l. footprint world.now site) (link_at links.now site) else footprint_at index.old s)) }
+    ensures { OnOk result ((s : ℕ) → rests_at index.new s ≡ (if site == s
+        then option_map (rests world.now site) (link_at links.now site) else rests_at index.old s)) }
 {
     let Some(link) = links.get(site) else {
         index.remove(site);
         return Ok(());
     };
     let footprint = footprint_of_linked(alloc, world, site, &link)?;
-    index.add(alloc, site, footprint)
+    index.add(alloc, site, Rests::of(footprint, &link))
 }

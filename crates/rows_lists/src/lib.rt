@@ -3,6 +3,8 @@
 #![tactic(auto)]
 
 #[cfg(test)]
+mod family;
+#[cfg(test)]
 mod gates;
 #[cfg(test)]
 mod operations;

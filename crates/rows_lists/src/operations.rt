@@ -1,8 +1,10 @@
-//! An index against a plain list of footprints, over operations that a fixed generator draws.
+//! An index against a plain list of what sites rest on, over operations that a fixed generator draws.
 
-use crate::plain::{KeySet, Plain, SITES, keys};
-use jl_deps::Index;
-use jl_types::SiteNo;
+use crate::family::{FORMS, class_of, family, link};
+use crate::plain::{KeySet, Plain, Row, SITES, keys};
+use jl_deps::{Index, Rests};
+use jl_hierarchy::Classes;
+use jl_types::{SiteNo, Work};
 use std::alloc::{AllocError, Global};
 use std::process::Abort;
 
@@ -27,28 +29,31 @@ impl Draws {
     }
 }
 
-/// How often each operation was tried, and how many sites were touched in all.
+/// How often each operation was tried, and how many sites were touched and asked in all.
 #[derive(Clone, Copy, Debug, PartialEq, Eq)]
 struct Counts {
     added: u32,
     removed: u32,
-    asked: u32,
+    touching: u32,
     touched: usize,
+    defining: u32,
+    asked: usize,
 }
 
-/// What is tried: the index, the plain list and what was counted so far.
+/// What is tried: the index, the plain list, classes that ask, and what was counted so far.
 #[derive(Drop)]
 struct Trial {
     index: Index,
     plain: Plain,
+    classes: Classes,
     counts: Counts,
 }
 
 /// Adds the site to both. Answers whether they agree at it then.
-fn add(alloc: Global, trial: &mut Trial, site: u32, set: KeySet) -> Result<bool, AllocError> {
-    let footprint = keys(alloc, set)?;
-    trial.index.add(alloc, SiteNo::new(site), footprint)?;
-    trial.plain.set(site, Some(set));
+fn add(alloc: Global, trial: &mut Trial, site: u32, row: Row) -> Result<bool, AllocError> {
+    let rests = Rests::of(keys(alloc, row.keys)?, &link(row.form));
+    trial.index.add(alloc, SiteNo::new(site), rests)?;
+    trial.plain.set(site, Some(row));
     trial.counts.added = trial.counts.added.wrapping_add(1);
     trial.plain.agrees_at(alloc, &trial.index, site)
 }
@@ -62,24 +67,48 @@ fn remove(alloc: Global, trial: &mut Trial, site: u32) -> Result<bool, AllocErro
 }
 
 /// Asks both which sites the keys touch. Answers whether they agree.
-fn ask(alloc: Global, trial: &mut Trial, set: KeySet) -> Result<bool, AllocError> {
+fn touch(alloc: Global, trial: &mut Trial, set: KeySet) -> Result<bool, AllocError> {
     let keys = keys(alloc, set)?;
     let sites = trial.index.touched_by(alloc, keys.as_slice())?;
     let want = trial.plain.touched(alloc, set)?;
-    trial.counts.asked = trial.counts.asked.wrapping_add(1);
+    trial.counts.touching = trial.counts.touching.wrapping_add(1);
     trial.counts.touched = trial.counts.touched.wrapping_add(sites.len());
     Ok(sites.as_slice() == want.as_slice())
+}
+
+/// Asks both which of the sites that the keys touch B asks, or C if so. Answers whether they agree, and whether the searches are counted.
+fn define(alloc: Global, trial: &mut Trial, set: KeySet, is_c: bool) -> Result<bool, AllocError> {
+    let keys = keys(alloc, set)?;
+    let most = trial.index.touched_by(alloc, keys.as_slice())?.len() as u64;
+    let mut work = Work::new();
+    let sites = trial.index.asked_by(
+        alloc,
+        keys.as_slice(),
+        &trial.classes,
+        class_of(is_c),
+        &mut work,
+    )?;
+    let want = trial.plain.asked(alloc, set, is_c)?;
+    trial.counts.defining = trial.counts.defining.wrapping_add(1);
+    trial.counts.asked = trial.counts.asked.wrapping_add(sites.len());
+    Ok(
+        sites.as_slice() == want.as_slice()
+            && trial.plain.may_count(set, is_c, work.ticks())
+            && work.ticks().saturating_add(sites.len() as u64) <= most,
+    )
 }
 
 /// Tries one operation. Answers whether index and list agree.
 fn try_one(alloc: Global, trial: &mut Trial, draws: &mut Draws) -> Result<bool, AllocError> {
     let site = draws.below(SITES);
     // Each of twelve keys is in the set once in four times.
-    let set = draws.below(4096) & draws.below(4096);
-    match draws.below(4) {
+    let keys = draws.below(4096) & draws.below(4096);
+    let form = draws.below(FORMS);
+    match draws.below(6) {
         0 => remove(alloc, trial, site),
-        1 => ask(alloc, trial, set),
-        _ => add(alloc, trial, site, set),
+        1 => touch(alloc, trial, keys),
+        2 => define(alloc, trial, keys, form % 2 == 1),
+        _ => add(alloc, trial, site, Row { keys, form }),
     }
 }
 
@@ -106,20 +135,31 @@ fn try_all(alloc: Global, trial: &mut Trial) -> Result<Option<Counts>, AllocErro
 }
 
 /// The same with an index and a list of which nothing was tried yet.
-fn counted(alloc: Global) -> Result<Option<Counts>, AllocError> {
+fn counted_with(alloc: Global, classes: Classes) -> Result<Option<Counts>, AllocError> {
     let plain = Plain::new(alloc)?;
     let counts = Counts {
         added: 0,
         removed: 0,
-        asked: 0,
+        touching: 0,
         touched: 0,
+        defining: 0,
+        asked: 0,
     };
     let mut trial = Trial {
         index: Index::new(alloc),
         plain,
+        classes,
         counts,
     };
     try_all(alloc, &mut trial)
+}
+
+/// The same, if there is memory for the classes.
+fn counted(alloc: Global) -> Result<Option<Counts>, AllocError> {
+    match family(alloc) {
+        Some(classes) => counted_with(alloc, classes),
+        None => Ok(None),
+    }
 }
 
 /// The counts are those of the same operations over sets, drawn and counted by another program.
@@ -127,10 +167,12 @@ fn counted(alloc: Global) -> Result<Option<Counts>, AllocError> {
 fn agrees_with_a_plain_list(rt: HostRuntime) -> Result<(), AllocError> {
     let counts = counted(rt.alloc())?;
     let want = Counts {
-        added: 5_013,
-        removed: 2_524,
-        asked: 2_463,
-        touched: 55_813,
+        added: 4_976,
+        removed: 1_697,
+        touching: 1_661,
+        touched: 41_470,
+        defining: 1_666,
+        asked: 15_585,
     };
     assert_eq!(&rt; counts, Some(want));
     Ok(())

@@ -1,6 +1,6 @@
 //! A key that very many sites rest on.
 
-use jl_deps::{Footprint, Index};
+use jl_deps::{Footprint, Form, Index, Rests};
 use jl_types::{ClassId, Key, SiteNo};
 use std::alloc::{AllocError, Global};
 use std::process::Abort;
@@ -8,12 +8,19 @@ use std::process::Abort;
 /// How many sites a core has at most.
 const SITES: u32 = 65_536;
 
-/// Adds the site, under the receivers of class 0 and of another class.
+/// Adds the site, under the receivers of class 0 and of another class. Each other one has a megamorphic link.
 fn add(alloc: Global, index: &mut Index, site: u32) -> Result<(), AllocError> {
     let other = Key::Receivers(ClassId::new(1 + site % 7));
     let keys = vec![in alloc; Key::Receivers(ClassId::new(0)), other]?;
-    let footprint = Footprint::of(alloc, keys)?;
-    Ok(index.add(alloc, SiteNo::new(site), footprint)?)
+    let rests = Rests {
+        footprint: Footprint::of(alloc, keys)?,
+        form: if site % 2 == 1 {
+            Form::Mega
+        } else {
+            Form::Other
+        },
+    };
+    Ok(index.add(alloc, SiteNo::new(site), rests)?)
 }
 
 /// How many sites rest on the receivers of the class.

@@ -1,10 +1,10 @@
 use Rattle.std.specs.Prelude.{◌≡◌, ◌==◌, ℕ, List, ◌++◌, ◌∷◌, [], ◌+◌, take, Option, if◌then◌else◌}
 use Rattle.std.proofs.Common.{sym, ap, ◌∙◌}
 use Rattle.std.proofs.lemmas.List.{take_more}
-use Rattle.jl_types.specs.declared.key.Key.{Key}
 use Rattle.jl_hierarchy.proofs.Rising.{has}
 use Rattle.jl_cache.specs.Links.{link_at}
-use Rattle.jl_deps.specs.Indexes.{footprint_at}
+use Rattle.jl_deps.specs.declared.form.Rests.{Rests}
+use Rattle.jl_deps.specs.Indexes.{rests_at}
 use Rattle.jl_settle.proofs.SettleLaws.{one_more_at}
 use Rattle.jl_settle.proofs.catch_up.take_over.Goals as goal
 
@@ -20,10 +20,10 @@ loop-site-preserved c =
           front site s (c.in_ok-take_link.ensures s) (c.loop-site.invariant.links s)
           ∙ ap (λ (ts : List ℕ). if has s ts then link_at c.args.links_ahead.now s else link_at c.args.links.now s) more;
       index = λ s.
-          one_more_at (footprint_at c.args.index_ahead.now) (footprint_at c.take_footprint.new.index s) (footprint_at c.loop-site.index s)
-          (footprint_at c.args.index.now s) front site s
-          (c.in_ok-take_footprint.ensures s
-          ∙ ap (λ (o : Option (List Key)). if site == s then o else footprint_at c.loop-site.index s) c.footprint.ensures)
+          one_more_at (rests_at c.args.index_ahead.now) (rests_at c.take_rests.new.index s) (rests_at c.loop-site.index s)
+          (rests_at c.args.index.now s) front site s
+          (c.in_ok-take_rests.ensures s
+          ∙ ap (λ (o : Option Rests). if site == s then o else rests_at c.loop-site.index s) c.rests.ensures)
           (c.loop-site.invariant.index s)
-          ∙ ap (λ (ts : List ℕ). if has s ts then footprint_at c.args.index_ahead.now s else footprint_at c.args.index.now s) more;
+          ∙ ap (λ (ts : List ℕ). if has s ts then rests_at c.args.index_ahead.now s else rests_at c.args.index.now s) more;
     }

@@ -2,7 +2,7 @@ use Rattle.std.specs.Prelude.{◌≡◌, ℕ, List, ◌++◌, ◌∷◌, [], ◌
 use Rattle.std.proofs.Common.{sym, ap, ◌∙◌}
 use Rattle.std.proofs.lemmas.List.{take_more}
 use Rattle.jl_hierarchy.proofs.Rising.{has}
-use Rattle.jl_deps.specs.Indexes.{footprint_at}
+use Rattle.jl_deps.specs.Indexes.{rests_at}
 use Rattle.jl_settle.proofs.SettleLaws.{one_more_at}
 use Rattle.jl_settle.proofs.settling.remove_all.Goals as goal
 
@@ -12,6 +12,6 @@ loop-site-preserved c = λ s.
     let front = take c.loop-site.site-index c.args.sites.now in
     let more : front ++ site ∷ [] ≡ take (c.loop-site.site-index + 1) c.args.sites.now =
     sym (take_more c.args.sites.now c.loop-site.site-index site c.loop-site-test.true ∙ ap (λ (n : ℕ). front ++ n ∷ []) (sym c.site-item.is)) in
-    one_more_at (λ (n : ℕ). None) (footprint_at c.remove.new.self s) (footprint_at c.loop-site.index s) (footprint_at c.args.index.now s)
+    one_more_at (λ (n : ℕ). None) (rests_at c.remove.new.self s) (rests_at c.loop-site.index s) (rests_at c.args.index.now s)
     front site s (c.remove.ensures s) (c.loop-site.invariant s)
-    ∙ ap (λ (ts : List ℕ). if has s ts then None else footprint_at c.args.index.now s) more
+    ∙ ap (λ (ts : List ℕ). if has s ts then None else rests_at c.args.index.now s) more

@@ -7,7 +7,7 @@ use Rattle.jl_deps.proofs.index.Index.copy.Goals as goal
 
 pub returns : goal.returns
 returns c =
-    let entries = c.self.inside.footprints.entries in
+    let entries = c.self.inside.sites.entries in
     same_values c.add_all.new.copy (by_site entries) (rises_of c.add_all.new.copy c.len-count.ensures.rising) (rises entries)
     (λ s. c.in_ok-add_all.ensures s ∙ sym (found_by_site entries s))
     ∙ c.self.view_is

@@ -6,7 +6,7 @@ use Rattle.jl_deps.proofs.index.Index.len.Goals as goal
 
 pub returns-clause-count : goal.returns-clause-count
 returns-clause-count c =
-    c.len.ensures.len ∙ sym (as_many c.self.inside.footprints.entries c.len.ensures.unique) ∙ ap length c.self.view_is
+    c.len.ensures.len ∙ sym (as_many c.self.inside.sites.entries c.len.ensures.unique) ∙ ap length c.self.view_is
 
 pub returns-clause-rising : goal.returns-clause-rising
-returns-clause-rising c = subst AreRising c.self.view_is (sites_rise c.self.inside.footprints.entries)
+returns-clause-rising c = subst AreRising c.self.view_is (sites_rise c.self.inside.sites.entries)
