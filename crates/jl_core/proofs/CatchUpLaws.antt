@@ -17,9 +17,9 @@ use Rattle.jl_types.specs.Events.History.{world_after, installed, installs, kept
 use Rattle.jl_types.specs.Events.History as history
 use Rattle.jl_types.proofs.OneMore.{installed_step}
 use Rattle.jl_types.proofs.Places.{accepted_of, world_more}
-use Rattle.jl_types.specs.declared.key.Key.{Key}
 use Rattle.jl_relink.specs.Laws.{IsInOrder, has_read_file}
 use Rattle.jl_cache.specs.Links.{link_at}
+use Rattle.jl_deps.specs.declared.form.Rests.{Rests}
 use Rattle.jl_deps.specs.Indexes.{AreRising, IsIndex}
 use Rattle.jl_events.specs.Accepted.{event_of}
 use Rattle.jl_events.specs.Changes.{IsNext}
@@ -182,7 +182,7 @@ module _ (m : Limits) (old : World) (links : List (ℕ × Link)) (log : List Ent
 
   -- ---- what it begins with to catch up
 
-  module _ (index further_index : List (ℕ × List Key)) (order : IsInOrder old) (rising : AreRising index) (indexed : IsIndex old (link_at links) index)
+  module _ (index further_index : List (ℕ × Rests)) (order : IsInOrder old) (rising : AreRising index) (indexed : IsIndex old (link_at links) index)
       (linked : List (ℕ × Link)) (are_links : (s : ℕ) → link_at linked s ≡ installed (events further) s)
       (ahead_indexed : IsIndex ahead (link_at linked) further_index) where
     pub is_further : IsFurther old ahead entry.event links linked index further_index

@@ -18,10 +18,10 @@ use Rattle.jl_types.proofs.OneMore.{installed_step}
 use Rattle.jl_types.specs.Events.Limits.{AreAllowed, IsWithin}
 use Rattle.jl_types.proofs.Within.{within_step}
 use Rattle.jl_select.specs.Constancy.{IsConstant}
-use Rattle.jl_types.specs.declared.key.Key.{Key}
-use Rattle.jl_types.specs.Events.Footprints.{footprint}
 use Rattle.jl_cache.specs.Links.{link_at}
-use Rattle.jl_deps.specs.Indexes.{footprint_at, IsIndex}
+use Rattle.jl_deps.specs.declared.form.Rests.{Rests}
+use Rattle.jl_deps.specs.Forms.{rests}
+use Rattle.jl_deps.specs.Indexes.{rests_at, IsIndex}
 use Rattle.jl_relink.specs.Laws.{has_read_file}
 use Rattle.jl_events.specs.Accepted.{event_of}
 use Rattle.jl_events.proofs.AcceptedLaws.{rows_stay}
@@ -45,7 +45,7 @@ pub record IsExact (m : Limits) (w : World) (cached : List (ℕ × Link)) (log :
   pub files : list_all has_read_file (events (core_of m w log)) ≡ true
 
 -- as an instance has it
-pub exact_inside : (m : Limits) (w : World) (links : List (ℕ × Link)) (log : List Entry) (index : List (ℕ × List Key))
+pub exact_inside : (m : Limits) (w : World) (links : List (ℕ × Link)) (log : List Entry) (index : List (ℕ × Rests))
     → ((w ≡ world_of (core_of m w log)) × ((s : ℕ) → link_at links s ≡ installed (events (core_of m w log)) s)
     × (are_told w.classes.rows log ≡ true) × IsWithin m w × (m.sites < 2 ^ 32) × AreAnswered (core_of m w log)
     × IsIndex w (link_at links) index × AreToldThen (core_of m w log) log × (list_all has_read_file (events (core_of m w log)) ≡ true) × AreAllowed m)
@@ -157,7 +157,7 @@ exact_same m w v links same log more e f g exact = subst (λ (x : World). IsExac
     (subst (λ (ls : List (ℕ × Link)). IsExact m w ls more) (sym f) (subst (IsExact m w links) (sym g) exact))
 
 -- and the index of the links
-pub index_same : (old new : World) (before after : List (ℕ × Link)) (index further : List (ℕ × List Key)) → new ≡ old → after ≡ before → further ≡ index
+pub index_same : (old new : World) (before after : List (ℕ × Link)) (index further : List (ℕ × Rests)) → new ≡ old → after ≡ before → further ≡ index
     → IsIndex old (link_at before) index → IsIndex new (link_at after) further
 index_same old new before after index further w l x is s =
-    (λ i. footprint_at (x i) s) ∙ is s ∙ sym (λ i. option_map (λ l. footprint (w i) s) (link_at (l i) s))
+    (λ i. rests_at (x i) s) ∙ is s ∙ sym (λ i. option_map (rests (w i) s) (link_at (l i) s))

@@ -1,6 +1,7 @@
 -- the links and the index behind an event
 pub mod KeptLaws
 pub mod InstallLaws
+pub mod GivenLaws
 pub mod RetireLaws
 pub mod RetireSteps
 pub mod StepLaws

@@ -11,10 +11,11 @@ use Rattle.jl_types.specs.Linkage.Links.{scratch}
 use Rattle.jl_types.specs.Events.Verdict.{step}
 use Rattle.jl_types.specs.Events.History.{installs, kept}
 use Rattle.jl_relink.specs.Laws.{IsInOrder}
-use Rattle.jl_types.specs.declared.key.Key.{Key}
-use Rattle.jl_types.specs.Events.Footprints.{footprint, keys, retires}
+use Rattle.jl_types.specs.Events.Footprints.{keys, retires}
 use Rattle.jl_cache.specs.Links.{link_at}
-use Rattle.jl_deps.specs.Indexes.{footprint_at, touched_by, AreRising, IsIndex}
+use Rattle.jl_deps.specs.declared.form.Rests.{Rests}
+use Rattle.jl_deps.specs.Forms.{rests}
+use Rattle.jl_deps.specs.Indexes.{rests_at, touched_by, AreRising, IsIndex}
 use Rattle.jl_settle.specs.Settling.{HasChanged, defined_by}
 use Rattle.jl_settle.proofs.SettleLaws.{footprint_stays, untouched_stays}
 use Rattle.jl_events.specs.Changes.{IsAcceptable}
@@ -29,7 +30,7 @@ use Rattle.jl_core.proofs.PlanLaws.{installs_has}
 -- ---- an install
 
 -- an install changes no other sites
-pub install_untouched : (w : World) (rows : List Class) (index : List (ℕ × List Key)) (e : Event) (told : Accepted) (links : List (ℕ × Link))
+pub install_untouched : (w : World) (rows : List Class) (index : List (ℕ × Rests)) (e : Event) (told : Accepted) (links : List (ℕ × Link))
     → told ≡ event.Install links → event_of rows told ≡ Some e → (s : ℕ) → has s (map (λ (row : ℕ × Link). row.0) links) ≡ false → IsUntouched w index e s
 install_untouched w rows index e told links is tells s none =
     let same : event.Install links ≡ e = same_Some (event.Install links) e (ap (event_of rows) (sym is) ∙ tells) in (
@@ -39,7 +40,7 @@ install_untouched w rows index e told links is tells s none =
 
 -- ---- once a class was defined
 
-module _ (old ahead : World) (links : List (ℕ × Link)) (index : List (ℕ × List Key)) (loader : ℕ) (file : ClassFile)
+module _ (old ahead : World) (links : List (ℕ × Link)) (index : List (ℕ × Rests)) (loader : ℕ) (file : ClassFile)
     (order : IsInOrder old) (accepted : IsAcceptable old (event.Define loader file)) (stepped : ahead ≡ step old (event.Define loader file))
     (were_scratch : AreScratch old links) (rising : AreRising index) (indexed : IsIndex old (link_at links) index) where
   defined : HasChanged ahead (keys old (event.Define loader file)) (Some (length old.classes.rows)) (link_at links) index
@@ -57,43 +58,43 @@ module _ (old ahead : World) (links : List (ℕ × Link)) (index : List (ℕ × 
   }
 
   -- each link rests on what it rested on
-  rests_on : (s : ℕ) → footprint_at index s ≡ option_map (λ l. footprint ahead s) (link_at links s)
+  rests_on : (s : ℕ) → rests_at index s ≡ option_map (rests ahead s) (link_at links s)
   rests_on s = by_touched (has s (touched_by index (keys old (event.Define loader file)))) refl
     where
       by_touched : (b : Bool) → has s (touched_by index (keys old (event.Define loader file))) ≡ b
-          → footprint_at index s ≡ option_map (λ l. footprint ahead s) (link_at links s)
+          → rests_at index s ≡ option_map (rests ahead s) (link_at links s)
       by_touched true is =
           footprint_stays ahead (keys old (event.Define loader file)) (link_at links) index rising (length old.classes.rows) defined s is
       by_touched false is =
           sym (untouched_stays ahead (keys old (event.Define loader file)) (Some (length old.classes.rows)) (link_at links) index defined rising s is).1
 
 -- the index once the sites whose links went were taken out
-pub definition_followed : (old ahead : World) (told : Accepted) (links linked after : List (ℕ × Link)) (index far near : List (ℕ × List Key))
+pub definition_followed : (old ahead : World) (told : Accepted) (links linked after : List (ℕ × Link)) (index far near : List (ℕ × Rests))
     → IsFurther old ahead told links linked index far → (loader c : ℕ) → told ≡ event.Define loader c → (gone : List ℕ)
     → ((s : ℕ) → link_at after s ≡ (if has s gone then None else link_at links s))
-    → ((s : ℕ) → footprint_at near s ≡ (if has s gone then None else footprint_at index s))
+    → ((s : ℕ) → rests_at near s ≡ (if has s gone then None else rests_at index s))
     → IsIndex ahead (link_at after) near
 definition_followed old ahead told links linked after index far near further loader c is gone left taken s =
-    taken s ∙ by_gone (has s gone) ∙ ap (option_map (λ l. footprint ahead s)) (sym (left s))
+    taken s ∙ by_gone (has s gone) ∙ ap (option_map (rests ahead s)) (sym (left s))
   where
     by_row : (o : Option Class) → option_map {U = Event} (λ (row : Class). event.Define loader row.file) o ≡ Some further.next.event
-        → footprint_at index s ≡ option_map (λ l. footprint ahead s) (link_at links s)
+        → rests_at index s ≡ option_map (rests ahead s) (link_at links s)
     by_row None tells = absurd (cc tells)
     by_row (Some row) tells =
         let same : event.Define loader row.file ≡ further.next.event = same_Some (event.Define loader row.file) further.next.event tells in
         rests_on old ahead links index loader row.file further.order (subst (IsAcceptable old) (sym same) further.next.accepted)
         (further.next.step ∙ ap (step old) (sym same)) further.were_scratch further.rising further.indexed s
 
-    by_gone : (b : Bool) → (if b then None else footprint_at index s) ≡ option_map (λ l. footprint ahead s) (if b then None else link_at links s)
+    by_gone : (b : Bool) → (if b then None else rests_at index s) ≡ option_map (rests ahead s) (if b then None else link_at links s)
     by_gone true = refl
     by_gone false = by_row (slice_get ahead.classes.rows c) (ap (event_of ahead.classes.rows) (sym is) ∙ further.next.tells)
 
 -- ---- what is left once retired sites were dropped
 
-pub further_left : (old ahead : World) (told : Accepted) (links left linked : List (ℕ × Link)) (index near far : List (ℕ × List Key))
+pub further_left : (old ahead : World) (told : Accepted) (links left linked : List (ℕ × Link)) (index near far : List (ℕ × Rests))
     → IsFurther old ahead told links linked index far → AreRising near
     → ((s : ℕ) → link_at left s ≡ (if retires_at old told s then None else link_at links s))
-    → ((s : ℕ) → footprint_at near s ≡ (if retires_at old told s then None else footprint_at index s))
+    → ((s : ℕ) → rests_at near s ≡ (if retires_at old told s then None else rests_at index s))
     → IsFurther old ahead told left linked near far
 further_left old ahead told links left linked index near far further rising dropped taken = record {
   next = further.next;
@@ -112,7 +113,7 @@ further_left old ahead told links left linked index near far further rising drop
 
 -- ---- what is taken over
 
-module _ (old ahead : World) (told : Accepted) (links linked : List (ℕ × Link)) (index far : List (ℕ × List Key))
+module _ (old ahead : World) (told : Accepted) (links linked : List (ℕ × Link)) (index far : List (ℕ × Rests))
     (further : IsFurther old ahead told links linked index far) (sites : List ℕ)
     (others : (s : ℕ) → has s sites ≡ false → IsUntouched old index further.next.event s)
     (left_there : (s : ℕ) (l : Link) → link_at links s ≡ Some l → retires old further.next.event s ≡ false) where
@@ -134,7 +135,7 @@ module _ (old ahead : World) (told : Accepted) (links linked : List (ℕ × Link
   }
 
   stays : (s : ℕ) → has s sites ≡ false
-      → (kept false (link_at links s) (scratch ahead s) ≡ link_at links s) × (option_map (λ l. footprint ahead s) (link_at links s) ≡ footprint_at index s)
+      → (kept false (link_at links s) (scratch ahead s) ≡ link_at links s) × (option_map (rests ahead s) (link_at links s) ≡ rests_at index s)
   stays s none = untouched_stays ahead (keys old e) (defined_by old e) (link_at links) index changed further.rising s (others s none).0
 
   pub links_taken : (left : List (ℕ × Link)) → ((s : ℕ) → link_at left s ≡ (if has s sites then link_at linked s else link_at links s))
@@ -149,20 +150,20 @@ module _ (old ahead : World) (told : Accepted) (links linked : List (ℕ × Link
           ∙ (stays s is).0)
 
   pub index_taken : (left : List (ℕ × Link)) → ((s : ℕ) → link_at left s ≡ (if has s sites then link_at linked s else link_at links s))
-      → (near : List (ℕ × List Key)) → ((s : ℕ) → footprint_at near s ≡ (if has s sites then footprint_at far s else footprint_at index s))
+      → (near : List (ℕ × Rests)) → ((s : ℕ) → rests_at near s ≡ (if has s sites then rests_at far s else rests_at index s))
       → IsIndex ahead (link_at left) near
-  index_taken left taken near looked s = looked s ∙ by_site (has s sites) refl ∙ ap (option_map (λ l. footprint ahead s)) (sym (taken s))
+  index_taken left taken near looked s = looked s ∙ by_site (has s sites) refl ∙ ap (option_map (rests ahead s)) (sym (taken s))
     where
-      by_site : (b : Bool) → has s sites ≡ b → (if b then footprint_at far s else footprint_at index s)
-          ≡ option_map (λ l. footprint ahead s) (if b then link_at linked s else link_at links s)
+      by_site : (b : Bool) → has s sites ≡ b → (if b then rests_at far s else rests_at index s)
+          ≡ option_map (rests ahead s) (if b then link_at linked s else link_at links s)
       by_site true is = further.ahead_indexed s
       by_site false is = sym (stays s is).1
 
 -- the same where the links of retired sites were dropped first
-module _ (old ahead : World) (told : Accepted) (links left linked : List (ℕ × Link)) (index near far : List (ℕ × List Key))
+module _ (old ahead : World) (told : Accepted) (links left linked : List (ℕ × Link)) (index near far : List (ℕ × Rests))
     (further : IsFurther old ahead told links linked index far) (rising : AreRising near)
     (dropped : (s : ℕ) → link_at left s ≡ (if retires_at old told s then None else link_at links s))
-    (taken : (s : ℕ) → footprint_at near s ≡ (if retires_at old told s then None else footprint_at index s))
+    (taken : (s : ℕ) → rests_at near s ≡ (if retires_at old told s then None else rests_at index s))
     (sites : List ℕ) (others : (s : ℕ) → has s sites ≡ false → IsUntouched old near further.next.event s) where
   left_there : (s : ℕ) (l : Link) → link_at left s ≡ Some l → retires old further.next.event s ≡ false
   left_there s l is =
@@ -175,8 +176,8 @@ module _ (old ahead : World) (told : Accepted) (links left linked : List (ℕ ×
         links_taken old ahead told left linked near far (further_left old ahead told links left linked index near far further rising dropped taken)
         sites others left_there after took
 
-    pub index_followed : (farther : List (ℕ × List Key))
-        → ((s : ℕ) → footprint_at farther s ≡ (if has s sites then footprint_at far s else footprint_at near s))
+    pub index_followed : (farther : List (ℕ × Rests))
+        → ((s : ℕ) → rests_at farther s ≡ (if has s sites then rests_at far s else rests_at near s))
         → IsIndex ahead (link_at after) farther
     unfolding further_left
     index_followed farther put =

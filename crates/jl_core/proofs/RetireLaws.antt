@@ -16,14 +16,16 @@ use Rattle.jl_types.specs.Linkage.Links.{scratch}
 use Rattle.jl_types.specs.Events.Verdict.{step}
 use Rattle.jl_types.specs.Events.History.{installs, kept}
 use Rattle.jl_types.specs.declared.key.Key.{Key}
-use Rattle.jl_types.specs.Events.Footprints.{footprint, meets, retires}
+use Rattle.jl_types.specs.Events.Footprints.{meets, retires}
 use Rattle.jl_types.proofs.BySite.{rises_of}
 use Rattle.jl_types.proofs.Retiring.{gone_after}
 use Rattle.jl_hierarchy.specs.ForProofs.Kept.{Rises}
 use Rattle.jl_hierarchy.proofs.Rising.{has, one_rising}
 use Rattle.jl_resolve.proofs.Unchanged.{all_filter}
 use Rattle.jl_cache.specs.Links.{link_at}
-use Rattle.jl_deps.specs.Indexes.{footprint_at, touched_by, AreRising, IsIndex}
+use Rattle.jl_deps.specs.declared.form.Rests.{Rests}
+use Rattle.jl_deps.specs.Forms.{rests}
+use Rattle.jl_deps.specs.Indexes.{rests_at, touched_by, AreRising, IsIndex}
 use Rattle.jl_deps.proofs.TouchLaws.{passing, sites_rise}
 use Rattle.jl_events.specs.Accepted.{Accepted, event_of}
 use Rattle.jl_core.specs.ForProofs.Changes.{retires_at}
@@ -112,12 +114,12 @@ module _ (links : List (ℕ × Link)) (test : ℕ → Bool) (sites : List ℕ) (
       itself None = refl
       itself (Some l) = refl
 
-  pub taken_all : (w : World) (index : List (ℕ × List Key)) → IsIndex w (link_at links) index
-      → (if has s sites then None else footprint_at index s) ≡ (if test s then None else footprint_at index s)
+  pub taken_all : (w : World) (index : List (ℕ × Rests)) → IsIndex w (link_at links) index
+      → (if has s sites then None else rests_at index s) ≡ (if test s then None else rests_at index s)
   taken_all w index indexed =
-      ap (λ (o : Option (List Key)). if has s sites then None else o) (indexed s)
-      ∙ not_listed (λ l. footprint w s) (has s sites) refl (test s) refl (link_at links s) refl
-      ∙ ap (λ (o : Option (List Key)). if test s then None else o) (sym (indexed s))
+      ap (λ (o : Option Rests). if has s sites then None else o) (indexed s)
+      ∙ not_listed (rests w s) (has s sites) refl (test s) refl (link_at links s) refl
+      ∙ ap (λ (o : Option Rests). if test s then None else o) (sym (indexed s))
 
   pub lost_all : (has s sites && is_some (link_at links s)) ≡ (test s && is_some (link_at links s))
   lost_all = by_tests (has s sites) refl (test s) refl (link_at links s) refl
@@ -135,16 +137,16 @@ left_alone true o l is = cc
 left_alone false o l is = (refl, is)
 
 -- the links of retired sites were dropped, and those sites taken out of the index
-module _ (w : World) (told : Accepted) (links left : List (ℕ × Link)) (index near : List (ℕ × List Key))
+module _ (w : World) (told : Accepted) (links left : List (ℕ × Link)) (index near : List (ℕ × Rests))
     (dropped : (s : ℕ) → link_at left s ≡ (if retires_at w told s then None else link_at links s))
-    (taken : (s : ℕ) → footprint_at near s ≡ (if retires_at w told s then None else footprint_at index s)) where
+    (taken : (s : ℕ) → rests_at near s ≡ (if retires_at w told s then None else rests_at index s)) where
   pub links_left : (s : ℕ) (l : Link) → link_at left s ≡ Some l → (retires_at w told s ≡ false) × (link_at links s ≡ Some l)
   links_left s l is = left_alone (retires_at w told s) (link_at links s) l (sym (dropped s) ∙ is)
 
   pub index_left : IsIndex w (link_at links) index → IsIndex w (link_at left) near
-  index_left indexed s = taken s ∙ by_test (retires_at w told s) ∙ ap (option_map (λ l. footprint w s)) (sym (dropped s))
+  index_left indexed s = taken s ∙ by_test (retires_at w told s) ∙ ap (option_map (rests w s)) (sym (dropped s))
     where
-      by_test : (b : Bool) → (if b then None else footprint_at index s) ≡ option_map (λ l. footprint w s) (if b then None else link_at links s)
+      by_test : (b : Bool) → (if b then None else rests_at index s) ≡ option_map (rests w s) (if b then None else link_at links s)
       by_test true = refl
       by_test false = indexed s
 
@@ -199,22 +201,22 @@ has_filter q (x ∷ xs) s = by_tests (q x) (x == s) refl refl (has_filter q xs s
     by_tests false false passes is rest = rest
 
 -- the touched sites that aren't retired are those that the index is left with
-pub touched_left : (retired : ℕ → Bool) (index near : List (ℕ × List Key)) (keys : List Key) → AreRising index → AreRising near
-    → ((s : ℕ) → footprint_at near s ≡ (if retired s then None else footprint_at index s))
+pub touched_left : (retired : ℕ → Bool) (index near : List (ℕ × Rests)) (keys : List Key) → AreRising index → AreRising near
+    → ((s : ℕ) → rests_at near s ≡ (if retired s then None else rests_at index s))
     → touched_by near keys ≡ filter (λ s. not (retired s)) (touched_by index keys)
 touched_left retired index near keys rising rising_near taken =
     one_rising (touched_by near keys) (filter (λ s. not (retired s)) (touched_by index keys))
-    (sites_rise (λ f. meets f keys) near (rises_of near rising_near))
-    (rises_filter (λ s. not (retired s)) (touched_by index keys) (sites_rise (λ f. meets f keys) index (rises_of index rising)))
+    (sites_rise (λ (r : Rests). meets r.footprint keys) near (rises_of near rising_near))
+    (rises_filter (λ s. not (retired s)) (touched_by index keys) (sites_rise (λ (r : Rests). meets r.footprint keys) index (rises_of index rising)))
     (λ s.
-    passing (λ f. meets f keys) s near (rises_of near rising_near)
-    ∙ ap (λ (o : Option (List Key)). option_map_or (λ f. meets f keys) o false) (taken s)
-    ∙ by_test (retired s) (footprint_at index s)
-    ∙ ap (λ (b : Bool). not (retired s) && b) (sym (passing (λ f. meets f keys) s index (rises_of index rising)))
+    passing (λ (r : Rests). meets r.footprint keys) s near (rises_of near rising_near)
+    ∙ ap (λ (o : Option Rests). option_map_or (λ (r : Rests). meets r.footprint keys) o false) (taken s)
+    ∙ by_test (retired s) (rests_at index s)
+    ∙ ap (λ (b : Bool). not (retired s) && b) (sym (passing (λ (r : Rests). meets r.footprint keys) s index (rises_of index rising)))
     ∙ sym (has_filter (λ t. not (retired t)) (touched_by index keys) s))
   where
-    by_test : (b : Bool) (o : Option (List Key)) → option_map_or (λ f. meets f keys) (if b then None else o) false ≡ (not b
-        && option_map_or (λ f. meets f keys) o false)
+    by_test : (b : Bool) (o : Option Rests) → option_map_or (λ (r : Rests). meets r.footprint keys) (if b then None else o) false
+        ≡ (not b && option_map_or (λ (r : Rests). meets r.footprint keys) o false)
     by_test true o = refl
     by_test false o = refl
 

@@ -14,11 +14,12 @@ use Rattle.jl_types.specs.Events.History.{installs, kept}
 use Rattle.jl_types.specs.declared.key.Key.{Key}
 use Rattle.jl_types.specs.Events.Footprints.{footprint, keys, most_for, retires}
 use Rattle.jl_cache.specs.Links.{link_at}
-use Rattle.jl_deps.specs.Indexes.{footprint_at, touched_by, AreRising}
+use Rattle.jl_deps.specs.declared.form.Rests.{Rests}
+use Rattle.jl_deps.specs.Indexes.{rests_at, touched_by, AreRising}
 use Rattle.jl_settle.specs.Settling.{AreUpToDate, HasChanged, most_asked}
 use Rattle.jl_events.specs.Accepted.{Accepted, event_of}
 use Rattle.jl_events.specs.Changes.{class_of}
-use Rattle.jl_events.proofs.InstallCounts.{no_more, few_by}
+use Rattle.jl_relink.proofs.WorkCounts.{no_more, few_by}
 use Rattle.jl_core.specs.ForProofs.Changes.{AreScratch, retires_at}
 use Rattle.jl_core.specs.ForProofs.Steps.{IsRetirement, of_one, of_several, AreGone, AreRetired, HasStepped, most_told}
 use Rattle.jl_core.specs.ForProofs.Touched.{has}
@@ -56,13 +57,13 @@ installs_none : (told : Accepted) (loaders : List ℕ) → IsRetirement told loa
 installs_none told loaders (of_one loader) rows e tells s = ap (installs s) (sym (same_Some (event.Retire loader) e tells))
 installs_none told loaders (of_several ls) rows e tells s = ap (installs s) (sym (same_Some (event.RetireAll ls) e tells))
 
-told_of_left : (told : Accepted) (loaders : List ℕ) → IsRetirement told loaders → (w : World) (index : List (ℕ × List Key)) (ks : List Key)
+told_of_left : (told : Accepted) (loaders : List ℕ) → IsRetirement told loaders → (w : World) (index : List (ℕ × Rests)) (ks : List Key)
     → most_told w told index ks ≡ sum_by (most_for w) (filter (λ s. not (retires_site w loaders s)) (touched_by index ks))
 told_of_left told loaders (of_one loader) w index ks = refl
 told_of_left told loaders (of_several ls) w index ks = refl
 
 module _ (w : World) (ks : List Key) (told : Accepted) (loaders : List ℕ) (is : IsRetirement told loaders) (links : List (ℕ × Link))
-    (index : List (ℕ × List Key))
+    (index : List (ℕ × Rests))
     (led : HasStepped w ks told links index) where
   same_site : (s : ℕ) → retires_site w loaders s ≡ retires_at led.before told s
   same_site s =
@@ -72,9 +73,9 @@ module _ (w : World) (ks : List Key) (told : Accepted) (loaders : List ℕ) (is 
   no_install s = installs_none told loaders is w.classes.rows led.event led.tells s
 
   module _ (sites : List ℕ) (gone : AreGone w told links sites)
-      (left : List (ℕ × Link)) (near : List (ℕ × List Key)) (rising : AreRising near)
+      (left : List (ℕ × Link)) (near : List (ℕ × Rests)) (rising : AreRising near)
       (dropped : (s : ℕ) → link_at left s ≡ (if has s sites then None else link_at links s))
-      (taken : (s : ℕ) → footprint_at near s ≡ (if has s sites then None else footprint_at index s)) where
+      (taken : (s : ℕ) → rests_at near s ≡ (if has s sites then None else rests_at index s)) where
     only : (s : ℕ) → has s sites ≡ true → retires_site w loaders s ≡ true
     only s listed = sym (retires_same told loaders is w s) ∙ gone.only s listed
 
@@ -84,14 +85,14 @@ module _ (w : World) (ks : List Key) (told : Accepted) (loaders : List ℕ) (is 
     dropped_so : (s : ℕ) → link_at left s ≡ (if retires_site w loaders s then None else link_at links s)
     dropped_so s = dropped s ∙ dropped_all links (retires_site w loaders) sites only linked s
 
-    taken_so : (s : ℕ) → footprint_at near s ≡ (if retires_site w loaders s then None else footprint_at index s)
+    taken_so : (s : ℕ) → rests_at near s ≡ (if retires_site w loaders s then None else rests_at index s)
     taken_so s = taken s ∙ taken_all links (retires_site w loaders) sites only linked s led.before index led.sound.indexed
 
     dropped_then : (s : ℕ) → link_at left s ≡ (if retires_at led.before told s then None else link_at links s)
     dropped_then s = dropped_so s ∙ ap (λ (b : Bool). if b then None else link_at links s) (same_site s)
 
-    taken_then : (s : ℕ) → footprint_at near s ≡ (if retires_at led.before told s then None else footprint_at index s)
-    taken_then s = taken_so s ∙ ap (λ (b : Bool). if b then None else footprint_at index s) (same_site s)
+    taken_then : (s : ℕ) → rests_at near s ≡ (if retires_at led.before told s then None else rests_at index s)
+    taken_then s = taken_so s ∙ ap (λ (b : Bool). if b then None else rests_at index s) (same_site s)
 
     pub has_retired : HasChanged w ks None (link_at left) near
     has_retired = record {
@@ -132,7 +133,7 @@ module _ (w : World) (ks : List Key) (told : Accepted) (loaders : List ℕ) (is 
 
     -- once the others were settled
     pub up_to_date_retired : (first lost : List ℕ) → ((s : ℕ) → has s first ≡ (has s sites && is_some (link_at links s)))
-        → (after : ℕ → Option Link) (further : List (ℕ × List Key)) → AreUpToDate w (λ s. false) (link_at left) after further lost
+        → (after : ℕ → Option Link) (further : List (ℕ × Rests)) → AreUpToDate w (λ s. false) (link_at left) after further lost
         → AreUpToDate w (λ s. false) (link_at links) after further (first ++ lost)
     up_to_date_retired first lost first_are after further settled = record {
       links = λ s.

@@ -12,13 +12,15 @@ use Rattle.jl_types.specs.Events.Event.{Event}
 use Rattle.jl_types.specs.declared.event.Reply.{Reply}
 use Rattle.jl_types.specs.declared.refusal.Refusal.TheVariants.{CallSite}
 use Rattle.jl_types.specs.declared.refusal.CallSiteFault.TheVariants.{UnknownSwitch}
+use Rattle.jl_types.specs.declared.refusal.PrepareFault.{PrepareFault}
+use Rattle.jl_types.specs.declared.refusal.PrepareFault.TheVariants.{UnknownSite, BatchSize}
 use Rattle.jl_types.specs.Events.Footprints.{bound}
 use Rattle.jl_types.specs.Values.World.{Class, nothing_yet}
 use Rattle.jl_types.specs.Events.History.{world_after}
 use Rattle.jl_select.proofs.Constancy.{constant_itself}
 use Rattle.jl_relink.specs.Laws.{has_read_file}
 use Rattle.jl_relink.proofs.Loaders.{loader_constant}
-use Rattle.jl_core.specs.State.{State, empty_core, events, world_of, links_of}
+use Rattle.jl_core.specs.State.{State, empty_core, events, world_of, links_of, HasInstalled}
 use Rattle.jl_core.specs.Logs.{Entry, told, are_told, shown, AreToldThen}
 use Rattle.jl_core.specs.Headline.{AreApplied}
 use Rattle.jl_core.specs.WorkBounds.{most_of_last}
@@ -65,6 +67,18 @@ one_switch = refl
 
 two_loaders : (world_of both).classes.loaders ≡ [] ∷ [] ∷ []
 two_loaders = refl
+
+-- ---- links that are looked up and installed at once
+
+some_none : (f : PrepareFault) → Some f ≡ None → ⊥
+some_none f e = cc
+
+module _ (after : State) (reply : Reply) where
+  no_site_is_no_install : HasInstalled both [] after reply → ⊥
+  no_site_is_no_install h = some_none BatchSize h.fine
+
+  unknown_site_is_no_install : HasInstalled both (0 ∷ []) after reply → ⊥
+  unknown_site_is_no_install h = some_none (UnknownSite 0) h.fine
 
 -- ---- entries
 

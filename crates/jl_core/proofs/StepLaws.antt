@@ -18,6 +18,7 @@ use Rattle.jl_types.specs.declared.key.Key.{Key}
 use Rattle.jl_types.specs.Events.Retirement.{retires_site}
 use Rattle.jl_types.specs.Events.Footprints.{keys, meets, most_for, touches}
 use Rattle.jl_cache.specs.Links.{link_at, link_with}
+use Rattle.jl_deps.specs.declared.form.Rests.{Rests}
 use Rattle.jl_deps.specs.Indexes.{IsIndex, touched_by}
 use Rattle.jl_types.proofs.BySite.{rises_of}
 use Rattle.jl_deps.proofs.IndexLaws.{touched_of}
@@ -29,7 +30,7 @@ use Rattle.jl_events.specs.Accepted.{Accepted, event_of}
 use Rattle.jl_events.specs.Changes.{IsAcceptable, class_of}
 use Rattle.jl_events.specs.Changes as changes
 use Rattle.jl_events.proofs.ChangeLaws.{rows_free}
-use Rattle.jl_events.proofs.InstallCounts.{few_of_range}
+use Rattle.jl_relink.proofs.WorkCounts.{few_of_range}
 use Rattle.jl_core.specs.ForProofs.Changes.{installs_at, retires_at, lost}
 use Rattle.jl_core.specs.ForProofs.Steps.{IsRetirement, of_one, of_several, IsSound, HasStepped, most_to_settle, most_told}
 use Rattle.jl_core.specs.ForProofs.Touched.{has, AreTouched}
@@ -41,7 +42,7 @@ some_link : (o : Option Link) (b : Bool) → (is_some o && b) ≡ true → (l : 
 some_link None b k = cc
 some_link (Some l) b k = (l, refl)
 
-module _ (w : World) (links : List (ℕ × Link)) (index : List (ℕ × List Key)) (sound : IsSound w links index) where
+module _ (w : World) (links : List (ℕ × Link)) (index : List (ℕ × Rests)) (sound : IsSound w links index) where
   -- what is listed where there was a link and is none is what is lost
   pub lost_are : (left : List (ℕ × Link)) (sites dropped : List ℕ) → ((s : ℕ) → has s sites ≡ (is_some (link_at links s) && is_none (link_at left s)))
       → AreTouched sites dropped → dropped ≡ lost (length w.places) links left
@@ -73,7 +74,7 @@ module _ (w : World) (links : List (ℕ × Link)) (index : List (ℕ × List Key
       same : those ≡ filter (λ s. has s those) (range_with_len 0 (length w.places))
       same =
           one_rising those (filter (λ s. has s those) (range_with_len 0 (length w.places)))
-          (sites_rise (λ f. meets f (keys w e)) index (rises_of index sound.rising))
+          (sites_rise (λ (r : Rests). meets r.footprint (keys w e)) index (rises_of index sound.rising))
           (filter_rises (λ s. has s those) 0 (length w.places))
           (λ s. sym (in_range (λ s. has s those) (length w.places) within s))
 
@@ -82,11 +83,11 @@ none_met [] = refl
 none_met (k ∷ footprint) = none_met footprint
 
 -- no keys touch no site
-pub none_touched : (index : List (ℕ × List Key)) → touched_by index [] ≡ []
+pub none_touched : (index : List (ℕ × Rests)) → touched_by index [] ≡ []
 none_touched [] = refl
 none_touched (row ∷ index) =
-    let met = filter (λ (r : ℕ × List Key). meets r.1 []) index in
-    ap (λ (b : Bool). map (λ (r : ℕ × List Key). r.0) (cond b (row ∷ met) met)) (none_met row.1) ∙ none_touched index
+    let met = filter (λ (r : ℕ × Rests). meets r.1.footprint []) index in
+    ap (λ (b : Bool). map (λ (r : ℕ × Rests). r.0) (cond b (row ∷ met) met)) (none_met row.1.footprint) ∙ none_touched index
 
 -- ---- what the log keeps of the event
 
@@ -161,7 +162,7 @@ module _ (rows : List Class) (e : Event) where
   not_retirement (event.Release call_sites points) is other = as_no (event.Release call_sites points) is refl
 
 -- how many evaluations it takes is told by the event
-module _ (old new : World) (index : List (ℕ × List Key)) (e : Event) (ks : List Key) (step_is : new ≡ events.step old e) (keys_are : ks ≡ keys old e) where
+module _ (old new : World) (index : List (ℕ × Rests)) (e : Event) (ks : List Key) (step_is : new ≡ events.step old e) (keys_are : ks ≡ keys old e) where
   as_many : (x : Event) → Some x ≡ Some e → length (touched_by index (keys old x)) ≡ most_to_settle old index x
       → length (touched_by index ks) ≡ most_to_settle old index e
   as_many x is one =
@@ -204,7 +205,7 @@ module _ (old new : World) (index : List (ℕ × List Key)) (e : Event) (ks : Li
 
 -- ---- the event that was settled
 
-module _ (w : World) (ks : List Key) (told : Accepted) (links : List (ℕ × Link)) (index : List (ℕ × List Key)) (led : HasStepped w ks told links index) where
+module _ (w : World) (ks : List Key) (told : Accepted) (links : List (ℕ × Link)) (index : List (ℕ × Rests)) (led : HasStepped w ks told links index) where
   -- where no loader goes
   pub has_changed : ((loaders : List ℕ) → IsRetirement told loaders → ⊥) → (defined : Option ℕ) → class_of told ≡ defined
       → HasChanged w ks defined (link_at links) index
@@ -268,7 +269,7 @@ module _ (w : World) (ks : List Key) (told : Accepted) (links : List (ℕ × Lin
       let same = most_of_told other in
       omega (arith, most, same, le)
 
-  pub up_to_date_so : ((rows : List (ℕ × Link)) → told ≡ event.Install rows → ⊥) → (left : ℕ → Option Link) (further : List (ℕ × List Key)) (lost : List ℕ)
+  pub up_to_date_so : ((rows : List (ℕ × Link)) → told ≡ event.Install rows → ⊥) → (left : ℕ → Option Link) (further : List (ℕ × Rests)) (lost : List ℕ)
       → AreUpToDate w (λ s. false) (link_at links) left further lost → AreUpToDate w (λ s. installs_at s told) (link_at links) left further lost
   up_to_date_so other left further lost settled = record {
     links = λ s. settled.links s ∙ ap (λ (b : Bool). kept b (link_at links s) (scratch w s)) (sym (no_install s told other));
@@ -310,7 +311,7 @@ module _ (w : World) (ks : List Key) (told : Accepted) (links : List (ℕ × Lin
               sym (ap is_none
               (by_rows s ∙ kept_once (list_any (λ row. row.0 == s) rows) (link_at links s) (scratch led.before s) l e (led.sound.scratch s l e)))
 
-      pub up_to_date_installed : (further : List (ℕ × List Key)) → IsIndex w (link_at left) further
+      pub up_to_date_installed : (further : List (ℕ × Rests)) → IsIndex w (link_at left) further
           → AreUpToDate w (λ s. installs_at s told) (link_at links) (link_at left) further []
       up_to_date_installed further indexed = record {
         links = λ s. by_rows s ∙ (λ i. kept (installs_at s (sym is i)) (link_at links s) (scratch (sym same_world i) s));

@@ -10,8 +10,9 @@ use Rattle.jl_types.specs.Values.World.{World}
 use Rattle.jl_types.specs.Events.Retirement.{retires_site}
 use Rattle.jl_types.specs.Events.Verdict.{step}
 use Rattle.jl_types.specs.Events.History.{world_after, installed}
-use Rattle.jl_types.specs.declared.key.Key.{Key}
-use Rattle.jl_types.specs.Events.Footprints.{bound, footprint, keys, most_for, touched}
+use Rattle.jl_types.specs.Events.Footprints.{bound, keys, most_for, touched}
+use Rattle.jl_deps.specs.declared.form.Rests.{Rests}
+use Rattle.jl_deps.specs.Forms.{rests}
 use Rattle.jl_deps.specs.Indexes.{AreRising, IsIndex, touched_by}
 use Rattle.jl_deps.proofs.BoundLaws.{touched_are_bounded}
 use Rattle.jl_events.specs.Judging.{most_to_judge}
@@ -31,11 +32,11 @@ pub most_of_more : (h : List Event) (e : Event) → most_of_last (h ++ e ∷ [])
 most_of_more h e = last_more [] h e
 
 -- what the index says is what the events say
-module _ (h : List Event) (w : World) (links : ℕ → Option Link) (index : List (ℕ × List Key)) (rising : AreRising index)
+module _ (h : List Event) (w : World) (links : ℕ → Option Link) (index : List (ℕ × Rests)) (rising : AreRising index)
     (is_world : w ≡ world_after h) (are_links : (s : ℕ) → links s ≡ installed h s) (indexed : IsIndex w links index) where
   as_index : IsIndex (world_after h) (installed h) index
   as_index s =
-      indexed s ∙ (λ i. option_map (λ l. footprint (is_world i) s) (are_links s i))
+      indexed s ∙ (λ i. option_map (rests (is_world i) s) (are_links s i))
 
   touched_so : (e : Event) → length (touched_by index (keys w e)) ≡ length (touched h e)
   touched_so e =

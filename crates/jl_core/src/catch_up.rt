@@ -6,7 +6,7 @@ ghost use Rattle.jl_types.specs.Events.Event.{Event};
 ghost use Rattle.jl_types.specs.Events.Footprints as footprints;
 ghost use Rattle.jl_types.specs.Events.Retirement.{retires_site};
 ghost use Rattle.jl_cache.specs.Links.{link_at};
-ghost use Rattle.jl_deps.specs.Indexes.{footprint_at, IsIndex};
+ghost use Rattle.jl_deps.specs.Indexes.{rests_at, IsIndex};
 ghost use Rattle.jl_events.specs.Accepted.{event_of};
 ghost use Rattle.jl_events.specs.Changes.{IsNext};
 ghost use Rattle.jl_core.specs.ForProofs.Changes.{AreScratch, retires_at};
@@ -147,8 +147,8 @@ fn forget_retired(
     requires indexed { IsIndex world.now (link_at links.old) index.old }
     ensures links { OnOk result ((s : ℕ) → link_at links.new s
         ≡ (if retires_at world.now event.now s then None else link_at links.old s)) }
-    ensures index { OnOk result ((s : ℕ) → footprint_at index.new s
-        ≡ (if retires_at world.now event.now s then None else footprint_at index.old s)) }
+    ensures index { OnOk result ((s : ℕ) → rests_at index.new s
+        ≡ (if retires_at world.now event.now s then None else rests_at index.old s)) }
 {
     match event {
         Accepted::Retire(loader) => {
@@ -174,8 +174,8 @@ fn forget_sites_of(
     requires indexed { IsIndex world.now (link_at links.old) index.old }
     ensures links { OnOk result ((s : ℕ) → link_at links.new s
         ≡ (if retires_site world.now loaders.now s then None else link_at links.old s)) }
-    ensures index { OnOk result ((s : ℕ) → footprint_at index.new s
-        ≡ (if retires_site world.now loaders.now s then None else footprint_at index.old s)) }
+    ensures index { OnOk result ((s : ℕ) → rests_at index.new s
+        ≡ (if retires_site world.now loaders.now s then None else rests_at index.old s)) }
 {
     let sites = sites_of(alloc, world, loaders)?;
     forget(alloc, links, index, sites.as_slice())?;

@@ -11,10 +11,10 @@ ghost use Rattle.jl_types.specs.Events.Verdict.{verdict};
 ghost use Rattle.jl_types.specs.Events.History.{installed};
 ghost use Rattle.jl_types.specs.Events.Footprints.{bound};
 ghost use Rattle.jl_relink.specs.Laws.{has_read_file};
-ghost use Rattle.jl_relink.specs.Preparations.{IsPreparation};
+ghost use Rattle.jl_relink.specs.Preparations.{IsPreparation, IsFault};
 ghost use Rattle.jl_cache.specs.Links.{link_at};
 ghost use Rattle.jl_events.specs.Judging.{most_to_judge};
-ghost use Rattle.jl_core.specs.State.{State, empty_core, events, world_of, links_of, AreAnswered, IsAccepted, IsRefused};
+ghost use Rattle.jl_core.specs.State.{State, empty_core, events, world_of, links_of, AreAnswered, IsAccepted, IsRefused, HasInstalled};
 ghost use Rattle.jl_core.specs.Plans.{IsPlanned, IsAsPlanned};
 ghost use Rattle.jl_core.specs.Logs.{shown, are_told, AreToldThen};
 ghost use Rattle.jl_core.specs.WorkBounds.{most_of_last};
@@ -24,7 +24,7 @@ use crate::log::Entry;
 use crate::plan::Planned;
 use jl_cache::Cache;
 use jl_journal::Journal;
-use jl_relink::{Prepared, Snapshot, World, dispatch, prepare_in};
+use jl_relink::{Prepared, Snapshot, World, dispatch, prepare_counted, prepare_in};
 use jl_types::{Answer, Event, Limits, Link, PrepareFault, Recv, Refusal, Reply, SiteNo, Work};
 use std::alloc::{AllocError, Global};
 use std::marker::Model;
@@ -118,6 +118,41 @@ impl Core {
         let (next, reply) = self.perform_next(alloc, event, &mut work)?;
         self.come_to(next, work.ticks());
         Ok(reply)
+    }
+
+    /// Looks up the links of these sites from scratch, and installs them: what is prepared by [`prepare`](Core::prepare) and installed by
+    /// [`apply`](Core::apply), but each link is looked up once, since what was prepared in the same world is accepted. What that took is
+    /// what [`last_work`](Core::last_work) tells.
+    ///
+    /// # Errors
+    ///
+    /// Those of [`prepare`](Core::prepare). Nothing has changed then.
+    pub fn install(&mut self, alloc: Global, sites: &[SiteNo]) -> Result<Reply, PrepareFault>
+        ensures installed { IfOk result (λ reply. HasInstalled self.old sites.now self.new reply) }
+        ensures refused { IfErr result (IsFault (world_of self.old) sites.now) }
+        ensures unchanged { OnErr result (self.new ≡ self.old) }
+    {
+        let mut work = Work::new();
+        let prepared = prepare_counted(alloc, self.world(), self.serial(), sites, &mut work)?;
+        match self.perform_next(alloc, Event::Install(prepared.rows), &mut work) {
+            Ok((next, reply)) => {
+                let ticks = work.ticks();
+                self.come_to(next, ticks);
+                Ok(reply)
+            }
+            Err(_) => Err(PrepareFault::Memory),
+        }
+    }
+
+    /// The second instance, if there is none or it is one event behind, comes to be as the core is, so that the next event doesn't pay for
+    /// the last one: a host calls this when it waits. No clause sees a change. Want of memory is an error, and the next event copies what
+    /// the core keeps then.
+    pub fn catch_up(&mut self, alloc: Global) -> Result<(), AllocError>
+        ensures { self.new ≡ self.old }
+    {
+        let next = self.take_next(alloc)?;
+        self.next = Some(next);
+        Ok(())
     }
 
     /// The first half of [`apply`](Core::apply): every refusal and every growth, and no change. The plan tells what the event is

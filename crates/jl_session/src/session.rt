@@ -1,8 +1,9 @@
 //! Commands, a line each, on one core.
 
-ghost use Rattle.std.specs.Prelude.{◌≡◌, ◌≤◌, IfOk, OnErr};
+ghost use Rattle.std.specs.Prelude.{◌≡◌, ◌≤◌, IfOk, IfErr, OnErr};
 ghost use Rattle.serde_json.specs.View.{view};
-ghost use Rattle.jl_core.specs.State.{IsApplied};
+ghost use Rattle.jl_relink.specs.Preparations.{IsFault};
+ghost use Rattle.jl_core.specs.State.{world_of, IsApplied, HasInstalled};
 ghost use Rattle.jl_json.specs.Commands.{command_of};
 ghost use Rattle.jl_session.specs.Jsons.{IsReadAs, IsTextOf};
 ghost use Rattle.jl_session.specs.Obeying.{IsEventData, LacksAnswer};
@@ -17,7 +18,7 @@ use jl_json::{
     read_command, reply_value,
 };
 use jl_names::Seq;
-use jl_types::{Event, Link, Refusal, Reply, SiteNo};
+use jl_types::{Event, Link, PrepareFault, Refusal, Reply, SiteNo};
 use serde_json::Value;
 use std::alloc::{AllocError, Global};
 use std::marker::Model;
@@ -116,6 +117,14 @@ impl Session {
         self.core.forget();
     }
 
+    /// Lets the core [catch up](Core::catch_up), so that the next event doesn't pay for the one before. No clause sees a change. Want of
+    /// memory is an error.
+    pub fn catch_up(&mut self, alloc: Global) -> Result<(), AllocError>
+        ensures { self.new ≡ self.old }
+    {
+        self.core.catch_up(alloc)
+    }
+
     /// Applies an event, as a command that asks for it does. The batches stay.
     ///
     /// # Errors
@@ -126,6 +135,20 @@ impl Session {
         ensures batches { self.new.batches ≡ self.old.batches }
     {
         self.core.apply(alloc, event)
+    }
+
+    /// Prepares the links of the sites in the core as it is, and [installs](Core::install) them. The batches stay.
+    ///
+    /// # Errors
+    ///
+    /// Those of a preparation. Nothing has changed then.
+    pub fn install(&mut self, alloc: Global, sites: &[SiteNo]) -> Result<Reply, PrepareFault>
+        ensures installed { IfOk result (HasInstalled self.old.core sites.now self.new.core) }
+        ensures refused { IfErr result (IsFault (world_of self.old.core) sites.now) }
+        ensures unchanged { OnErr result (self.new ≡ self.old) }
+        ensures batches { self.new.batches ≡ self.old.batches }
+    {
+        self.core.install(alloc, sites)
     }
 
     /// The answer to a line: a command in JSON, or none.

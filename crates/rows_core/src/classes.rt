@@ -19,6 +19,11 @@ pub(crate) enum Class {
     Many,
     T,
     Itself,
+    Two,
+    Heir,
+    Half,
+    Last,
+    Caller,
 }
 
 /// A class: its name, flags, superclass and superinterfaces, the calls that its first method makes, how often, and its other methods.
@@ -172,6 +177,60 @@ const SELF: &ClassRow = &ClassRow {
     methods: &[],
 };
 
+/// It has f and g.
+const TWO: &ClassRow = &ClassRow {
+    name: "Two",
+    flags: 33,
+    superclass: Some(rows_files::OBJECT),
+    interfaces: &[],
+    calls: &[],
+    times: 1,
+    methods: &[("f", "()V", 1), ("g", "()V", 1)],
+};
+
+/// It has Two's f and g, as Last has.
+const HEIR: &ClassRow = &ClassRow {
+    name: "Heir",
+    flags: 33,
+    superclass: Some("Two"),
+    interfaces: &[],
+    calls: &[],
+    times: 1,
+    methods: &[],
+};
+
+/// It has its own f, and Two's g.
+const HALF: &ClassRow = &ClassRow {
+    name: "Half",
+    flags: 33,
+    superclass: Some("Two"),
+    interfaces: &[],
+    calls: &[],
+    times: 1,
+    methods: &[("f", "()V", 1)],
+};
+
+const LAST: &ClassRow = &ClassRow {
+    name: "Last",
+    flags: 33,
+    superclass: Some("Two"),
+    interfaces: &[],
+    calls: &[],
+    times: 1,
+    methods: &[],
+};
+
+/// It calls Two.f and Two.g, twice.
+const CALLER: &ClassRow = &ClassRow {
+    name: "Caller",
+    flags: 33,
+    superclass: Some(rows_files::OBJECT),
+    interfaces: &[],
+    calls: &[Virtual("Two", "f"), Virtual("Two", "g")],
+    times: 2,
+    methods: &[],
+};
+
 /// What the class has.
 pub(crate) fn row_of(class: Class) -> &'static ClassRow {
     match class {
@@ -188,5 +247,10 @@ pub(crate) fn row_of(class: Class) -> &'static ClassRow {
         Class::Many => MANY,
         Class::T => T,
         Class::Itself => SELF,
+        Class::Two => TWO,
+        Class::Heir => HEIR,
+        Class::Half => HALF,
+        Class::Last => LAST,
+        Class::Caller => CALLER,
     }
 }

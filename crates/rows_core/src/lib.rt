@@ -8,6 +8,8 @@ mod classes;
 #[cfg(test)]
 mod cores;
 #[cfg(test)]
+mod installs;
+#[cfg(test)]
 mod limits;
 #[cfg(test)]
 mod logs;

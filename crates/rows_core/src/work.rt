@@ -1,6 +1,8 @@
 //! How much work events take: events one after another, what each is answered, and the work that is told then.
 
-use crate::classes::Class::{A, Abstract, Alone, B, C, D, E, M, Many, Object, T, Z};
+use crate::classes::Class::{
+    A, Abstract, Alone, B, C, Caller, D, E, Half, Heir, Last, M, Many, Object, T, Two, Z,
+};
 use crate::cores::{is_text, refused};
 use crate::steps::Shape::*;
 use crate::steps::Step::*;
@@ -113,6 +115,51 @@ const BY_CLASSES_BESIDE_AN_ABSTRACT_ONE: &[Row] = &[
     (Applied, Define(0, B), DropsNone, 1, 1),
     (Applied, Point, DropsNone, 0, 0),
     (Applied, Define(0, C), DropsFirst, 1, 1),
+];
+
+/// Sites 0 and 1 run Two.f, and site 2 runs Two.g.
+const BY_GROUPS: &[Row] = &[
+    (Applied, Define(0, Object), DropsNone, 0, 0),
+    (Applied, Define(0, Two), DropsNone, 0, 0),
+    (Applied, Define(0, Caller), DropsNone, 0, 0),
+    (Applied, Request(2, 0), DropsNone, 0, 0),
+    (Applied, Request(2, 6), DropsNone, 0, 0),
+    (Applied, Install(&[0, 1]), DropsNone, 2, 2),
+    // Both sites run the one method that the class inherits, and it is searched for once.
+    (Applied, Define(0, Heir), DropsNone, 1, 1),
+    (Applied, Request(2, 3), DropsNone, 0, 0),
+    (Applied, Install(&[2]), DropsNone, 1, 1),
+    // Each of the two methods is searched for once.
+    (Applied, Loader, DropsNone, 0, 0),
+    (Applied, Delegate(1, "Two"), DropsNone, 0, 0),
+    (Applied, Define(1, Heir), DropsNone, 2, 2),
+    // The class has an f of its own, so it is asked of at both sites; g is searched for once.
+    (Applied, Define(0, Half), DropsBoth, 3, 3),
+    // No site runs f any more.
+    (Applied, Define(0, Last), DropsNone, 1, 1),
+];
+
+/// Nine receivers, of which each but B has an f of its own: no further one is asked of.
+const BY_A_MEGAMORPHIC_LINK: &[Row] = &[
+    (Applied, Define(0, Object), DropsNone, 0, 0),
+    (Applied, Define(0, A), DropsNone, 0, 0),
+    (Applied, Define(0, B), DropsNone, 0, 0),
+    (Applied, Define(0, C), DropsNone, 0, 0),
+    (Applied, Define(0, D), DropsNone, 0, 0),
+    (Applied, Define(0, E), DropsNone, 0, 0),
+    (Applied, Loader, DropsNone, 0, 0),
+    (Applied, Delegate(1, "A"), DropsNone, 0, 0),
+    (Applied, Define(1, C), DropsNone, 0, 0),
+    (Applied, Define(1, D), DropsNone, 0, 0),
+    (Applied, Define(1, E), DropsNone, 0, 0),
+    (Applied, Loader, DropsNone, 0, 0),
+    (Applied, Delegate(2, "A"), DropsNone, 0, 0),
+    (Applied, Define(2, C), DropsNone, 0, 0),
+    (Applied, Define(0, M), DropsNone, 0, 0),
+    (Applied, Request(10, 0), DropsNone, 0, 0),
+    (Applied, Install(&[0]), DropsNone, 1, 9),
+    (Applied, Define(2, B), DropsNone, 0, 0),
+    (Applied, Define(2, D), DropsNone, 0, 0),
 ];
 
 /// What events take that are planned first.
@@ -469,7 +516,7 @@ fn other(alloc: Global, core: &mut Core, rows: &[Row]) -> Option<usize> {
 
 /// The same of a table, on a new core.
 fn other_in(alloc: Global, rows: &[Row]) -> Option<usize> {
-    match Core::new(alloc, 2) {
+    match Core::new(alloc, 3) {
         Ok(mut core) => {
             if core.last_work() > 0 {
                 return Some(rows.len());
@@ -499,6 +546,8 @@ fn takes_one_walk_or_evaluation(rt: HostRuntime) {
         "BY_CLASSES_BESIDE_AN_ABSTRACT_ONE",
         BY_CLASSES_BESIDE_AN_ABSTRACT_ONE,
     );
+    assert_table(&rt, "BY_GROUPS", BY_GROUPS);
+    assert_table(&rt, "BY_A_MEGAMORPHIC_LINK", BY_A_MEGAMORPHIC_LINK);
     assert_table(&rt, "BY_PLANS", BY_PLANS);
     assert_table(&rt, "BY_ONE_POINT", BY_ONE_POINT);
     assert_table(

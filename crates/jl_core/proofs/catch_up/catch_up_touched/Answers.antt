@@ -1,7 +1,7 @@
 use Rattle.std.specs.Prelude.{ℕ, List, if◌then◌else◌}
 use Rattle.std.proofs.Common.{ap, ◌∙◌}
 use Rattle.jl_cache.specs.Links.{link_at}
-use Rattle.jl_deps.specs.Indexes.{footprint_at}
+use Rattle.jl_deps.specs.Indexes.{rests_at}
 use Rattle.jl_core.specs.ForProofs.Touched.{has}
 use Rattle.jl_core.proofs.ReplayLaws.{links_followed, index_followed}
 use Rattle.jl_core.proofs.catch_up.catch_up_touched.Goals as goal
@@ -32,4 +32,4 @@ returns-clause-index c =
     c.take_over.new.index
     (λ s.
     c.in_ok-take_over.ensures.index s
-    ∙ ap (λ (ts : List ℕ). if has s ts then footprint_at c.args.index_ahead.now s else footprint_at c.forget_retired.new.index s) c.as_slice.ensures.value)
+    ∙ ap (λ (ts : List ℕ). if has s ts then rests_at c.args.index_ahead.now s else rests_at c.forget_retired.new.index s) c.as_slice.ensures.value)

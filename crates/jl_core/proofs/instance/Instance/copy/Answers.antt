@@ -1,5 +1,4 @@
 use Rattle.std.proofs.Common.{sym, subst}
-use Rattle.jl_types.specs.Values.World.{World}
 use Rattle.jl_types.specs.Events.Limits.{IsWithin}
 use Rattle.jl_core.proofs.HistoryLaws.{exact_inside, exact_same, index_same}
 use Rattle.jl_core.proofs.instance.Instance.copy.Goals as goal
