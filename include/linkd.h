@@ -32,7 +32,7 @@ extern "C" {
 #endif
 
 /* Grows with each change of this header; linkd_version() tells it of the library. */
-#define LINKD_VERSION 8
+#define LINKD_VERSION 9
 
 typedef struct linkd linkd;
 typedef struct linkd_seat linkd_seat;
@@ -415,6 +415,11 @@ uint32_t linkd_awaited(linkd *at, uint32_t site, uint8_t *out, size_t capacity, 
 /* How many selections, special searches and evaluations of call sites the last accepted event took: what it cost beside the sites that
  * it dropped. */
 uint32_t linkd_last_work(linkd *at, uint64_t *work);
+/* A linker has two instances of all that it keeps. An event is made in the second one, in which the event before it is done first, so that it
+ * pays for that one, too. This call does that beforehand, where it isn't done: a host makes it when it waits, above all after a retirement.
+ * No later call is answered otherwise. This call takes memory, as the next event would. LINKD_MEMORY: the next event copies all that the
+ * linker keeps. */
+uint32_t linkd_catch_up(linkd *at);
 
 /* How many loaders, classes, sites, call sites and switch points there ever were, retired and released ones among them. Where it is
  * LINKD_CLOSED each count is written as 0. */

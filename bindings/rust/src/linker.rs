@@ -275,6 +275,15 @@ impl Linker {
         work
     }
 
+    /// Does the last event in the second of the two instances of all that the linker keeps, where it isn't done there, so that the next event
+    /// doesn't pay for it: for when a program waits. No later call is answered otherwise.
+    ///
+    /// [`Error::Memory`]: the next event copies all that the linker keeps.
+    pub fn catch_up(&mut self) -> Result<(), Error> {
+        let status = unsafe { raw::linkd_catch_up(self.at()) };
+        done(status, &Told::default())
+    }
+
     /// What a call comes to now, on null or on an object of the class, linked or not.
     #[inline]
     pub fn call(&mut self, site: SiteId, receiver: Option<ClassId>) -> Answer {

@@ -811,6 +811,22 @@ fn the_last_event_has_its_work() -> Result<(), Error> {
 }
 
 #[test]
+fn a_linker_that_catches_up_goes_on_as_before() -> Result<(), Error> {
+    let mut world = world()?;
+    world.linker.catch_up()?;
+    world.linker.install(&[world.site])?;
+    world.linker.catch_up()?;
+    world.linker.catch_up()?;
+    overridden(&mut world)?;
+    world.linker.catch_up()?;
+    assert_eq!(world.linker.dropped(), [world.site]);
+    assert_eq!(world.linker.link_of(world.site), None);
+    world.linker.install(&[world.site])?;
+    assert_eq!(world.linker.last_work(), 3);
+    Ok(())
+}
+
+#[test]
 fn the_library_is_of_the_header() {
     let header = include_str!("../../../include/linkd.h");
     assert!(header.contains(&format!("#define LINKD_VERSION {}\n", linkd::version())));

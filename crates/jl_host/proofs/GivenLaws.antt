@@ -1,9 +1,7 @@
 -- Links that were prepared are read again, and accepted while the world is the one in which they were.
 use Rattle.std.specs.Prelude.{◌≡◌, ◌⊎◌, ℕ, nat_lt, Bool, true, false, List, [], ◌∷◌, ◌++◌, map, drop, length, Option, Some, None, option_map}
-use Rattle.std.specs.Prelude.{Result, Ok, Err, MatchBool, MatchOption, if◌then◌else◌}
-use Rattle.std.specs.Bool.{then_some}
+use Rattle.std.specs.Prelude.{Result, Ok, Err, MatchBool, MatchOption}
 use Rattle.std.proofs.Common.{refl, ap, sym, subst, ◌∙◌, arith, inl, inr}
-use Rattle.std.proofs.lemmas.List.{length-map}
 use Rattle.jl_types.specs.declared.event.EventOf.TheVariants as event
 use Rattle.jl_types.specs.declared.event.Made.TheVariants as made
 use Rattle.jl_types.specs.declared.event.Reply.{Reply}
@@ -12,22 +10,16 @@ use Rattle.jl_types.specs.declared.refusal.PrepareFault.{PrepareFault}
 use Rattle.jl_types.specs.declared.refusal.PrepareFault.TheVariants as fault
 use Rattle.jl_types.specs.declared.refusal.Refusal.{Refusal}
 use Rattle.jl_types.specs.declared.refusal.Refusal.TheVariants as refusal
-use Rattle.jl_types.specs.declared.refusal.SitesFault.{SitesFault}
 use Rattle.jl_types.specs.Values.World.{World}
 use Rattle.jl_types.specs.Linkage.Links.{scratch}
-use Rattle.jl_types.specs.Linkage.Resolution.{first_of}
-use Rattle.jl_types.specs.ForProofs.SameLink.{link_decides}
-use Rattle.jl_types.specs.Events.Batches.{is_bad_size, sites_fault}
-use Rattle.jl_types.specs.Events.Verdict.{row_fault, install_fault, Accepts, unless}
-use Rattle.jl_types.specs.Events.Verdict as events
+use Rattle.jl_types.specs.Events.Verdict.{install_fault, Accepts, unless}
 use Rattle.jl_types.specs.Events.History.{replied}
 use Rattle.jl_types.specs.Events.Preparation.{prepare_fault, ArePrepared}
-use Rattle.jl_types.specs.Events.Preparation as preparation
 use Rattle.jl_types.proofs.Accepting.{accepted_installs}
-use Rattle.jl_types.proofs.Firsts.{first_none, test_none}
 use Rattle.jl_relink.specs.declared.preparation.Prepared.{Prepared}
 use Rattle.jl_relink.specs.Preparations.{Snapshot, IsPreparation}
 use Rattle.jl_core.specs.State.{State, IsApplied, world_of}
+use Rattle.jl_core.proofs.GivenLaws.{no_install_fault}
 use Rattle.jl_host.specs.declared.reading.LinkRow.{LinkRow}
 use Rattle.jl_host.specs.declared.shown.LinkShown.{LinkShown}
 use Rattle.jl_host.specs.declared.told.Told.{Told}
@@ -38,41 +30,6 @@ use Rattle.jl_host.specs.Reading.{all_of, with_first, rows_of, runs_declarable}
 use Rattle.jl_host.specs.Linkers.{Opened}
 use Rattle.jl_host.specs.Views.{links_in, given, IsPreparedIn, IsPrepareOf, IsUnprepared, IsViewPrepare, IsGiven, IsNotGiven, IsInstalledLinks, IsInstallLinks}
 use Rattle.jl_host.proofs.ReadAgain.{read_again, whole_from_scratch}
-
--- ---- what was prepared has no fault where it was
-
-prepared_sites : (w : World) (sites : List ℕ) (rows : List (ℕ × Link)) → ArePrepared w sites rows → map (λ row. row.0) rows ≡ sites
-prepared_sites w [] [] prepared = refl
-prepared_sites w [] (row ∷ rows) prepared = absurd prepared
-prepared_sites w (s ∷ sites) [] prepared = absurd prepared
-prepared_sites w (s ∷ sites) (row ∷ rows) prepared = λ i. prepared.0.0 i ∷ prepared_sites w sites rows prepared.1 i
-
-no_row_fault : (w : World) (sites : List ℕ) (rows : List (ℕ × Link)) → ArePrepared w sites rows
-    → first_of (map (λ row. row_fault row.0 row.1 (scratch w row.0)) rows) ≡ None
-no_row_fault w [] [] prepared = refl
-no_row_fault w [] (row ∷ rows) prepared = absurd prepared
-no_row_fault w (s ∷ sites) [] prepared = absurd prepared
-no_row_fault w (s ∷ sites) (row ∷ rows) prepared =
-    let now : scratch w row.0 ≡ Ok row.1 = ap (scratch w) prepared.0.0 ∙ prepared.0.1 in
-    let fine : row_fault row.0 row.1 (scratch w row.0) ≡ None =
-    ap (row_fault row.0 row.1) now ∙ ap (λ (b : Bool). if b then None else Some (refusal.Stale row.0 row.1)) ((link_decides row.1 row.1).1 refl) in
-    ap (λ (o : Option Refusal). first_of (o ∷ map (λ r. row_fault r.0 r.1 (scratch w r.0)) rows)) fine ∙ no_row_fault w sites rows prepared.1
-
-no_sites : (o : Option SitesFault) → option_map preparation.of_sites o ≡ None → o ≡ None
-no_sites None e = refl
-no_sites (Some f) e = cc
-
-no_install_fault : (w : World) (sites : List ℕ) (rows : List (ℕ × Link)) → prepare_fault w sites ≡ None → ArePrepared w sites rows → install_fault w rows ≡ None
-no_install_fault w sites rows none prepared =
-    let same = prepared_sites w sites rows prepared in
-    let size = first_none (then_some (is_bad_size (length sites)) fault.BatchSize) _ none in
-    let known = first_none (option_map preparation.of_sites (sites_fault w [] sites)) _ size.1 in
-    let size_is : is_bad_size (length rows) ≡ false =
-    ap is_bad_size (sym (length-map rows (λ (row : ℕ × Link). row.0)) ∙ ap length same) ∙ test_none (is_bad_size (length sites)) fault.BatchSize size.0 in
-    let sites_are : sites_fault w [] (map (λ row. row.0) rows) ≡ None =
-    ap (sites_fault w []) same ∙ no_sites (sites_fault w [] sites) known.0 in
-    let fine = no_row_fault w sites rows prepared in
-    λ i. first_of (then_some (size_is i) refusal.BatchSize ∷ option_map events.of_sites (sites_are i) ∷ fine i ∷ [])
 
 -- ---- what was prepared is read again
 

@@ -1,5 +1,5 @@
 -- What a linker is asked of its classes and methods, and of its work, and what each of these calls leaves.
-use Rattle.std.specs.Prelude.{◌≡◌, ◌≤◌, ℕ, List, map, slice_get, Option, Some, None, option_map}
+use Rattle.std.specs.Prelude.{◌≡◌, ◌⊎◌, ◌≤◌, ℕ, List, map, slice_get, Option, Some, None, option_map}
 use Rattle.std.specs.Option.{option_and_then}
 use Rattle.jl_class.specs.declared.site.Kind.{Kind}
 use Rattle.jl_class.specs.declared.site.Kind.TheVariants.{Virtual, Special, Static, Interface, Dynamic}
@@ -10,7 +10,7 @@ use Rattle.jl_types.specs.Values.Members.{lookup, method_at}
 use Rattle.jl_core.specs.State.{events, world_of}
 use Rattle.jl_core.specs.WorkBounds.{most_of_last}
 use Rattle.jl_host.specs.declared.invocations.Invocation.{Invocation}
-use Rattle.jl_host.specs.Numbers.{done, unknown_class, no_such_place, closed}
+use Rattle.jl_host.specs.Numbers.{done, memory, unknown_class, no_such_place, closed}
 use Rattle.jl_host.specs.Copies.{IsCopied}
 use Rattle.jl_host.specs.Reading.{method_of}
 use Rattle.jl_host.specs.Linkers.{Opened}
@@ -92,3 +92,8 @@ abbrev pub IsLastWork : Option Opened → ℕ → ℕ → ℕ → Option Opened 
 IsLastWork None before status after new = (status ≡ closed) × (after ≡ before) × (new ≡ None)
 IsLastWork (Some old) before status after new =
     (status ≡ done) × (after ≤ most_of_last (events old.session.core)) × (new ≡ Some old)
+
+-- the linker isn't open; or it is as before, also where memory lacked
+abbrev pub IsCatchUp : Option Opened → ℕ → Option Opened → Type 0
+IsCatchUp None status new = (status ≡ closed) × (new ≡ None)
+IsCatchUp (Some old) status new = ((status ≡ done) ⊎ (status ≡ memory)) × (new ≡ Some old)

@@ -11,7 +11,7 @@ ghost use Rattle.jl_host.specs.Linkers.{IsBind, IsRetire, IsRetireAll, IsRelease
 ghost use Rattle.jl_session.specs.Sessions.{snapshot_of};
 ghost use Rattle.jl_host.specs.Targets.{IsNewCallSiteOf, IsSetTargetOf};
 ghost use Rattle.jl_host.specs.Views.{IsInstallLinks};
-ghost use Rattle.jl_host.specs.Asking.{IsLookup, IsClassName, IsMethodName, IsMethodType, IsInvocations, IsNamed, IsAwaited, IsLastWork};
+ghost use Rattle.jl_host.specs.Asking.{IsLookup, IsClassName, IsMethodName, IsMethodType, IsInvocations, IsNamed, IsAwaited, IsLastWork, IsCatchUp};
 ghost use Rattle.jl_host.specs.Renewals.{IsCounts, IsCountsPresent, IsRenew, arrays_of, released_of};
 ghost use Rattle.jl_host.specs.Renewing.{IsBegunOf};
 ghost use Rattle.jl_host.specs.Linkers.{Opened as OpenedValue};
@@ -547,6 +547,17 @@ impl Linker {
         };
         *work = opened.core().last_work();
         DONE
+    }
+
+    /// Does the last event in the second instance of all that the linker keeps, where it isn't done there, so that the next event doesn't pay
+    /// for it. Want of memory loses that instance, and the next event copies the first one.
+    pub fn catch_up(&mut self, alloc: Global) -> u32
+        ensures { IsCatchUp self.old result self.new }
+    {
+        match &mut self.opened {
+            Some(opened) => opened.catch_up(alloc),
+            None => CLOSED,
+        }
     }
 
     /// Answers any command of a session, as text. The answer is kept, and its length told.

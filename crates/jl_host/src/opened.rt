@@ -6,7 +6,7 @@ ghost use Rattle.jl_types.specs.Events.History.{installed};
 ghost use Rattle.jl_core.specs.State.{State, events, world_of};
 ghost use Rattle.jl_types.specs.Events.Limits.{AreAllowed};
 ghost use Rattle.jl_renewal.specs.Renewal.{IsRenewal};
-ghost use Rattle.jl_host.specs.Numbers.{memory};
+ghost use Rattle.jl_host.specs.Numbers.{done, memory};
 ghost use Rattle.jl_host.specs.Linkers.{opened_over, newly_opened, IsAsked, IsAskedIf, IsUnasked, call_site_of, IsDefinedUpTo, IsInstalled, IsAnswered};
 ghost use Rattle.jl_host.specs.Linkers.{last_dropped};
 ghost use Rattle.jl_host.specs.Seats.{seen_of};
@@ -266,12 +266,18 @@ impl Opened {
         self.ask(alloc, Event::NewCallSite(kind, ty, target), told)
     }
 
-    /// Prepares the sites in the core as it is, and asks for the install of their links.
+    /// Prepares the sites in the core as it is, and installs their links. Each is looked up once.
     pub(crate) fn install(&mut self, alloc: Global, sites: &[SiteNo], told: &mut Told) -> u32
         ensures { IsInstalled sites.now self.old result told.new self.new }
     {
-        match self.session.core().prepare(alloc, sites) {
-            Ok(prepared) => self.ask(alloc, Event::Install(prepared.rows), told),
+        match self.session.install(alloc, sites) {
+            Ok(reply) => {
+                let outcome = Ok(reply);
+                let status = tell(&outcome, told);
+                self.named = class_named(outcome);
+                self.forget_past(alloc);
+                status
+            }
             Err(fault) => tell_unprepared(fault, told),
         }
     }
@@ -292,6 +298,17 @@ impl Opened {
         self.named = class_named(outcome);
         self.forget_past(alloc);
         status
+    }
+
+    /// Lets the core catch up, so that the next event doesn't pay for the one before.
+    pub(crate) fn catch_up(&mut self, alloc: Global) -> u32
+        ensures same { self.new ≡ self.old }
+        ensures status { (result ≡ done) ⊎ (result ≡ memory) }
+    {
+        if self.session.catch_up(alloc).is_err() {
+            return MEMORY;
+        }
+        DONE
     }
 
     /// What the last accepted event dropped. Takes no memory.

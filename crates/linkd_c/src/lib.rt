@@ -10,7 +10,7 @@ ghost use Rattle.jl_host.specs.Linkers.{Opened, IsOpen, IsOpenWith, limits_of, I
 ghost use Rattle.jl_host.specs.Linkers.{IsInvalidate, IsBind, IsInstall, IsDropped, IsCall, IsLinkOf, IsAnswer, IsTake};
 ghost use Rattle.jl_host.specs.Seats.{SeatView, IsRefresh, IsSeatCall};
 ghost use Rattle.jl_host.specs.Memos.{IsMemoOpen, IsMemoAsk, IsMemoCall, IsSeatCallWith};
-ghost use Rattle.jl_host.specs.Asking.{IsLookup, IsClassName, IsMethodName, IsMethodType, IsInvocations, IsNamed, IsAwaited, IsLastWork};
+ghost use Rattle.jl_host.specs.Asking.{IsLookup, IsClassName, IsMethodName, IsMethodType, IsInvocations, IsNamed, IsAwaited};
 ghost use Rattle.jl_host.specs.Targets.{IsNewCallSiteOf, IsSetTargetOf};
 ghost use Rattle.jl_host.specs.Views.{IsViewTake, IsViewCall, IsViewSerial, IsViewPrepare, IsInstallLinks};
 ghost use Rattle.jl_host.specs.Renewals.{IsCounts, IsCountsPresent, IsRenew, arrays_of, released_of};
@@ -24,6 +24,7 @@ ghost use Rattle.linkd_c.specs.Handle.{view_at, view_left, taken_left, view_room
 mod handles;
 mod renewals;
 mod retirements;
+mod work;
 
 pub use handles::{Linkd, LinkdMemo, LinkdRenewal, LinkdSeat, LinkdView};
 use jl_host::{
@@ -34,9 +35,9 @@ use std::alloc::Global;
 /// Which header the library is of: LINKD_VERSION there.
 #[unsafe(no_mangle)]
 pub extern "C" fn linkd_version() -> u32
-    ensures { result ≡ 8 }
+    ensures { result ≡ 9 }
 {
-    8
+    9
 }
 
 /// The bytes of a linker.
@@ -453,16 +454,6 @@ pub unsafe extern "C" fn linkd_awaited(
     ensures* { sem 𝓛 (linker_left at (λ new. IsAwaited site old out.old length.old result out.new length.new new)) }
 {
     (*(at as *mut Linker)).awaited(site, out, length)
-}
-
-/// How much the last accepted event took. Takes no memory.
-#[unsafe(no_mangle)]
-pub unsafe extern "C" fn linkd_last_work(at: *mut Linkd, work: &mut u64) -> u32
-    ghost old: { Option Opened }
-    requires* { sem 𝓛 (linker_at at old) }
-    ensures* { sem 𝓛 (linker_left at (λ new. IsLastWork old work.old result work.new new)) }
-{
-    (*(at as *mut Linker)).last_work(work)
 }
 
 /// How many of each there ever were. Takes no memory.

@@ -34,4 +34,6 @@ mod streams;
 #[cfg(test)]
 mod values;
 #[cfg(test)]
+mod waiting;
+#[cfg(test)]
 mod words;

@@ -79,6 +79,7 @@ pub enum Step {
     /// The invocations of a method, copied to an array of so many.
     Invocations(u32, u32, usize),
     LastWork,
+    CatchUp,
     /// The class that the last refusal told of, which is to have this name.
     Named(&'static str),
     /// The class for which a site waits, which is to have this name.
@@ -646,6 +647,7 @@ pub fn answer(
         Step::Says(line, text) => said_numbers(alloc, linker, line, text),
         Step::Counts => count_numbers(alloc, linker, false),
         Step::CountsPresent => count_numbers(alloc, linker, true),
+        Step::CatchUp => numbers(&[linker.catch_up(alloc)]),
         Step::InvalidateTimes(times, switches) => {
             numbers(&[invalidated(alloc, linker, *times, switches)])
         }

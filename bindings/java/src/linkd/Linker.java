@@ -301,6 +301,14 @@ public final class Linker implements AutoCloseable {
         }
     }
 
+    /**
+     * Does the last event in the second of the two instances of all that the linker keeps, where it isn't done there, so that the next event
+     * doesn't pay for it: for when a program waits. No later call is answered otherwise.
+     */
+    public synchronized void catchUp() {
+        Numbers.done(Native.catchUp(at()));
+    }
+
     /** What a call on null, or without a receiver, comes to now, linked or not. */
     public Answer call(SiteId site) {
         return call(site.number(), Native.NULL);

@@ -88,6 +88,7 @@ final class Native {
     private static final MethodHandle NAMED = status("linkd_named", ADDRESS, JAVA_LONG, ADDRESS);
     private static final MethodHandle AWAITED = status("linkd_awaited", JAVA_INT, ADDRESS, JAVA_LONG, ADDRESS);
     private static final MethodHandle LAST_WORK = status("linkd_last_work", ADDRESS);
+    private static final MethodHandle CATCH_UP = status("linkd_catch_up");
     private static final MethodHandle COUNT = status("linkd_counts", ADDRESS);
     private static final MethodHandle RENEW = status("linkd_renew_into", ADDRESS, JAVA_INT, ADDRESS, JAVA_LONG, ADDRESS, JAVA_LONG,
             ADDRESS, JAVA_LONG, ADDRESS, JAVA_LONG, ADDRESS, JAVA_LONG, ADDRESS, JAVA_LONG, ADDRESS, JAVA_LONG);
@@ -420,6 +421,14 @@ final class Native {
     static int lastWork(MemorySegment at, MemorySegment work) {
         try {
             return (int) LAST_WORK.invokeExact(at, work);
+        } catch (Throwable fault) {
+            throw failed(fault);
+        }
+    }
+
+    static int catchUp(MemorySegment at) {
+        try {
+            return (int) CATCH_UP.invokeExact(at);
         } catch (Throwable fault) {
             throw failed(fault);
         }

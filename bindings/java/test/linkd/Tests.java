@@ -803,6 +803,21 @@ final class Tests {
         }
     }
 
+    private static void aLinkerThatCatchesUpGoesOnAsBefore() {
+        try (World world = World.open()) {
+            world.linker.catchUp();
+            world.linker.install(List.of(world.site));
+            world.linker.catchUp();
+            world.linker.catchUp();
+            world.linker.define(withF("C", "A"));
+            world.linker.catchUp();
+            same(List.of(world.site), world.linker.dropped());
+            same(Optional.empty(), world.linker.linkOf(world.site));
+            world.linker.install(List.of(world.site));
+            same(3L, world.linker.lastWork());
+        }
+    }
+
     private static void classesOfThisJdkAreDefined() throws Exception {
         byte[] file = ClassFiles.of(OBJECT).orElseThrow();
         // Magic number, minor version, major version (JVMS SE 25 §4.1).
@@ -843,6 +858,7 @@ final class Tests {
         refused(Refusal.Plain.CLOSED, linker::namedClass);
         refused(Refusal.Plain.CLOSED, () -> linker.awaitedClass(world.site));
         refused(Refusal.Plain.CLOSED, linker::lastWork);
+        refused(Refusal.Plain.CLOSED, linker::catchUp);
         refused(Refusal.Plain.CLOSED, () -> linker.renew(1, Released.NOTHING));
         refused(Refusal.Plain.CLOSED, () -> linker.beginRenewal(1, Released.NOTHING));
     }
@@ -893,6 +909,7 @@ final class Tests {
                 & passes("invocations are those of the code", Tests::invocationsAreThoseOfTheCode)
                 & passes("what is missing has a name", Tests::whatIsMissingHasAName)
                 & passes("the last event has its work", Tests::theLastEventHasItsWork)
+                & passes("a linker that catches up goes on as before", Tests::aLinkerThatCatchesUpGoesOnAsBefore)
                 & passes("classes of this JDK are defined", Tests::classesOfThisJdkAreDefined)
                 & passes("a closed linker refuses all", Tests::aClosedLinkerRefusesAll);
         System.exit(all ? 0 : 1);

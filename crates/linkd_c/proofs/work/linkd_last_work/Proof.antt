@@ -9,9 +9,9 @@ use Rattle.jl_host.specs.Linkers.{Opened}
 use Rattle.jl_host.specs.Asking.{IsLastWork}
 use Rattle.linkd_c.specs.Handle.{linker_at}
 use Rattle.jl_host.specs.contracts.linker.Linker.{the_row as R}
-use Rattle.linkd_c.specs.contracts.linkd_last_work as f
-use Rattle.linkd_c.proofs.linkd_last_work.Statement.{statement}
-use Rattle.linkd_c.proofs.linkd_last_work.Code as code
+use Rattle.linkd_c.specs.contracts.work.linkd_last_work as f
+use Rattle.linkd_c.proofs.work.linkd_last_work.Statement.{statement}
+use Rattle.linkd_c.proofs.work.linkd_last_work.Code as code
 use Rattle.jl_host.specs.contracts.linker.Linker.last_work as g
 use Rattle.jl_host.proofs.linker.Linker.last_work.Met.{met}
 
