@@ -142,6 +142,7 @@ static uint32_t guarded_by_parts(void) {
 static uint32_t retire(void) { return linkd_retire(at, 1, &told); }
 static uint32_t retire_all(void) { return linkd_retire_all(at, (uint32_t[]){3, 2}, 2, &told); }
 static uint32_t release(void) { return linkd_release(at, (uint32_t[]){1, 0}, 2, (uint32_t[]){0}, 1, &told); }
+static uint32_t catch_up(void) { return linkd_catch_up(at); }
 static uint32_t count_present(void) { return linkd_counts_present(at, &(linkd_count){0}); }
 
 /* Behind C and the invalidation what was prepared before is stale. The second event behind a view is the one that copies. */
@@ -155,8 +156,9 @@ static const struct {
     {"install by value", install_prepared_0}, {"install", install_0}, {"T", t}, {"request", request_t}, {"switch point", switch_point},
     {"call site", guarded}, {"bind", bind}, {"view", take}, {"preparation", prepare_all}, {"install by value", install_prepared_all},
     {"seat", refresh}, {"invalidation", invalidation}, {"install by value", install_prepared_all}, {"install", install_1},
-    {"target", retarget}, {"target by parts", retarget_by_parts}, {"call site by parts", guarded_by_parts}, {"retirement", retire}, {"loader", loader},
-    {"loader", loader}, {"retirements", retire_all}, {"release", release}, {"counts", count_present}, {"seat", refresh}, {"view", take},
+    {"target", retarget}, {"target by parts", retarget_by_parts}, {"call site by parts", guarded_by_parts}, {"catching up", catch_up},
+    {"retirement", retire}, {"catching up", catch_up}, {"catching up", catch_up}, {"loader", loader}, {"loader", loader},
+    {"retirements", retire_all}, {"release", release}, {"counts", count_present}, {"seat", refresh}, {"view", take},
 };
 
 static void print_dropped(void) {

@@ -112,6 +112,7 @@ static void closed(linkd_seat *seat) {
     MUST(linkd_named(at, (uint8_t *)sites, sizeof sites, &length) == LINKD_CLOSED);
     MUST(linkd_awaited(at, 0, (uint8_t *)sites, sizeof sites, &length) == LINKD_CLOSED);
     MUST(linkd_last_work(at, &(uint64_t){0}) == LINKD_CLOSED);
+    MUST(linkd_catch_up(at) == LINKD_CLOSED);
     MUST(linkd_counts(at, &(linkd_count){0}) == LINKD_CLOSED);
     MUST(linkd_counts_present(at, &(linkd_count){0}) == LINKD_CLOSED);
     MUST(linkd_dropped(at, sites, 256, &length) == LINKD_CLOSED);
@@ -149,6 +150,7 @@ static void named(void) {
     MUST(linkd_awaited(at, 0, text, 0, &length) == LINKD_TOO_SHORT && length == 1);
     MUST(linkd_awaited(at, 1, text, 16, &length) == LINKD_UNKNOWN_CLASS && linkd_awaited(at, 9, text, 16, &length) == LINKD_UNKNOWN_CLASS);
     MUST(linkd_last_work(at, &work) == LINKD_DONE);
+    MUST(linkd_catch_up(at) == LINKD_DONE && linkd_catch_up(at) == LINKD_DONE);
     MUST(strcmp(linkd_status_name(LINKD_STALE), "LINKD_STALE") == 0 && linkd_status_name(18) == NULL);
     MUST(strcmp(linkd_fault_name(LINKD_DELEGATE, 3), "LINKD_DELEGATE_ALREADY_RECORDED") == 0);
     MUST(strcmp(linkd_fault_name(LINKD_DEFINE, 4), "LINKD_MISSING_PARENT") == 0);
