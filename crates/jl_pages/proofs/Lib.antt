@@ -1,2 +1,1 @@
 pub mod PageLaws
-pub mod SlotLaws

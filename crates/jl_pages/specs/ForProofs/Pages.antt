@@ -9,7 +9,3 @@ elements pages = flat_map (λ page. page) pages
 -- each page has 64
 abbrev pub AreFull : {T : Type 0} → List (List T) → Type 0
 AreFull pages = AllByRecursion (λ page. length page ≡ 64) pages
-
--- each page has 256
-abbrev pub AreWhole : {T : Type 0} → List (List T) → Type 0
-AreWhole pages = AllByRecursion (λ page. length page ≡ 256) pages

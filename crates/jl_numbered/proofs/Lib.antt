@@ -1,0 +1,2 @@
+pub mod PlacedLaws
+pub mod Rows

@@ -1,0 +1,2 @@
+-- Means of proof. What is promised doesn't rest on how these say it.
+pub mod Placed

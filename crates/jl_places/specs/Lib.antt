@@ -1,0 +1,2 @@
+-- `Parts` is a means of proof.
+pub mod ForProofs

@@ -1,0 +1,2 @@
+-- `Pages` is a means of proof.
+pub mod ForProofs
