@@ -6,7 +6,10 @@ ghost use Rattle.std.specs.Option.{option_copied};
 ghost use Rattle.jl_types.specs.Values.Members as members;
 ghost use Rattle.jl_types.specs.Events.Definitions as definitions;
 ghost use Rattle.jl_types.specs.Linkage.Resolution.{first_of};
-ghost use Rattle.jl_hierarchy.specs.ForProofs.Faults.{first_faults, superclass_faults, named_class, first_place, fault_of, IsThere};
+ghost use Rattle.std.specs.Prelude.{option_to_list};
+ghost use Rattle.std.specs.List.{list_any};
+ghost use Rattle.jl_hierarchy.specs.ForProofs.Faults.{first_faults, superclass_faults, parent_faults, named_class, first_place};
+ghost use Rattle.jl_hierarchy.specs.ForProofs.Faults.{fault_of, IsThere, is_open_row, is_fit_superclass, is_fit_interface, has_unfit_parent};
 
 use crate::classes::Classes;
 use crate::nests::is_among;
@@ -29,8 +32,9 @@ enum FaultAt {
 }
 
 impl Classes {
-    /// The file of a class that the loader may define (JVMS SE 17 §5.3.5), where there may be so many classes: the first half of [`define`](Classes::define),
-    /// for a caller that makes room of its own between the two. Takes no memory.
+    /// The file of a class that the loader may define (JVMS SE 17 §5.3.5), where there may be so many classes: the first half of
+    /// [`define`](Classes::define), for a caller that makes room of its own between the two. Takes no memory. It finds each parent
+    /// once by its name, where the class has no fault.
     ///
     /// # Errors
     ///
@@ -60,8 +64,8 @@ impl Classes {
         }
     }
 
-    /// Whether the loader may define the class of the file, where there may be so many classes, for a caller that keeps the file: what [`admitted`](Classes::admitted)
-    /// says of a file that it takes. Takes no memory.
+    /// Whether the loader may define the class of the file, where there may be so many classes, for a caller that keeps the file:
+    /// what [`admitted`](Classes::admitted) says of a file that it takes. Takes no memory.
     pub fn admits(&self, loader: LoaderId, file: &ClassFile, most_classes: u32) -> bool
         ensures { result ≡ is_none (definitions.define_fault most_classes self.now loader file.now) }
     {
@@ -76,6 +80,23 @@ impl Classes {
         if let Some(fault) = self.first_fault(loader, file) {
             return Some(FaultAt::Plain(fault));
         }
+        if let Some(fault) = self.parent_fault(loader, file) {
+            return Some(fault);
+        }
+        if self.rows.len() >= most_classes {
+            return Some(FaultAt::Plain(DefineFault::Full));
+        }
+        None
+    }
+
+    /// The first fault of a parent. Which one it is comes to be asked only where there is one.
+    fn parent_fault(&self, loader: LoaderId, file: &ClassFile) -> Option<FaultAt>
+        ensures first { first_of (parent_faults self.now loader file.now) ≡ option_and_then (fault_of file.now) result }
+        ensures there { IfSome result (IsThere file.now) }
+    {
+        if !self.has_unfit_parent(loader, file) {
+            return None;
+        }
         if let Some(place) = self.missing_parent(loader, file) {
             return Some(FaultAt::Missing(place));
         }
@@ -88,10 +109,59 @@ impl Classes {
         if let Some(place) = self.inaccessible_parent(loader, file) {
             return Some(FaultAt::Closed(place));
         }
-        if self.rows.len() >= most_classes {
-            return Some(FaultAt::Plain(DefineFault::Full));
-        }
         None
+    }
+
+    /// Whether the superclass or a superinterface has a fault. It finds each once by its name.
+    fn has_unfit_parent(&self, loader: LoaderId, file: &ClassFile) -> bool
+        ensures { result ≡ has_unfit_parent self.now loader file.now }
+    {
+        self.has_unfit_superclass(loader, file) || self.has_unfit_interface(loader, file)
+    }
+
+    /// Whether the superclass, if there is one, has a fault.
+    fn has_unfit_superclass(&self, loader: LoaderId, file: &ClassFile) -> bool
+        ensures { result ≡ list_any (λ name. not (is_fit_superclass self.now loader file.now name)) (option_to_list file.now.superclass) }
+    {
+        match file.superclass() {
+            Some(name) => !self.is_fit_superclass(loader, file, name),
+            None => false,
+        }
+    }
+
+    /// Whether one of the listed superinterfaces has a fault.
+    fn has_unfit_interface(&self, loader: LoaderId, file: &ClassFile) -> bool
+        ensures { result ≡ list_any (λ name. not (is_fit_interface self.now loader file.now name)) file.now.interfaces }
+    {
+        file.interfaces()
+            .iter()
+            .any(|name| !self.is_fit_interface(loader, file, name))
+    }
+
+    /// Whether the class of this name may be the superclass: it is recorded, open to the class, no interface and not final.
+    fn is_fit_superclass(&self, loader: LoaderId, file: &ClassFile, name: &Name) -> bool
+        ensures { result ≡ is_fit_superclass self.now loader file.now name.now }
+    {
+        match self.named(loader, name.as_slice()) {
+            Some(row) => {
+                !has_flag(row.file().flags(), INTERFACE)
+                    && !has_flag(row.file().flags(), FINAL)
+                    && is_open_to(row, loader, file)
+            }
+            None => false,
+        }
+    }
+
+    /// Whether the class of this name may be a superinterface: it is recorded, open to the class, and an interface.
+    fn is_fit_interface(&self, loader: LoaderId, file: &ClassFile, name: &Name) -> bool
+        ensures { result ≡ is_fit_interface self.now loader file.now name.now }
+    {
+        match self.named(loader, name.as_slice()) {
+            Some(row) => {
+                has_flag(row.file().flags(), INTERFACE) && is_open_to(row, loader, file)
+            }
+            None => false,
+        }
     }
 
     /// The first of the faults that are tested before the parents are looked up.
@@ -199,12 +269,7 @@ impl Classes {
         ensures { result ≡ definitions.is_open_parent self.now loader file.now name.now }
     {
         match self.named(loader, name.as_slice()) {
-            Some(row) => {
-                has_flag(row.file().flags(), PUBLIC)
-                    || row.loader() == loader
-                        && package_of(row.file().name().as_slice())
-                            == package_of(file.name().as_slice())
-            }
+            Some(row) => is_open_to(row, loader, file),
             None => false,
         }
     }
@@ -215,6 +280,15 @@ impl Classes {
     {
         self.class_at(self.lookup(loader, name)?)
     }
+}
+
+/// Whether the class is accessible to the one that the loader makes of the file.
+fn is_open_to(row: &Class, loader: LoaderId, file: &ClassFile) -> bool
+    ensures { result ≡ is_open_row row.now loader file.now }
+{
+    has_flag(row.file().flags(), PUBLIC)
+        || row.loader() == loader
+            && package_of(row.file().name().as_slice()) == package_of(file.name().as_slice())
 }
 
 /// The first place among the parents, where the superclass, if there is one, is so or not, and this is the first place among

@@ -1,12 +1,13 @@
 -- The faults of a definition as they are tested: before the parents are looked up, and those of the superclass alone. A means
 -- of proof.
 use Rattle.std.specs.Prelude.{ℕ, ◌+◌, ◌<◌, Bool, true, false, not, ◌&&◌, ◌==◌, List, [], ◌∷◌, slice_get, Option, Some, None, option_map}
-use Rattle.std.specs.Prelude.{option_and_then, option_to_list, is_some, length, ⊤}
+use Rattle.std.specs.Prelude.{option_and_then, option_to_list, is_some, is_none, length, ⊤, find, ◌||◌, ◌++◌}
 use Rattle.std.specs.List.{list_any}
 use Rattle.std.specs.Bool.{then_some}
 use Rattle.std.specs.Str.{bytes_eq}
 use Rattle.jl_class.specs.Class.{ClassFile}
-use Rattle.jl_class.specs.Flags.{object}
+use Rattle.jl_class.specs.Flags.{object, has_flag, PUBLIC}
+use Rattle.jl_names.specs.ClassNames.{package_of}
 use Rattle.jl_types.specs.declared.refusal.DefineFault.{DefineFault}
 use Rattle.jl_types.specs.declared.refusal.DefineFault.TheVariants.{UnknownLoader, SecondObject, AlreadyRecorded, NamesItself, SuperIsInterface, FinalSuper}
 use Rattle.jl_types.specs.declared.refusal.DefineFault.TheVariants.{MissingParent, NotAnInterface, InaccessibleParent}
@@ -14,7 +15,7 @@ use Rattle.jl_hierarchy.specs.declared.faults.FaultAt.{FaultAt}
 use Rattle.jl_hierarchy.specs.declared.faults.FaultAt.TheVariants as at
 use Rattle.jl_types.specs.Values.World.{Class, Classes}
 use Rattle.jl_types.specs.Values.Members.{lookup, is_interface}
-use Rattle.jl_types.specs.Events.Definitions.{is_unknown, parent_names, named_test, is_final}
+use Rattle.jl_types.specs.Events.Definitions.{is_unknown, parent_names, named_test, is_final, is_open_parent}
 
 abbrev pub first_faults : Classes → ℕ → ClassFile → List (Option DefineFault)
 first_faults cs loader file =
@@ -29,6 +30,35 @@ superclass_faults cs loader file =
     then_some (list_any (named_test (is_interface cs) cs loader) (option_to_list file.superclass)) SuperIsInterface
     ∷ then_some (list_any (named_test (is_final cs) cs loader) (option_to_list file.superclass)) FinalSuper
     ∷ []
+
+-- those of the parents
+abbrev pub parent_faults : Classes → ℕ → ClassFile → List (Option DefineFault)
+parent_faults cs loader file =
+    option_map MissingParent (find (λ name. is_none (lookup cs loader name)) (parent_names file))
+    ∷ superclass_faults cs loader file
+    ++ option_map NotAnInterface (find (λ name. not (named_test (is_interface cs) cs loader name)) file.interfaces)
+    ∷ option_map InaccessibleParent (find (λ name. not (is_open_parent cs loader file name)) (parent_names file))
+    ∷ []
+
+-- the class is public, or in the run-time package of the one that the loader makes of the file
+abbrev pub is_open_row : Class → ℕ → ClassFile → Bool
+is_open_row row loader file =
+    has_flag row.file.flags PUBLIC || (row.loader == loader) && bytes_eq (package_of row.file.name) (package_of file.name)
+
+-- the class of this name may be the superclass
+abbrev pub is_fit_superclass : Classes → ℕ → ClassFile → List ℕ → Bool
+is_fit_superclass cs loader file name =
+    not (named_test (is_interface cs) cs loader name) && not (named_test (is_final cs) cs loader name) && is_open_parent cs loader file name
+
+-- the class of this name may be a superinterface
+abbrev pub is_fit_interface : Classes → ℕ → ClassFile → List ℕ → Bool
+is_fit_interface cs loader file name = named_test (is_interface cs) cs loader name && is_open_parent cs loader file name
+
+-- a parent has a fault
+abbrev pub has_unfit_parent : Classes → ℕ → ClassFile → Bool
+has_unfit_parent cs loader file =
+    list_any (λ name. not (is_fit_superclass cs loader file name)) (option_to_list file.superclass)
+    || list_any (λ name. not (is_fit_interface cs loader file name)) file.interfaces
 
 -- the class that the loader has recorded under the name
 abbrev pub named_class : Classes → ℕ → List ℕ → Option Class

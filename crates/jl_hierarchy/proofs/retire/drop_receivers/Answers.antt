@@ -12,8 +12,8 @@ loop-class-preserved c =
     let is = c.number.ensures ∙ c.class-item.is in
     let low = c.requires.there c.loop-class.class-index c.class-item.result c.loop-class-test.true in
     let many = c.loop-class.auto.below in
-    subst (λ m. AreChanged (take (c.loop-class.class-index + 1) c.args.losing.now) (without c.args.rows.now.items c.args.retired.now.keys) (lists c.args.below.now)
-    (lists (slice_set c.loop-class.below m new)))
+    subst (λ m. AreChanged (take (c.loop-class.class-index + 1) c.args.losing.now) (without c.args.rows.now.items c.args.retired.now.keys)
+    (lists c.args.below.now) (lists (slice_set c.loop-class.below m new)))
     (sym is)
     (changed_more c.args.losing.now (without c.args.rows.now.items c.args.retired.now.keys) (lists c.args.below.now) c.loop-class.below
     c.loop-class.class-index c.class-item.result
