@@ -1,5 +1,5 @@
 -- The request of a place.
-use Rattle.std.specs.Prelude.{◌≡◌, ℕ, Bool, true, false, if◌then◌else◌, position, length, Option, Some, None, is_some, Err, IsOk}
+use Rattle.std.specs.Prelude.{◌≡◌, ℕ, Bool, true, false, if◌then◌else◌, position, length, Option, Some, None, is_some, Ok, Err, IsOk}
 use Rattle.std.proofs.Common.{refl, ap, sym, subst, ◌∙◌}
 use Rattle.jl_types.specs.declared.limits.Limits.{Limits}
 use Rattle.jl_class.specs.Site.{Site}
@@ -12,6 +12,7 @@ use Rattle.jl_types.specs.Values.Members.{is_present}
 use Rattle.jl_types.specs.Events.Verdict.{same_place, new_place_fault, request_place, if_invoked, unless, verdict}
 use Rattle.jl_types.specs.Values.World.{World}
 use Rattle.jl_types.specs.Linkage.Stages.{invocation_at}
+use Rattle.jl_events.proofs.CallSiteLaws.{given_so}
 
 -- ---- one place more
 
@@ -45,3 +46,29 @@ refused_new limits w place site r present e p f =
     ∙ ap (if_invoked limits w place) e
     ∙ ap (λ (o : Option ℕ). request_place limits w o site) p
     ∙ ap (λ (o : Option Refusal). unless o (made.Site (length w.places))) f
+
+-- ---- what an accepted request is answered
+
+-- the number that the place has
+pub known_so : (limits : Limits) (w : World) (place : Place) (s : ℕ) → position (same_place place) w.places ≡ Some s
+    → IsOk (verdict limits w (event.Request place)) → verdict limits w (event.Request place) ≡ Ok (made.Site s)
+known_so limits w place s at = by_cases (is_present w.classes place.class) (invocation_at w.classes place)
+  where
+    by_cases : (b : Bool) (o : Option Site) → IsOk (if b then if_invoked limits w place o else Err UnknownClass)
+        → (if b then if_invoked limits w place o else Err UnknownClass) ≡ Ok (made.Site s)
+    by_cases false o ok = cc
+    by_cases true None ok = cc
+    by_cases true (Some site) ok = ap (λ (o : Option ℕ). request_place limits w o site) at
+
+-- the next number
+pub new_so : (limits : Limits) (w : World) (place : Place) → position (same_place place) w.places ≡ None
+    → IsOk (verdict limits w (event.Request place)) → verdict limits w (event.Request place) ≡ Ok (made.Site (length w.places))
+new_so limits w place none = by_cases (is_present w.classes place.class) (invocation_at w.classes place)
+  where
+    by_cases : (b : Bool) (o : Option Site) → IsOk (if b then if_invoked limits w place o else Err UnknownClass)
+        → (if b then if_invoked limits w place o else Err UnknownClass) ≡ Ok (made.Site (length w.places))
+    by_cases false o ok = cc
+    by_cases true None ok = cc
+    by_cases true (Some site) ok =
+        let so = ap (λ (o : Option ℕ). request_place limits w o site) none in
+        so ∙ given_so (new_place_fault limits w site) (made.Site (length w.places)) (subst IsOk so ok)

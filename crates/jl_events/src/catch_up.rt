@@ -52,7 +52,7 @@ fn catch_up_owned(
         Accepted::Define(_, _) => world.classes.catch_up(alloc, &ahead.classes),
         Accepted::Delegate(loader, name, to) => add_delegation(world, alloc, *loader, name, *to),
         Accepted::Request(place) => {
-            add_place(world, place)?;
+            add_place(world, alloc, place)?;
             Ok(())
         }
         Accepted::NewCallSite(kind, ty, target) => {

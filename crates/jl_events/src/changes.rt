@@ -56,7 +56,11 @@ pub(crate) fn add_delegation(
 }
 
 /// The place has a number. One that is requested already keeps it.
-pub(crate) fn add_place(world: &mut World, place: &Place) -> Result<SiteNo, AllocError>
+pub(crate) fn add_place(
+    world: &mut World,
+    alloc: Global,
+    place: &Place,
+) -> Result<SiteNo, AllocError>
     requires accepted { IsAcceptable world.old (event.Request place.now) }
     requires few { length world.old.places < 2 ^ 32 }
     ensures { IfOk result (λ site. IsMoved world.old world.new (event.Request place.now) (made.Site site)) }
@@ -65,7 +69,7 @@ pub(crate) fn add_place(world: &mut World, place: &Place) -> Result<SiteNo, Allo
         return Ok(SiteNo::new(site as u32));
     }
     let site = SiteNo::new(world.site_count() as u32);
-    world.places.insert_full(*place)?;
+    world.places.push(alloc, *place)?;
     Ok(site)
 }
 

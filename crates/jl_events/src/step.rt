@@ -75,7 +75,7 @@ fn step_owned(
         }
         Event::Define(loader, file) => define(world, alloc, loader, file),
         Event::Delegate(loader, name, to) => delegate(world, alloc, loader, name, to),
-        Event::Request(place) => request(world, place),
+        Event::Request(place) => request(world, alloc, place),
         Event::NewCallSite(kind, ty, target) => new_call_site(world, alloc, kind, ty, target),
         Event::SetTarget(site, target) => set_target(world, alloc, site, target),
         Event::NewSwitch => {
@@ -121,12 +121,12 @@ fn delegate(
 }
 
 /// The same for a request.
-fn request(world: &mut World, place: Place) -> Result<(Accepted, Made), AllocError>
+fn request(world: &mut World, alloc: Global, place: Place) -> Result<(Accepted, Made), AllocError>
     requires accepted { IsAcceptable world.old (events.Request place) }
     requires few { length world.old.places < 2 ^ 32 }
     ensures { IfOk result (λ told. IsStepped world.old world.new (events.Request place) told.0 told.1) }
 {
-    let site = add_place(world, &place)?;
+    let site = add_place(world, alloc, &place)?;
     Ok((Accepted::Request(place), Made::Site(site)))
 }
 

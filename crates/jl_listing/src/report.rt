@@ -111,7 +111,7 @@ fn add_all<R: Files + AllocGlobal + Clock + Clone + Drop, W: Write, E: Write + I
     let mut classes = Classes::new(rt.alloc())?;
     let listed = listed_of(rt, asked, &mut classes, page, missed)?;
     let marks = Marks::of(rt.alloc(), &classes)?;
-    let mut report = Report::of(rt.alloc(), classes);
+    let mut report = Report::of(rt.alloc(), classes)?;
     add_classes(rt, asked, &mut report, &marks, &listed, page, out, errors)?;
     if !asked.breaks.is_empty() {
         add_breaks(rt, asked, &mut report, page, missed, out)?;

@@ -1,10 +1,11 @@
 -- The sites of a batch, one at a time.
 use Rattle.std.specs.Prelude.{◌≡◌, ℕ, ◌<◌, ◌+◌, ◌==◌, nat_le, take, drop, get_or, Bool, true, false, ◌||◌, List, [], ◌∷◌, ◌++◌, fold}
-use Rattle.std.specs.Prelude.{map, length, Option, Some, None, option_map, Result, Ok, Err}
+use Rattle.std.specs.Prelude.{map, length, ◌≤◌, All, Option, Some, None, option_map, Result, Ok, Err}
 use Rattle.std.specs.Bool.{then_some}
 use Rattle.std.specs.List.{list_any, AllZip}
-use Rattle.std.proofs.Common.{refl, ap, sym, ◌∙◌, append-nil}
+use Rattle.std.proofs.Common.{refl, ap, sym, subst, ◌∙◌, append-nil, arith}
 use Rattle.std.proofs.lemmas.List.{take-append-drop, take_more}
+use Rattle.std.proofs.lemmas.List.Elements.{All-append, All-cons, All-head, All-nil, All-tail}
 use Rattle.std.proofs.lemmas.Bool.{lt-leb}
 use Rattle.jl_types.specs.declared.link.Link.{Link}
 use Rattle.jl_types.specs.declared.answer.Unlinked.{Unlinked}
@@ -82,6 +83,31 @@ module _ {A : Type 0} (site : A → ℕ) (w : World) (rows : List A) (n : ℕ) (
       ∙ ap (λ t. t ∷ sites_of site (take n rows)) (sym same))
       ∙ sym (new_site w (sites_of site (take n rows)) s (map site (drop (n + 1) rows)) (lt-leb (length w.places) s known) (any_site site s (take n rows) ∙ h))
       ∙ sym split
+
+-- ---- sites below a bound
+
+module _ {A : Type 0} (site : A → ℕ) where
+  -- what isn't below the bound is none of those that are
+  pub none_equal : (bound s : ℕ) (rows : List A) → All (λ row. site row < bound) rows → bound ≤ s → list_any (λ row. site row == s) rows ≡ false
+  none_equal bound s [] below past = refl
+  none_equal bound s (row ∷ rows) below past =
+      let lower = All-head (λ row. site row < bound) row rows below in
+      ap (λ b. b || list_any (λ row. site row == s) rows) (other (site row) s (omega (arith, lower, past)))
+      ∙ none_equal bound s rows (All-tail (λ row. site row < bound) row rows below) past
+    where
+      other : (a b : ℕ) → a < b → (a == b) ≡ false
+      other a b lt = grind (arith, lt)
+
+  weaker : (bound next : ℕ) (rows : List A) → bound ≤ next → All (λ row. site row < bound) rows → All (λ row. site row < next) rows
+  weaker bound next rows up below = λ k d there. let low = below k d there in omega (arith, low, up)
+
+  -- one row on
+  pub all_below : (bound next : ℕ) (rows : List A) (n : ℕ) (row : A) → n < length rows → row ≡ get_or rows n row
+      → All (λ row. site row < bound) (take n rows) → bound ≤ next → site row < next → All (λ row. site row < next) (take (n + 1) rows)
+  all_below bound next rows n row there is below up lt =
+      subst (All (λ row. site row < next)) (sym (take_more rows n row there ∙ ap (λ (r : A). take n rows ++ r ∷ []) (sym is)))
+      (All-append (λ row. site row < next) (take n rows) (row ∷ []) (weaker bound next (take n rows) up below)
+      (All-cons (λ row. site row < next) row [] lt (All-nil (λ row. site row < next))))
 
 -- ---- the links of a preparation
 

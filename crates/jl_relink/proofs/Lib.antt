@@ -6,6 +6,7 @@ pub mod Costs
 pub mod OneForAll
 -- preparations
 pub mod BatchLaws
+pub mod EarlierLaws
 pub mod WorkCounts
 pub mod WideLaws
 -- what stays through an event: classes, call sites, bindings

@@ -1,6 +1,6 @@
 //! The sites of a batch, be it prepared or installed.
 
-ghost use Rattle.std.specs.Prelude.{◌≡◌, ◌==◌, [], map};
+ghost use Rattle.std.specs.Prelude.{◌≡◌, ◌==◌, ◌<◌, ◌≤◌, [], map, All};
 ghost use Rattle.std.specs.List.{list_any};
 ghost use Rattle.jl_types.specs.Events.Batches as batches;
 
@@ -44,20 +44,42 @@ impl Row for (SiteNo, Link) {
     }
 }
 
-/// The fault of the first row whose site isn't requested, or comes in an earlier row. Takes no memory.
+/// The fault of the first row whose site isn't requested, or comes in an earlier row. Takes no memory. A row whose site is greater
+/// than those of all earlier rows is compared with none of them.
 pub fn sites_fault<R: Row>(world: &World, rows: &[R]) -> Option<SitesFault>
     ensures { result ≡ batches.sites_fault world.now [] (map R.site_of rows.now) }
 {
+    let mut bound = 0;
     for (number, row) in rows.iter().enumerate() {
         let site = row.site();
         if site.number() as usize >= world.site_count() {
             return Some(SitesFault::Unknown(site));
         }
-        if comes(&rows[..number], site) {
+        if comes_below(&rows[..number], bound, site) {
             return Some(SitesFault::Repeated(site));
         }
+        bound = bound_with(bound, site);
     }
     None
+}
+
+/// Whether the site comes in these rows, all of whose sites are below the bound.
+fn comes_below<R: Row>(rows: &[R], bound: usize, site: SiteNo) -> bool
+    requires { All (λ row. R.site_of row < bound) rows.now }
+    ensures { result ≡ list_any (λ row. R.site_of row == site) rows.now }
+{
+    if site.number() as usize >= bound {
+        return false;
+    }
+    comes(rows, site)
+}
+
+/// The bound, or the number after the site where that is more.
+fn bound_with(bound: usize, site: SiteNo) -> usize
+    ensures as_before { bound ≤ result }
+    ensures past { site < result }
+{
+    bound.max(site.number() as usize + 1)
 }
 
 /// Whether the site comes in these rows.

@@ -9,6 +9,7 @@
 mod answer;
 mod batch;
 mod by_rows;
+mod earlier;
 mod fill;
 mod inherited;
 mod known;

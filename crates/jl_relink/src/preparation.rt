@@ -8,7 +8,8 @@ ghost use Rattle.jl_types.specs.Events.Footprints.{most_for};
 ghost use Rattle.jl_relink.specs.Preparations.{IsPreparation, IsFault};
 
 use crate::batch::{is_bad_size, sites_fault};
-use crate::scratch::{link_counted, link_of};
+use crate::earlier::{MOST_REMEMBERED, NO_ROW, link_beside};
+use crate::scratch::link_of;
 use crate::snapshot::Snapshot;
 use crate::world::World;
 use jl_names::Seq;
@@ -98,9 +99,10 @@ fn push_rows(
     ensures unready { IfErr result (λ f. prepared.ready_fault world.now sites.now ≡ Some f) }
     ensures ticks { work.new ≤ work.old + sum_by (most_for world.now) sites.now }
 {
+    let mut remembered = [NO_ROW; MOST_REMEMBERED];
     for site in sites {
         let site = *site;
-        match link_counted(world, site, work) {
+        match link_beside(world, site, rows.as_slice(), &mut remembered, work) {
             Ok(link) => push_row(rows, site, link),
             Err(_) => return Err(PrepareFault::NotReady(site)),
         }

@@ -41,7 +41,7 @@ pub fn link_counted(world: &World, site: SiteNo, work: &mut Work) -> Result<Link
 }
 
 /// The link of the site's invocation.
-fn invocation_link(
+pub(crate) fn invocation_link(
     world: &World,
     site: SiteNo,
     found: &Located<'_>,

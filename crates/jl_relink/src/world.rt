@@ -4,10 +4,11 @@ ghost use Rattle.std.specs.Prelude.{◌≡◌, length, IfOk};
 ghost use Rattle.jl_types.specs.Values.World.{World, nothing_yet};
 ghost use Rattle.jl_types.specs.Linkage.Stages as stages;
 
-use indexmap::{IndexMap, IndexSet};
+use indexmap::IndexMap;
 use jl_callsites::Sites;
 use jl_hierarchy::Classes;
-use jl_types::{CallSiteId, MethodId, Place, SiteNo};
+use jl_places::Places;
+use jl_types::{CallSiteId, SiteNo};
 use std::alloc::{AllocError, Global};
 use std::marker::Model;
 
@@ -15,7 +16,7 @@ use std::marker::Model;
 /// bound to one; and the call sites and switch points.
 pub struct World {
     pub classes: Classes,
-    pub places: IndexSet<Place>,
+    pub places: Places,
     pub bindings: IndexMap<SiteNo, CallSiteId>,
     pub sites: Sites,
 }
@@ -43,7 +44,7 @@ impl Model for World {
 
     ghost view = { λ w. record {
       classes = w.classes;
-      places = w.places.keys;
+      places = w.places;
       bindings = w.bindings.entries;
       sites = w.sites;
     } };
@@ -56,7 +57,7 @@ impl World {
     {
         Ok(World {
             classes: Classes::new(alloc)?,
-            places: IndexSet::new(alloc),
+            places: Places::new(alloc)?,
             bindings: IndexMap::new(alloc),
             sites: Sites::new(alloc),
         })
@@ -68,7 +69,7 @@ impl World {
     {
         Ok(World {
             classes: self.classes.copy(alloc)?,
-            places: self.places.clone()?,
+            places: self.places.copy(alloc)?,
             bindings: self.bindings.clone()?,
             sites: self.sites.copy(alloc)?,
         })

@@ -9,14 +9,15 @@ ghost use Rattle.jl_report.specs.declared.row.Finding.TheVariants as finding;
 ghost use Rattle.jl_report.specs.Reports as reports;
 ghost use Rattle.jl_report.specs.Drops as drops;
 
+use crate::asked::{Asked, ask, link_there};
 use crate::defining::{define_one, first_loader, is_barred};
-use crate::report::{Report, request_alone, rests_on};
+use crate::report::{Report, rests_on};
 use crate::row::{Finding, Row};
 use jl_class::{ClassFile, FINAL, has_flag};
 use jl_deps::keys_of_definition;
 use jl_hierarchy::Classes;
-use jl_relink::{World, link_of};
-use jl_types::{ClassId, Key, Link, SiteNo, Unlinked, same_link};
+use jl_relink::World;
+use jl_types::{ClassId, Key, Link, Unlinked, same_link};
 use std::alloc::{AllocError, Global};
 
 /// An invocation whose link a further class drops.
@@ -205,8 +206,11 @@ fn without(
     ensures classes { world.new.classes ≡ world.old.classes }
     ensures bare { reports.IsBare world.new }
 {
-    request_alone(world, row.place)?;
-    let found = link_of(world, SiteNo::new(0));
+    let asked = Asked {
+        site: ask(alloc, world, row.place)?,
+        place: row.place,
+    };
+    let found = link_there(world, &asked);
     if is_link(&found, link) {
         return Ok(None);
     }
@@ -215,7 +219,7 @@ fn without(
         place: row.place,
         kind: row.kind,
         finding,
-        rests_on: rests_on(alloc, world, &finding)?,
+        rests_on: rests_on(alloc, world, &asked, &finding)?,
     }))
 }
 

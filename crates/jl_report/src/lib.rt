@@ -11,6 +11,7 @@ mod defining;
 mod order;
 
 // What is reported of them.
+mod asked;
 mod invocation;
 mod made;
 mod methods;

@@ -4,13 +4,15 @@ ghost use Rattle.std.specs.Prelude.{◌≡◌, take, filter_map, option_to_list,
 ghost use Rattle.jl_types.specs.Values.Ancestry as ancestry;
 ghost use Rattle.jl_report.specs.Reports as reports;
 ghost use Rattle.jl_report.specs.Methods as methods;
+ghost use Rattle.jl_report.specs.ForProofs.Asked.{IsAsked};
 ghost use Rattle.jl_report.specs.ForProofs.Found.{is_among, with_run};
 
-use crate::report::{Report, request_alone};
+use crate::asked::{Asked, answer_there, ask};
+use crate::report::Report;
 use crate::row::{Finding, Row};
 use jl_hierarchy::Classes;
-use jl_relink::{World, dispatch};
-use jl_types::{Answer, ClassId, Key, Link, MethodId, Outcome, Recv, SiteNo};
+use jl_relink::World;
+use jl_types::{Answer, ClassId, Key, Link, MethodId, Outcome, Recv};
 use std::alloc::{AllocError, Global};
 
 impl Report {
@@ -58,8 +60,17 @@ fn methods_in(
 {
     match row.looked_at() {
         Some(class) => {
-            request_alone(world, row.place)?;
-            methods_on(alloc, world, receivers_of(&world.classes, class), most)
+            let asked = Asked {
+                site: ask(alloc, world, row.place)?,
+                place: row.place,
+            };
+            methods_on(
+                alloc,
+                world,
+                &asked,
+                receivers_of(&world.classes, class),
+                most,
+            )
         }
         None => own_methods(alloc, &row.finding, most),
     }
@@ -75,31 +86,34 @@ fn receivers_of(classes: &Classes, class: ClassId) -> &[ClassId]
     &[]
 }
 
-/// The different methods that calls of the world's only site run on objects of these classes, at most so many. Want of memory is an
-/// error.
+/// The different methods that calls of the place run on objects of these classes, at most so many. Want of memory is an error.
 fn methods_on(
     alloc: Global,
     world: &World,
+    asked: &Asked,
     receivers: &[ClassId],
     most: usize,
 ) -> Result<Vec<MethodId>, AllocError>
-    ensures { IfOk result (λ found. found.items ≡ take most (methods.distinct (filter_map (methods.run_on world.now) receivers.now))) }
+    requires { IsAsked world.now asked.now.site asked.now.place }
+    ensures { IfOk result (λ found. found.items
+        ≡ take most (methods.distinct (filter_map (methods.run_on (reports.asking world.now.classes asked.now.place)) receivers.now))) }
 {
     let mut found = Vec::new(alloc);
     for receiver in receivers {
         if found.len() >= most {
             return Ok(found);
         }
-        add_run(&mut found, run_on(world, *receiver))?;
+        add_run(&mut found, run_on(world, asked, *receiver))?;
     }
     Ok(found)
 }
 
-/// What a call of the world's only site runs on an object of the class.
-fn run_on(world: &World, receiver: ClassId) -> Option<MethodId>
-    ensures { result ≡ methods.run_on world.now receiver }
+/// What a call of the place runs on an object of the class.
+fn run_on(world: &World, asked: &Asked, receiver: ClassId) -> Option<MethodId>
+    requires { IsAsked world.now asked.now.site asked.now.place }
+    ensures { result ≡ methods.run_on (reports.asking world.now.classes asked.now.place) receiver }
 {
-    match dispatch(world, SiteNo::new(0), Recv::Of(receiver)) {
+    match answer_there(world, asked, Recv::Of(receiver)) {
         Answer::Run(method) => Some(method),
         Answer::Throws(_) => None,
         Answer::Unlinked(_) => None,

@@ -1,25 +1,28 @@
 //! What each invocation of the classes comes to.
 
-ghost use Rattle.std.specs.Prelude.{◌≡◌, map, Ok, IfOk, OnOk};
+ghost use Rattle.std.specs.Prelude.{◌≡◌, map, Ok, IfOk};
 ghost use Rattle.jl_types.specs.declared.link.Link.{Link};
 ghost use Rattle.jl_types.specs.Linkage.Links.{scratch};
 ghost use Rattle.jl_report.specs.declared.row.Finding.TheVariants.{Linked};
 ghost use Rattle.jl_report.specs.Reports as reports;
+ghost use Rattle.jl_report.specs.ForProofs.Asked.{IsAsked};
 
+use crate::asked::{Asked, ask, footprint_there, link_there};
 use crate::invocation::{Invocation, invocations_in};
 use crate::row::{Finding, Row};
-use indexmap::{IndexMap, IndexSet};
+use indexmap::IndexMap;
 use jl_callsites::Sites;
-use jl_deps::{Footprint, footprint_of_linked};
+use jl_deps::Footprint;
 use jl_hierarchy::Classes;
-use jl_relink::{World, link_of};
-use jl_types::{ClassId, NotLinkable, Place, SiteNo};
+use jl_places::Places;
+use jl_relink::World;
+use jl_types::{ClassId, NotLinkable};
 use std::alloc::{AllocError, Global};
 use std::marker::Model;
 
 /// Classes, of whose invocations it is told what they come to among these classes. A clause sees the classes.
 pub struct Report {
-    /// Their world, in which one place is requested at most.
+    /// Their world, in which places are requested as they are asked.
     pub(crate) world: World,
 }
 
@@ -42,18 +45,18 @@ impl Model for Report {
 }
 
 impl Report {
-    /// The report of these classes.
-    pub fn of(alloc: Global, classes: Classes) -> Self
-        ensures { result ≡ classes }
+    /// The report of these classes. Want of memory is an error.
+    pub fn of(alloc: Global, classes: Classes) -> Result<Self, AllocError>
+        ensures { IfOk result (λ report. report ≡ classes) }
     {
-        Report {
+        Ok(Report {
             world: World {
                 classes,
-                places: IndexSet::new(alloc),
+                places: Places::new(alloc)?,
                 bindings: IndexMap::new(alloc),
                 sites: Sites::new(alloc),
             },
-        }
+        })
     }
 
     /// The classes.
@@ -92,57 +95,51 @@ fn rows_of(
     Ok(rows)
 }
 
-/// The row of the invocation, whose place alone is requested then. Want of memory is an error.
+/// The row of the invocation. Want of memory is an error.
 fn row_of(alloc: Global, world: &mut World, invocation: Invocation) -> Result<Row, AllocError>
     requires { reports.IsBare world.old }
     ensures row { IfOk result (λ row. row ≡ reports.row_of world.old.classes invocation) }
     ensures classes { world.new.classes ≡ world.old.classes }
     ensures bare { reports.IsBare world.new }
 {
-    request_alone(world, invocation.place)?;
-    let finding = finding_in(world, invocation.never);
+    let asked = Asked {
+        site: ask(alloc, world, invocation.place)?,
+        place: invocation.place,
+    };
+    let finding = finding_in(world, &asked, invocation.never);
     Ok(Row {
         place: invocation.place,
         kind: invocation.kind,
         finding,
-        rests_on: rests_on(alloc, world, &finding)?,
+        rests_on: rests_on(alloc, world, &asked, &finding)?,
     })
 }
 
-/// What the link of the world's only site rests on, where the site comes to this: nothing, where it has none. Want of memory is an error.
+/// What the link of the place rests on, where that comes to this: nothing, where it has none. Want of memory is an error.
 pub(crate) fn rests_on(
     alloc: Global,
     world: &World,
+    asked: &Asked,
     finding: &Finding,
 ) -> Result<Footprint, AllocError>
-    requires { (l : Link) → finding.now ≡ Linked l → scratch world.now 0 ≡ Ok l }
-    ensures { IfOk result (λ keys. keys ≡ reports.rests_on world.now finding.now) }
+    requires asked { IsAsked world.now asked.now.site asked.now.place }
+    requires linked { (l : Link) → finding.now ≡ Linked l → scratch (reports.asking world.now.classes asked.now.place) 0 ≡ Ok l }
+    ensures { IfOk result (λ keys. keys ≡ reports.rests_on (reports.asking world.now.classes asked.now.place) finding.now) }
 {
     match finding {
-        Finding::Linked(link) => footprint_of_linked(alloc, world, SiteNo::new(0), link),
+        Finding::Linked(link) => footprint_there(alloc, world, asked, link),
         Finding::Unlinked(_) => Ok(Footprint::nothing()),
         Finding::NotLinkable(_) => Ok(Footprint::nothing()),
     }
 }
 
-/// Requests the place alone. Want of memory is an error.
-pub(crate) fn request_alone(world: &mut World, place: Place) -> Result<(), AllocError>
-    requires { reports.IsBare world.old }
-    ensures asking { OnOk result (world.new ≡ reports.asking world.old.classes place) }
-    ensures classes { world.new.classes ≡ world.old.classes }
-    ensures bare { reports.IsBare world.new }
-{
-    world.places.clear();
-    world.places.insert(place)?;
-    Ok(())
-}
-
-/// What the world's only site comes to, unless it is never linked for this reason.
-fn finding_in(world: &World, never: Option<NotLinkable>) -> Finding
-    ensures { result ≡ reports.finding_in world.now never }
+/// What the place comes to, unless it is never linked for this reason.
+fn finding_in(world: &World, asked: &Asked, never: Option<NotLinkable>) -> Finding
+    requires { IsAsked world.now asked.now.site asked.now.place }
+    ensures { result ≡ reports.finding_in (reports.asking world.now.classes asked.now.place) never }
 {
     if let Some(reason) = never {
         return Finding::NotLinkable(reason);
     }
-    Finding::of(link_of(world, SiteNo::new(0)))
+    Finding::of(link_there(world, asked))
 }

@@ -28,7 +28,7 @@ returns c =
       step =
           (λ i. record {
             classes = c.world.inside.classes;
-            places = c.world.inside.places.keys;
+            places = c.world.inside.places;
             bindings = last i;
             sites = c.world.inside.sites;
           })
