@@ -1,4 +1,4 @@
 pub mod Rows
 pub mod LinkLaws
 pub mod ListLaws
-pub mod SortedLaws
+pub mod SiteLaws

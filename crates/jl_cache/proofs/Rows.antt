@@ -1,10 +1,12 @@
 -- What is found in a few links, which lists rise, and what an install leaves.
-use Rattle.std.specs.Prelude.{◌≡◌, ℕ, List, [], ◌∷◌, Some, None, refl}
-use Rattle.std.proofs.Common.{arith}
+use Rattle.std.specs.Prelude.{◌≡◌, ℕ, ◌==◌, Bool, true, false, List, [], ◌∷◌, Some, None, refl, if◌then◌else◌}
+use Rattle.std.proofs.Common.{arith, ap, ◌∙◌}
+use Rattle.std.proofs.lemmas.Bool.Decides.{Decides-eqb}
 use Rattle.jl_types.specs.declared.link.Link.{Link}
 use Rattle.jl_types.specs.declared.link.Link.TheVariants.{Plain, Mega}
 use Rattle.jl_cache.specs.Links.{link_at, AreRising, link_with}
-use Rattle.jl_types.proofs.BySite.{sites_rise}
+use Rattle.jl_cache.specs.ForProofs.Sites.{HaveSites}
+use Rattle.jl_types.proofs.BySite.{sites_rise, found_first}
 
 abbrev plain : ℕ → Link
 plain class = Plain (record { class = class; index = 0 })
@@ -50,3 +52,18 @@ kept_link = refl
 
 kept_without : link_with installed None 7 ≡ None
 kept_without = refl
+
+-- ---- numbers of sites
+
+no_links_are_past : HaveSites []
+no_links_are_past s le = refl
+
+last_site : HaveSites ((4294967295, Mega) ∷ [])
+last_site s le = by_test (4294967295 == s) refl
+  where
+    by_test : (b : Bool) → (4294967295 == s) ≡ b → link_at ((4294967295, Mega) ∷ []) s ≡ None
+    by_test true e = absurd (let same = (Decides-eqb 4294967295 s).0 e in omega (arith, same, le))
+    by_test false e = found_first 4294967295 s Mega [] ∙ ap (λ (b : Bool). if b then Some Mega else None) e
+
+past_the_last_site : ¬ HaveSites ((4294967296, Mega) ∷ [])
+past_the_last_site h = let e = h 4294967296 (omega arith) in cc

@@ -1,13 +1,13 @@
 //! The links that are installed.
 
-ghost use Rattle.std.specs.Prelude.{◌≡◌, ℕ, ◌≤◌, ◌==◌, ◌++◌, ◌∷◌, nat_eq, [], None, Some, length, IfOk, OnOk, OnErr, if◌then◌else◌};
-ghost use Rattle.std.specs.List.{list_any};
+ghost use Rattle.std.specs.Prelude.{◌≡◌, ℕ, ◌≤◌, ◌<◌, ◌==◌, ◌++◌, ◌∷◌, ◌^◌, [], None, Some, length, IfOk, OnOk, OnErr, if◌then◌else◌};
+ghost use Rattle.std.specs.List.{list_any, AllByRecursion};
 ghost use Rattle.std.specs.Option.{option_copied};
 ghost use Rattle.jl_cache.specs.Links.{link_at, AreRising, link_with};
-ghost use Rattle.indexmap.specs.IndexMap.{get, spare, IsUnique};
+ghost use Rattle.jl_cache.specs.ForProofs.Sites.{HaveSites};
 
 use crate::kept::KeptLink;
-use indexmap::IndexMap;
+use jl_numbered::Numbered;
 use jl_types::{Link, SiteNo};
 use std::alloc::{AllocError, Global};
 use std::marker::Model;
@@ -15,7 +15,7 @@ use std::marker::Model;
 /// The installed links, by site. A clause sees each site that has one, with it, by rising number.
 pub struct Cache {
     alloc: Global,
-    links: IndexMap<SiteNo, KeptLink>,
+    links: Numbered<KeptLink>,
 }
 
 // Written out, since a derived drop is proved anew in each crate that lets one go.
@@ -31,11 +31,13 @@ impl Drop for Cache {
 impl Model for Cache {
     ghost use Rattle.std.specs.Prelude.{List, ℕ};
     ghost use Rattle.jl_types.specs.declared.link.Link.{Link};
-    ghost use Rattle.jl_types.specs.ForProofs.BySite.{by_site};
+    ghost use Rattle.jl_cache.specs.ForProofs.Sites.{HaveSites};
 
     ghost Value = { List (ℕ × Link) };
 
-    ghost view = { λ c. by_site c.links.entries };
+    ghost view = { λ c. c.links.entries };
+
+    ghost invariant = { λ c. HaveSites c.links.entries };
 }
 
 impl Cache {
@@ -45,7 +47,7 @@ impl Cache {
     {
         Cache {
             alloc,
-            links: IndexMap::new(alloc),
+            links: Numbered::new(alloc),
         }
     }
 
@@ -55,7 +57,7 @@ impl Cache {
     {
         Ok(Cache {
             alloc: self.alloc,
-            links: self.links.clone()?,
+            links: self.links.copy(self.alloc)?,
         })
     }
 
@@ -64,14 +66,15 @@ impl Cache {
         ensures link { result ≡ link_at self.now site }
         ensures rising { AreRising self.now }
     {
-        link_of(self.links.get(&site))
+        let _count = self.links.len();
+        link_of(self.links.get(place_of(site)))
     }
 
     /// The site's link as it is kept, if one is installed. Takes no memory.
     pub fn kept(&self, site: SiteNo) -> Option<&KeptLink>
         ensures { option_copied result ≡ link_at self.now site }
     {
-        self.links.get(&site)
+        self.links.get(place_of(site))
     }
 
     /// How many sites have a link. Takes no memory.
@@ -93,9 +96,7 @@ impl Cache {
         ensures items { IfOk result (λ rows. rows.items ≡ self.now) }
         ensures rising { AreRising self.now }
     {
-        let mut rows = rows_of(alloc, &self.links)?;
-        rows.sort_unstable_by_key(|row| row.0);
-        Ok(rows)
+        rows_of(alloc, &self.links)
     }
 
     /// Installs these links, in place of those that the sites have.
@@ -108,7 +109,7 @@ impl Cache {
         ensures err { OnErr result (self.new ≡ self.old) }
     {
         let kept = kept_rows(self.alloc, rows)?;
-        self.links.reserve(kept.len())?;
+        make_room(&mut self.links, kept.as_slice())?;
         put_all(&mut self.links, kept);
         Ok(())
     }
@@ -121,7 +122,7 @@ impl Cache {
     pub fn install_kept(&mut self, rows: &[(SiteNo, KeptLink)]) -> Result<(), AllocError>
         ensures { OnOk result ((s : ℕ) → link_at self.new s ≡ link_with rows.now (link_at self.old s) s) }
     {
-        self.links.reserve(rows.len())?;
+        make_room(&mut self.links, rows)?;
         put_kept_rows(&mut self.links, rows)
     }
 
@@ -133,10 +134,10 @@ impl Cache {
     pub fn take(&mut self, site: SiteNo, ahead: &Cache) -> Result<(), AllocError>
         ensures { OnOk result ((s : ℕ) → link_at self.new s ≡ (if site == s then link_at ahead.now site else link_at self.old s)) }
     {
-        match ahead.links.get(&site) {
+        match ahead.links.get(place_of(site)) {
             Some(kept) => put_kept(&mut self.links, site, kept),
             None => {
-                self.links.swap_remove(&site);
+                self.links.remove(place_of(site));
                 Ok(())
             }
         }
@@ -148,9 +149,17 @@ impl Cache {
         ensures few { length self.new ≤ length self.old }
     {
         for site in sites {
-            self.links.swap_remove(site);
+            self.links.remove(place_of(*site));
         }
     }
+}
+
+/// The place of the site among the links.
+fn place_of(site: SiteNo) -> usize
+    ensures place { result ≡ site }
+    ensures small { result < 2 ^ 32 }
+{
+    site.number() as usize
 }
 
 /// The link that is kept, if there is one.
@@ -163,19 +172,17 @@ fn link_of(kept: Option<&KeptLink>) -> Option<Link>
     }
 }
 
-/// The entries of the map with their links, in its order. Want of memory is an error.
-fn rows_of(
-    alloc: Global,
-    map: &IndexMap<SiteNo, KeptLink>,
-) -> Result<Vec<(SiteNo, Link)>, AllocError>
-    ensures items { IfOk result (λ rows. rows.items ≡ map.now.entries) }
-    ensures unique { IsUnique nat_eq map.now }
+/// The sites with their links, by rising number. Want of memory is an error.
+fn rows_of(alloc: Global, links: &Numbered<KeptLink>) -> Result<Vec<(SiteNo, Link)>, AllocError>
+    requires { HaveSites links.now.entries }
+    ensures items { IfOk result (λ rows. rows.items ≡ links.now.entries) }
+    ensures rising { AreRising links.now.entries }
 {
-    let mut rows = Vec::with_capacity(alloc, map.len())?;
-    let mut place = 0;
-    while let Some((site, kept)) = map.get_index(place) {
-        push_row(&mut rows, *site, kept.get())?;
-        place += 1;
+    let mut rows = Vec::with_capacity(alloc, links.len())?;
+    let mut from = 0;
+    while let Some((place, kept)) = links.next(from) {
+        push_row(&mut rows, SiteNo::new(place as u32), kept.get())?;
+        from = place + 1;
     }
     Ok(rows)
 }
@@ -203,22 +210,45 @@ pub fn kept_rows(
     Ok(kept)
 }
 
+/// Makes room for the links of the rows. Want of memory is an error; the links are as they were.
+fn make_room(links: &mut Numbered<KeptLink>, rows: &[(SiteNo, KeptLink)]) -> Result<(), AllocError>
+    ensures sites { AllByRecursion (λ row. row.0 < 2 ^ 32) rows.now }
+    ensures same { links.new.entries ≡ links.old.entries }
+    ensures room { OnOk result (AllByRecursion (λ row. row.0 < links.new.room) rows.now) }
+{
+    links.reserve(greatest_of(rows))
+}
+
+/// The greatest site of the rows, or 0.
+fn greatest_of(rows: &[(SiteNo, KeptLink)]) -> usize
+    ensures small { result < 2 ^ 32 }
+    ensures greatest { AllByRecursion (λ row. row.0 ≤ result) rows.now }
+{
+    let mut greatest = 0;
+    for row in rows {
+        greatest = place_of(row.0).max(greatest);
+    }
+    greatest
+}
+
 /// Puts the links of the rows in place of those that the sites have. Takes no memory.
-fn put_all(links: &mut IndexMap<SiteNo, KeptLink>, rows: Vec<(SiteNo, KeptLink)>)
-    requires { length rows.items ≤ spare links.old }
-    ensures { (s : ℕ) → get nat_eq links.new s ≡ link_with rows.items (get nat_eq links.old s) s }
+fn put_all(links: &mut Numbered<KeptLink>, rows: Vec<(SiteNo, KeptLink)>)
+    requires { AllByRecursion (λ row. row.0 < links.old.room) rows.items }
+    ensures { (s : ℕ) → link_at links.new.entries s ≡ link_with rows.items (link_at links.old.entries s) s }
 {
     for row in rows {
-        links.insert(row.0, row.1).unwrap();
+        links.put_reserved(place_of(row.0), row.1);
     }
 }
 
 /// Puts the links of the rows in place of those that the sites have. Want of memory is an error; some of the rows are put then.
 fn put_kept_rows(
-    links: &mut IndexMap<SiteNo, KeptLink>,
+    links: &mut Numbered<KeptLink>,
     rows: &[(SiteNo, KeptLink)],
 ) -> Result<(), AllocError>
-    ensures { OnOk result ((s : ℕ) → get nat_eq links.new s ≡ link_with rows.now (get nat_eq links.old s) s) }
+    requires { HaveSites links.old.entries }
+    ensures sites { HaveSites links.new.entries }
+    ensures links { OnOk result ((s : ℕ) → link_at links.new.entries s ≡ link_with rows.now (link_at links.old.entries s) s) }
 {
     for row in rows {
         put_kept(links, row.0, &row.1)?;
@@ -227,14 +257,11 @@ fn put_kept_rows(
 }
 
 /// Puts the link in place of the one that the site has. Want of memory is an error.
-fn put_kept(
-    links: &mut IndexMap<SiteNo, KeptLink>,
-    site: SiteNo,
-    kept: &KeptLink,
-) -> Result<(), AllocError>
-    ensures { OnOk result ((s : ℕ) → get nat_eq links.new s ≡ (if site == s then Some kept.now else get nat_eq links.old s)) }
+fn put_kept(links: &mut Numbered<KeptLink>, site: SiteNo, kept: &KeptLink) -> Result<(), AllocError>
+    requires { HaveSites links.old.entries }
+    ensures sites { HaveSites links.new.entries }
+    ensures link { OnOk result ((s : ℕ) → link_at links.new.entries s ≡ (if site == s then Some kept.now else link_at links.old.entries s)) }
 {
     let copy = kept.clone()?;
-    links.insert(site, copy)?;
-    Ok(())
+    links.insert(place_of(site), copy)
 }

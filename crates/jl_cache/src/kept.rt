@@ -134,6 +134,7 @@ impl KeptSlot {
 
     /// What a call is answered by the link, where there are so many classes: nothing where there is none, where it is megamorphic, and
     /// where the answer hangs on the receiver and its class is newer. Takes no memory.
+    #[inline(always)]
     pub fn answer(&self, classes: usize, recv: Recv) -> Fast
         ensures { result ≡ fast.fast_answer self.now classes recv }
     {
@@ -221,12 +222,12 @@ impl KeptLink {
     {
         self.slot.clone()
     }
+}
 
-    /// Whether it is megamorphic. Takes no memory.
-    pub fn is_mega(&self) -> bool
-        ensures { result ≡ links.is_mega (Some self.now) }
-    {
-        self.slot.is_mega()
+/// As it is cloned: it takes no memory.
+impl Again for KeptLink {
+    fn again(&self, _alloc: Global) -> Result<KeptLink, AllocError> {
+        self.clone()
     }
 }
 

@@ -1,5 +1,5 @@
 -- The groups under a key, by what the sites rest on.
-use Rattle.std.specs.Prelude.{◌≡◌, ℕ, ◌==◌, ◌&&◌, ◌||◌, Bool, true, false, cond, nat_eq, List, [], ◌∷◌, Option, Some, None, IfSome}
+use Rattle.std.specs.Prelude.{◌≡◌, ℕ, ◌&&◌, ◌||◌, Bool, true, false, cond, nat_eq, List, [], ◌∷◌, Option, Some, None, IfSome}
 use Rattle.std.specs.List.{AllByRecursion, IsDistinct, list_any}
 use Rattle.std.specs.Option.{option_map_or}
 use Rattle.std.specs.Map.{lookup, keys_of}
@@ -12,11 +12,11 @@ use Rattle.indexmap.specs.IndexSet.{IndexSet}
 use Rattle.jl_hierarchy.proofs.Rising.{has}
 use Rattle.jl_types.specs.declared.key.Key.{Key}
 use Rattle.jl_types.specs.Events.Footprints.{has_key}
-use Rattle.jl_types.specs.ForProofs.BySite.{by_site}
-use Rattle.jl_types.proofs.BySite.{rises, found_by_site}
+use Rattle.jl_types.proofs.BySite.{Rises}
 use Rattle.jl_deps.specs.declared.form.Form.{Form}
 use Rattle.jl_deps.specs.declared.form.Form.TheVariants.{Other}
 use Rattle.jl_deps.specs.declared.form.Rests.{Rests}
+use Rattle.jl_deps.specs.Indexes.{rests_at}
 use Rattle.jl_deps.specs.ForProofs.Lists.{AreListed, form_eq, key_eq, listed_in}
 use Rattle.jl_deps.proofs.KeyLists.{form_is, form_same}
 use Rattle.jl_deps.proofs.TouchLaws.{OfForms, picked, by_one}
@@ -102,11 +102,11 @@ module _ {S : Type 0} where
 
 -- ---- the groups of a key
 
-module _ {Q R S T : Type 0} (p : Form → Bool) (sites : IndexMap ℕ Rests Q) (lists : IndexMap Key (IndexMap Form (IndexSet ℕ R) S) T) (are : AreListed sites lists) where
+module _ {R S T : Type 0} (p : Form → Bool) (sites : List (ℕ × Rests)) (rising : Rises sites) (lists : IndexMap Key (IndexMap Form (IndexSet ℕ R) S) T) (are : AreListed sites lists) where
   in_one : (k : Key) (s : ℕ) (found : Option (IndexMap Form (IndexSet ℕ R) S)) → get key_eq lists k ≡ found → IfSome found (IsUnique form_eq)
       → option_map_or (λ (groups : IndexMap Form (IndexSet ℕ R) S). list_any (λ e. p e.0 && has s e.1.keys) groups.entries) found false
-      ≡ option_map_or (λ (r : Rests). p r.form && has_key r.footprint k) (get nat_eq sites s) false
-  in_one k s found at unique = by_found found unique (get nat_eq sites s) (λ g. ap (in_these g) (sym at) ∙ are s k g)
+      ≡ option_map_or (λ (r : Rests). p r.form && has_key r.footprint k) (rests_at sites s) false
+  in_one k s found at unique = by_found found unique (rests_at sites s) (λ g. ap (in_these g) (sym at) ∙ are s k g)
     where
       in_these : Form → Option (IndexMap Form (IndexSet ℕ R) S) → Bool
       in_these g o = option_map_or (λ (groups : IndexMap Form (IndexSet ℕ R) S). listed_in groups g s) o false
@@ -125,8 +125,6 @@ module _ {Q R S T : Type 0} (p : Form → Bool) (sites : IndexMap ℕ Rests Q) (
   pub under_key : (test : List Key → Rests → Bool) (tests : OfForms p test) (k : Key) (s : ℕ) (found : Option (IndexMap Form (IndexSet ℕ R) S))
       → get key_eq lists k ≡ found → IfSome found (IsUnique form_eq)
       → option_map_or (λ (groups : IndexMap Form (IndexSet ℕ R) S). list_any (λ e. p e.0 && has s e.1.keys) groups.entries) found false
-      ≡ has s (picked p test tests (by_site sites.entries) (rises sites.entries) (k ∷ []))
+      ≡ has s (picked p test tests sites rising (k ∷ []))
   under_key test tests k s found at unique =
-      in_one k s found at unique
-      ∙ sym (by_one p test tests (by_site sites.entries) (rises sites.entries) k s
-      ∙ ap (λ (o : Option Rests). option_map_or (λ (r : Rests). p r.form && has_key r.footprint k) o false) (found_by_site sites.entries s))
+      in_one k s found at unique ∙ sym (by_one p test tests sites rising k s)

@@ -1,10 +1,10 @@
 -- The sites that are listed under each key, key by key.
-use Rattle.std.specs.Prelude.{◌≡◌, ℕ, zero, suc, ◌==◌, ◌&&◌, ◌||◌, not, Bool, true, false, nat_eq, List, [], ◌∷◌, ◌++◌, take, Option, Some, None, if◌then◌else◌}
+use Rattle.std.specs.Prelude.{◌≡◌, ℕ, zero, suc, ◌==◌, ◌&&◌, ◌||◌, not, Bool, true, false, List, [], ◌∷◌, ◌++◌, take, Option, Some, None, if◌then◌else◌}
 use Rattle.std.specs.Option.{option_map_or}
 use Rattle.std.proofs.Common.{refl, ap, sym, ◌∙◌}
 use Rattle.std.proofs.lemmas.Bool.Decides.{Decides-eqb}
 use Rattle.std.proofs.lemmas.List.Folds.{list_any-append}
-use Rattle.indexmap.specs.IndexMap.{IndexMap, get}
+use Rattle.indexmap.specs.IndexMap.{IndexMap}
 use Rattle.indexmap.specs.IndexSet.{IndexSet}
 use Rattle.jl_types.specs.declared.key.Key.{Key}
 use Rattle.jl_types.specs.declared.key.Key.TheVariants as key
@@ -13,6 +13,7 @@ use Rattle.jl_deps.specs.declared.form.Form.{Form}
 use Rattle.jl_deps.specs.declared.form.Form.TheVariants as forms
 use Rattle.jl_deps.specs.declared.form.Rests.{Rests}
 use Rattle.jl_relink.proofs.Untouched.{same_key_is}
+use Rattle.jl_deps.specs.Indexes.{rests_at}
 use Rattle.jl_deps.specs.ForProofs.Lists.{form_eq, key_eq, listed, AreListed, keys_in, form_in}
 
 pub key_same : (k j : Key) → key_eq k j ≡ same_key k j
@@ -121,8 +122,8 @@ stays_more kept front key k b now old present before =
 
 -- ---- the footprints and the lists
 
-pub put_listed : {Q R S T : Type 0} (old new : IndexMap ℕ Rests R) (before after : IndexMap Key (IndexMap Form (IndexSet ℕ Q) S) T) (site : ℕ) (r : Rests)
-    → ((s : ℕ) → get nat_eq new s ≡ (if site == s then Some r else get nat_eq old s))
+pub put_listed : {Q S T : Type 0} (old new : List (ℕ × Rests)) (before after : IndexMap Key (IndexMap Form (IndexSet ℕ Q) S) T) (site : ℕ) (r : Rests)
+    → ((s : ℕ) → rests_at new s ≡ (if site == s then Some r else rests_at old s))
     → AreListed old before
     → ((k : Key) (f : Form) (s : ℕ) → listed after k f s ≡ (if site == s then form_eq r.form f && has_key r.footprint k else listed before k f s))
     → AreListed new after
@@ -131,14 +132,14 @@ put_listed old new before after site r puts were anew s k f =
     ∙ ap (λ (o : Option Rests). option_map_or (λ (q : Rests). form_eq q.form f && has_key q.footprint k) o false) (sym (puts s))
   where
     by_site : (b : Bool) → (if b then form_eq r.form f && has_key r.footprint k else listed before k f s)
-        ≡ option_map_or (λ (q : Rests). form_eq q.form f && has_key q.footprint k) (if b then Some r else get nat_eq old s) false
+        ≡ option_map_or (λ (q : Rests). form_eq q.form f && has_key q.footprint k) (if b then Some r else rests_at old s) false
     by_site true = refl
     by_site false = were s k f
 
 -- what was listed of the site, by what it rested on
-pub was_listed : {Q R S T : Type 0} (sites : IndexMap ℕ Rests R) (lists : IndexMap Key (IndexMap Form (IndexSet ℕ Q) S) T) (site : ℕ) → AreListed sites lists
-    → (k : Key) (f : Form) → listed lists k f site ≡ (form_eq (form_in (get nat_eq sites site)) f && has_key (keys_in (get nat_eq sites site)) k)
-was_listed sites lists site are k f = are site k f ∙ by_rests (get nat_eq sites site)
+pub was_listed : {Q S T : Type 0} (sites : List (ℕ × Rests)) (lists : IndexMap Key (IndexMap Form (IndexSet ℕ Q) S) T) (site : ℕ) → AreListed sites lists
+    → (k : Key) (f : Form) → listed lists k f site ≡ (form_eq (form_in (rests_at sites site)) f && has_key (keys_in (rests_at sites site)) k)
+was_listed sites lists site are k f = are site k f ∙ by_rests (rests_at sites site)
   where
     never : (b : Bool) → false ≡ (b && false)
     never true = refl

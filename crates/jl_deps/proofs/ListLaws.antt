@@ -1,88 +1,133 @@
--- The footprints of a map, entry by entry.
-use Rattle.std.specs.Prelude.{◌≡◌, ℕ, zero, suc, ◌+◌, ◌++◌, ◌==◌, ◌||◌, Bool, true, false, cond, List, [], ◌∷◌, map, take, Option, Some, None}
+-- The footprints by number, one after another, and groups.
+use Rattle.std.specs.Prelude.{◌≡◌, ℕ, ◌+◌, ◌<◌, ◌++◌, ◌==◌, ◌||◌, not, nat_lt, ◌^◌, Bool, true, false, cond, List, [], ◌∷◌, take, Option, Some, None}
 use Rattle.std.specs.Prelude.{Result, Ok, Err, OnOk, if◌then◌else◌, slice_get}
 use Rattle.std.specs.List.{list_any}
-use Rattle.std.specs.Map.{lookup}
-use Rattle.std.proofs.Common.{refl, ap, sym, ◌∙◌}
+use Rattle.std.proofs.Common.{refl, ap, sym, ◌∙◌, arith}
+use Rattle.std.proofs.lemmas.Bool.{ltb-false, ltb-true, both_ways}
 use Rattle.std.proofs.lemmas.Bool.Decides.{Decides-eqb}
-use Rattle.std.proofs.lemmas.Cmp.{nat_eq_equiv}
 use Rattle.std.proofs.lemmas.Option.{slice_get_within, get_or_from_slice_get}
 use Rattle.std.proofs.lemmas.List.{take_more}
 use Rattle.std.proofs.lemmas.List.Folds.{list_any-append}
+use Rattle.std.proofs.Math.Arith.{lt_of_le-ne}
+use Rattle.jl_types.proofs.BySite.{Rises, same_there, other_there, none_below, wider as wider_above}
+use Rattle.jl_numbered.specs.Numbers.{entries_from}
 use Rattle.jl_deps.specs.declared.form.Rests.{Rests}
+use Rattle.jl_deps.specs.Indexes.{rests_at}
+use Rattle.jl_deps.specs.ForProofs.Lists.{AreBelow}
 
--- ---- a key that isn't among the keys has no value
+-- ---- number by number
 
-pub absent : (s : ℕ) (entries : List (ℕ × Rests)) → list_any (λ t. t == s) (map (λ e. e.0) entries) ≡ false → lookup (λ t. s == t) entries ≡ None
-absent s [] h = refl
-absent s (e ∷ entries) h = by_tests (e.0 == s) refl (list_any (λ t. t == s) (map (λ e. e.0) entries)) refl h (absent s entries)
+-- n is the first number from that one on that has a value
+pub record IsNext (entries : List (ℕ × Rests)) (from n : ℕ) (r : Rests) : Type 0 where
+  pub from_on : nat_lt n from ≡ false
+  pub value : rests_at entries n ≡ Some r
+  pub none_between : (s : ℕ) → nat_lt s from ≡ false → s < n → rests_at entries s ≡ None
+
+pub next_is : (entries : List (ℕ × Rests)) (from n : ℕ) (r : Rests) (more : List (ℕ × Rests)) → Rises entries
+    → entries_from from entries ≡ (n, r) ∷ more → IsNext entries from n r
+next_is [] from n r more rises e = cc
+next_is (row ∷ rows) from n r more rises e = by_order (nat_lt row.0 from) refl e (next_is rows from n r more rises.1)
   where
-    by_tests : (b : Bool) → (e.0 == s) ≡ b → (d : Bool) → list_any (λ t. t == s) (map (λ e. e.0) entries) ≡ d → (b || d) ≡ false
-        → (list_any (λ t. t == s) (map (λ e. e.0) entries) ≡ false → lookup (λ t. s == t) entries ≡ None)
-        → lookup (λ t. s == t) (e ∷ entries) ≡ None
-    by_tests true is d rest h on = cc
-    by_tests false is true rest h on = cc
-    by_tests false is false rest h on =
-        ap (λ (b : Bool). cond b (Some e.1) (lookup (λ t. s == t) entries)) (nat_eq_equiv.symm s e.0 ∙ is) ∙ on rest
+    head_of : List (ℕ × Rests) → ℕ × Rests
+    head_of [] = row
+    head_of (x ∷ xs) = x
 
--- ---- entry by entry
+    by_order : (b : Bool) → nat_lt row.0 from ≡ b → cond (not b) (row ∷ entries_from from rows) (entries_from from rows) ≡ (n, r) ∷ more
+        → (entries_from from rows ≡ (n, r) ∷ more → IsNext rows from n r) → IsNext (row ∷ rows) from n r
+    by_order true below e rest =
+        let next = rest e in
+        let other : (s : ℕ) → nat_lt s from ≡ false → ¬ (row.0 ≡ s) =
+        λ s above same. both_ways (nat_lt s from) above (ap (λ (k : ℕ). nat_lt k from) (sym same) ∙ below) in
+        record {
+          from_on = next.from_on;
+          value = other_there row.0 n row.1 rows (other n next.from_on) ∙ next.value;
+          none_between = λ s above lt. other_there row.0 s row.1 rows (other s above) ∙ next.none_between s above lt;
+        }
+    by_order false above e rest =
+        let same : row ≡ (n, r) = ap head_of e in
+        let number : row.0 ≡ n = ap (λ (p : ℕ × Rests). p.0) same in
+        record {
+          from_on = ap (λ (k : ℕ). nat_lt k from) (sym number) ∙ above;
+          value =
+              ap (rests_at (row ∷ rows)) (sym number) ∙ same_there row.0 row.1 rows ∙ ap (λ (p : ℕ × Rests). Some p.1) same;
+          none_between = λ s up lt.
+              let below : s < row.0 = omega (arith, number, lt) in
+              none_below s (row ∷ rows) (below, wider_above s row.0 rows below rises.0);
+        }
 
-names_append : (xs ys : List (ℕ × Rests)) → map (λ (e : ℕ × Rests). e.0) (xs ++ ys) ≡ map (λ (e : ℕ × Rests). e.0) xs
-    ++ map (λ (e : ℕ × Rests). e.0) ys
-names_append [] ys = refl
-names_append (x ∷ xs) ys = λ i. x.0 ∷ names_append xs ys i
-
-pub entry_more : (entries : List (ℕ × Rests)) (place : ℕ) (site : ℕ) (keys : Rests) (next now : Option Rests) (s : ℕ)
-    → Some (site, keys) ≡ slice_get entries place → lookup (λ t. site == t) entries ≡ Some keys
-    → next ≡ (if site == s then Some keys else now)
-    → now ≡ (if list_any (λ t. t == s) (map (λ e. e.0) (take place entries)) then lookup (λ t. s == t) entries else None)
-    → next ≡ (if list_any (λ t. t == s) (map (λ e. e.0) (take (place + 1) entries)) then lookup (λ t. s == t) entries else None)
-entry_more entries place site keys next now s at value last before =
-    last ∙ by_site (site == s) refl
-    ∙ ap (λ (b : Bool). if b then lookup (λ t. s == t) entries else None)
-    (sym (list_any-append (λ t. t == s) (map (λ (e : ℕ × Rests). e.0) (take place entries)) (site ∷ [])))
-    ∙ ap (λ (ts : List ℕ). if list_any (λ t. t == s) ts then lookup (λ t. s == t) entries else None)
-    (sym (names_append (take place entries) ((site, keys) ∷ [])) ∙ ap (map (λ (e : ℕ × Rests). e.0)) (sym more))
+pub no_next : (entries : List (ℕ × Rests)) (from : ℕ) → entries_from from entries ≡ [] → (s : ℕ) → nat_lt s from ≡ false
+    → rests_at entries s ≡ None
+no_next [] from e s above = refl
+no_next (row ∷ rows) from e s above = by_order (nat_lt row.0 from) refl e (no_next rows from)
   where
-    more : take (place + 1) entries ≡ take place entries ++ (site, keys) ∷ []
-    more =
-        take_more entries place (site, keys) (slice_get_within entries place (site, keys) (sym at))
-        ∙ ap (λ (e : ℕ × Rests). take place entries ++ e ∷ []) (get_or_from_slice_get entries place (site, keys) (site, keys) (sym at))
+    by_order : (b : Bool) → nat_lt row.0 from ≡ b → cond (not b) (row ∷ entries_from from rows) (entries_from from rows) ≡ []
+        → (entries_from from rows ≡ [] → (s : ℕ) → nat_lt s from ≡ false → rests_at rows s ≡ None) → rests_at (row ∷ rows) s ≡ None
+    by_order true below e rest =
+        other_there row.0 s row.1 rows (λ same. both_ways (nat_lt s from) above (ap (λ (k : ℕ). nat_lt k from) (sym same) ∙ below))
+        ∙ rest e s above
+    by_order false above e rest = cc
 
-    by_tests : (b : Bool) → lookup (λ t. s == t) entries ≡ (if b || true then lookup (λ t. s == t) entries else None)
-    by_tests true = refl
-    by_tests false = refl
-
-    either : (b : Bool) → (if b then lookup (λ t. s == t) entries else None) ≡ (if b || false then lookup (λ t. s == t) entries else None)
-    either true = refl
-    either false = refl
-
-    by_site : (b : Bool) → (site == s) ≡ b
-        → (if b then Some keys else now) ≡ (if list_any (λ t. t == s) (map (λ (e : ℕ × Rests). e.0) (take place entries))
-        || (b || false) then lookup (λ t. s == t) entries else None)
-    by_site true is =
-        sym value ∙ ap (λ (n : ℕ). lookup (λ t. n == t) entries) ((Decides-eqb site s).0 is)
-        ∙ by_tests (list_any (λ t. t == s) (map (λ (e : ℕ × Rests). e.0) (take place entries)))
-    by_site false is = before ∙ either (list_any (λ t. t == s) (map (λ (e : ℕ × Rests). e.0) (take place entries)))
-
-past : (xs : List (ℕ × Rests)) (n : ℕ) → slice_get xs n ≡ None → take n xs ≡ xs
-past [] zero e = refl
-past [] (suc n) e = refl
-past (x ∷ xs) zero e = cc
-past (x ∷ xs) (suc n) e = ap (λ (ys : List (ℕ × Rests)). x ∷ ys) (past xs n e)
-
-pub all_entries : (entries : List (ℕ × Rests)) (place : ℕ) (now : Option Rests) (s : ℕ) → None ≡ slice_get entries place
-    → now ≡ (if list_any (λ t. t == s) (map (λ e. e.0) (take place entries)) then lookup (λ t. s == t) entries else None)
-    → now ≡ lookup (λ t. s == t) entries
-all_entries entries place now s at before =
-    before
-    ∙ ap (λ (es : List (ℕ × Rests)). if list_any (λ t. t == s) (map (λ e. e.0) es) then lookup (λ t. s == t) entries else None) (past entries place (sym at))
-    ∙ by_test (list_any (λ t. t == s) (map (λ e. e.0) entries)) refl
+-- one number more
+pub number_more : (entries : List (ℕ × Rests)) (from n : ℕ) (r : Rests) (next now : Option Rests) (s : ℕ) → IsNext entries from n r
+    → next ≡ (if n == s then Some r else now) → now ≡ (if nat_lt s from then rests_at entries s else None)
+    → next ≡ (if nat_lt s (n + 1) then rests_at entries s else None)
+number_more entries from n r next now s is last before = last ∙ by_number (n == s) refl
   where
-    by_test : (b : Bool) → list_any (λ t. t == s) (map (λ e. e.0) entries) ≡ b
-        → (if b then lookup (λ t. s == t) entries else None) ≡ lookup (λ t. s == t) entries
-    by_test true is = refl
-    by_test false is = sym (absent s entries is)
+    up : nat_lt s (n + 1) ≡ true → (if true then rests_at entries s else None) ≡ (if nat_lt s (n + 1) then rests_at entries s else None)
+    up e = ap (λ (b : Bool). if b then rests_at entries s else None) (sym e)
+
+    below : s < n + 1 → nat_lt s (n + 1) ≡ true
+    below lt = by_test (nat_lt s (n + 1)) refl
+      where
+        by_test : (b : Bool) → nat_lt s (n + 1) ≡ b → b ≡ true
+        by_test true e = refl
+        by_test false e = absurd (let le = ltb-false s (n + 1) e in omega (arith, le, lt))
+
+    by_order : (b d : Bool) → nat_lt s from ≡ b → nat_lt s (n + 1) ≡ d → ¬ (n ≡ s)
+        → (if b then rests_at entries s else None) ≡ (if d then rests_at entries s else None)
+    by_order true true e f other = refl
+    by_order true false e f other = absurd (let lt = ltb-true s from e in let le = ltb-false n from is.from_on in let over = ltb-false s (n + 1) f in
+        omega (arith, lt, le, over))
+    by_order false true e f other = sym (is.none_between s e (let lt = ltb-true s (n + 1) f in lt_of n s lt other))
+      where
+        lt_of : (n s : ℕ) → s < n + 1 → ¬ (n ≡ s) → s < n
+        lt_of n s lt other = lt_of_le-ne (omega (arith, lt)) (λ same. other (sym same))
+    by_order false false e f other = refl
+
+    by_number : (b : Bool) → (n == s) ≡ b → (if b then Some r else now) ≡ (if nat_lt s (n + 1) then rests_at entries s else None)
+    by_number true e =
+        let same = (Decides-eqb n s).0 e in
+        sym is.value ∙ ap (rests_at entries) same ∙ up (below (omega (arith, same)))
+    by_number false e = before ∙ by_order (nat_lt s from) (nat_lt s (n + 1)) refl refl (λ same. both_ways (n == s) e ((Decides-eqb n s).1 same))
+
+pub all_numbers : (entries : List (ℕ × Rests)) (from : ℕ) (now : Option Rests) (s : ℕ) → entries_from from entries ≡ []
+    → now ≡ (if nat_lt s from then rests_at entries s else None) → now ≡ rests_at entries s
+all_numbers entries from now s e before = before ∙ by_order (nat_lt s from) refl
+  where
+    by_order : (b : Bool) → nat_lt s from ≡ b → (if b then rests_at entries s else None) ≡ rests_at entries s
+    by_order true is = refl
+    by_order false is = sym (no_next entries from e s is)
+
+-- ---- numbers below 2^32
+
+pub put_below : (old new : List (ℕ × Rests)) (site : ℕ) (r : Rests) → site < 2 ^ 32
+    → ((s : ℕ) → rests_at new s ≡ (if site == s then Some r else rests_at old s)) → AreBelow old → AreBelow new
+put_below old new site r low puts below s above = puts s ∙ by_site (site == s) refl
+  where
+    by_site : (b : Bool) → (site == s) ≡ b → (if b then Some r else rests_at old s) ≡ None
+    by_site true is = absurd (let same = (Decides-eqb site s).0 is in let le = ltb-false s (2 ^ 32) above in omega (arith, low, same, le))
+    by_site false is = below s above
+
+-- a number that has a value is below 2^32
+pub is_below : (entries : List (ℕ × Rests)) (n : ℕ) (r : Rests) → AreBelow entries → rests_at entries n ≡ Some r → n < 2 ^ 32
+is_below entries n r below at = by_order (nat_lt n (2 ^ 32)) refl
+  where
+    by_order : (b : Bool) → nat_lt n (2 ^ 32) ≡ b → n < 2 ^ 32
+    by_order true e = ltb-true n (2 ^ 32) e
+    by_order false e = absurd (no_value (sym at ∙ below n e))
+      where
+        no_value : Some r ≡ None → ⊥
+        no_value e = cc
 
 -- ---- group by group
 

@@ -1,13 +1,12 @@
 //! How the definition of a class may change a link.
 
-ghost use Rattle.std.specs.Prelude.{◌≡◌, IfOk};
+ghost use Rattle.std.specs.Prelude.{◌≡◌};
 ghost use Rattle.jl_deps.specs.Forms as forms;
 
 use crate::kept::Footprint;
 use jl_hierarchy::Classes;
 use jl_relink::inherits;
 use jl_types::{ClassId, Link, MethodId, Outcome};
-use std::alloc::AllocError;
 
 /// How the definition of a class may change a link: a megamorphic one it doesn't, and one that runs a single method only where the class
 /// doesn't inherit that.
@@ -34,16 +33,6 @@ impl Rests {
             footprint,
             form: form_of(link),
         }
-    }
-
-    /// The same once more. More copies than can be counted are an error.
-    pub fn again(&self) -> Result<Rests, AllocError>
-        ensures { IfOk result (λ copy. copy ≡ self.now) }
-    {
-        Ok(Rests {
-            footprint: self.footprint.clone()?,
-            form: self.form,
-        })
     }
 }
 

@@ -1,25 +1,26 @@
 //! The index.
 
-ghost use Rattle.std.specs.Prelude.{◌≡◌, ◌==◌, ◌&&◌, ◌||◌, ◌+◌, ◌≤◌, ◌<◌, ◌^◌, ◌∷◌, not, true, ℕ, nat_eq, [], length, Some, None, IfOk, OnOk, OnErr, if◌then◌else◌};
+ghost use Rattle.std.specs.Prelude.{◌≡◌, ◌==◌, ◌&&◌, ◌||◌, ◌+◌, ◌≤◌, ◌<◌, ◌^◌, ◌∷◌, not, true, ℕ, [], length, Some, None, IfOk, OnOk, OnErr, if◌then◌else◌};
 ghost use Rattle.std.specs.Option.{option_copied};
-ghost use Rattle.indexmap.specs.IndexMap.{get, IsUnique};
+ghost use Rattle.indexmap.specs.IndexMap.{IsUnique};
 ghost use Rattle.jl_hierarchy.specs.ForProofs.Kept.{Rises};
 ghost use Rattle.jl_deps.specs.Forms as forms;
 ghost use Rattle.jl_deps.specs.Indexes.{AreRising, rests_at, touched_by, asked_by};
 ghost use Rattle.jl_deps.specs.Ways.{has};
-ghost use Rattle.jl_deps.specs.ForProofs.Lists.{AreListed, form_eq, keys_in, form_in, any_listed, any_asked, any_unasked, unasked_by};
+ghost use Rattle.jl_deps.specs.ForProofs.Lists.{AreBelow, AreKept, form_eq, keys_in, form_in, any_listed, any_asked, any_unasked, unasked_by};
 
 use crate::form::{Form, Rests, may_change};
-use crate::kept::Footprint;
 use crate::lists::{Groups, Lists, relist, unlist_others};
-use indexmap::{IndexMap, IndexSet};
+use crate::rests::KeptRests;
+use indexmap::IndexMap;
 use jl_hierarchy::Classes;
+use jl_numbered::Numbered;
 use jl_types::{ClassId, Key, SiteNo, Work};
 use std::alloc::{AllocError, Global};
 use std::marker::Model;
 
-/// What each site's link rests on, and its form.
-type Sites = IndexMap<SiteNo, Rests>;
+/// What each site's link rests on, and its form, at the place of its number.
+type Sites = Numbered<KeptRests>;
 
 /// What the links of sites rest on, by site and by key. A clause sees each site that was added, with its footprint and its form, by rising
 /// number.
@@ -44,14 +45,13 @@ impl Drop for Index {
 impl Model for Index {
     ghost use Rattle.std.specs.Prelude.{List, ℕ};
     ghost use Rattle.jl_deps.specs.declared.form.Rests.{Rests};
-    ghost use Rattle.jl_types.specs.ForProofs.BySite.{by_site};
-    ghost use Rattle.jl_deps.specs.ForProofs.Lists.{AreListed};
+    ghost use Rattle.jl_deps.specs.ForProofs.Lists.{AreKept};
 
     ghost Value = { List (ℕ × Rests) };
 
-    ghost view = { λ i. by_site i.sites.entries };
+    ghost view = { λ i. i.sites.entries };
 
-    ghost invariant = { λ i. AreListed i.sites i.lists };
+    ghost invariant = { λ i. AreKept i.sites.entries i.lists };
 }
 
 impl Index {
@@ -60,7 +60,7 @@ impl Index {
         ensures { result ≡ [] }
     {
         Index {
-            sites: IndexMap::new(alloc),
+            sites: Numbered::new(alloc),
             lists: IndexMap::new(alloc),
         }
     }
@@ -72,6 +72,7 @@ impl Index {
         let mut copy = Index::new(alloc);
         add_all(alloc, &self.sites, &mut copy)?;
         // Shows that the sites rise, so that equal footprints are equal indexes.
+        let _sites = self.len();
         let _count = copy.len();
         Ok(copy)
     }
@@ -111,10 +112,10 @@ impl Index {
     }
 
     /// What the site's link rests on, and its form. Takes no memory.
-    pub fn rests(&self, site: SiteNo) -> Option<&Rests>
+    pub fn rests(&self, site: SiteNo) -> Option<&KeptRests>
         ensures { option_copied result ≡ rests_at self.now site }
     {
-        self.sites.get(&site)
+        self.sites.get(site.number() as usize)
     }
 
     /// The sites whose footprints meet the keys, by rising number. Want of memory is an error.
@@ -179,6 +180,8 @@ impl Index {
         ensures { OnOk result ((s : ℕ) → has s sites.new.items
             ≡ (has s sites.old.items || has s (touched_by self.now (key.now ∷ [])))) }
     {
+        // Shows that the sites of the index rise.
+        let _count = self.len();
         let Some(groups) = self.lists.get(key) else {
             return Ok(());
         };
@@ -223,6 +226,8 @@ impl Index {
         ensures searched { OnOk result ((s : ℕ) → has s asked.new.searched.items ≡ true
             → (has s asked.old.searched.items || has s (unasked_by self.now (key.now ∷ []) classes.now class)) ≡ true) }
     {
+        // Shows that the sites of the index rise.
+        let _count = self.len();
         let Some(groups) = self.lists.get(key) else {
             return Ok(());
         };
@@ -238,18 +243,19 @@ struct Asked {
     searched: Vec<SiteNo>,
 }
 
-/// Each site rests on what the map has. Want of memory is an error.
+/// Each site rests on what it has there. Want of memory is an error.
 fn add_all(alloc: Global, sites: &Sites, copy: &mut Index) -> Result<(), AllocError>
-    requires { copy.old ≡ [] }
-    ensures { OnOk result ((s : ℕ) → rests_at copy.new s ≡ get nat_eq sites.now s) }
+    requires empty { copy.old ≡ [] }
+    requires below { AreBelow sites.now.entries }
+    ensures { OnOk result ((s : ℕ) → rests_at copy.new s ≡ rests_at sites.now.entries s) }
 {
-    // Shows that each site stands once, and bounds the loop.
+    // Shows that the numbers rise.
     let _len = sites.len();
-    let mut place = 0;
-    while let Some((site, rests)) = sites.get_index(place) {
+    let mut from = 0;
+    while let Some((number, rests)) = sites.next(from) {
         let again = rests.again()?;
-        copy.add(alloc, *site, again)?;
-        place += 1;
+        copy.add(alloc, SiteNo::new(number as u32), again)?;
+        from = number + 1;
     }
     Ok(())
 }
@@ -262,54 +268,55 @@ fn put(
     site: SiteNo,
     rests: Rests,
 ) -> Result<(), AllocError>
-    requires { AreListed sites.old lists.old }
-    ensures listed { AreListed sites.new lists.new }
-    ensures ok { OnOk result ((s : ℕ) → get nat_eq sites.new s ≡ (if site == s then Some rests else get nat_eq sites.old s)) }
+    requires { AreKept sites.old.entries lists.old }
+    ensures kept { AreKept sites.new.entries lists.new }
+    ensures ok { OnOk result ((s : ℕ) → rests_at sites.new.entries s ≡ (if site == s then Some rests else rests_at sites.old.entries s)) }
     ensures err { OnErr result (sites.new.entries ≡ sites.old.entries) }
 {
-    sites.reserve(1)?;
-    let was = form_at(sites, site);
+    let number = site.number() as usize;
+    sites.reserve(number)?;
+    let was = form_at(sites, number);
     relist(
         lists,
         alloc,
-        keys_at(sites, site),
+        keys_at(sites, number),
         &was,
         rests.footprint.as_slice(),
         &rests.form,
         site,
     )?;
-    sites.insert(site, rests).unwrap();
+    sites.put_reserved(number, KeptRests::new(rests));
     Ok(())
 }
 
 /// The keys of the site's footprint, and none if it has none.
-fn keys_at(sites: &Sites, site: SiteNo) -> &[Key]
-    ensures { result.now ≡ keys_in (get nat_eq sites.now site) }
+fn keys_at(sites: &Sites, site: usize) -> &[Key]
+    ensures { result.now ≡ keys_in (rests_at sites.now.entries site) }
 {
-    match sites.get(&site) {
-        Some(rests) => rests.footprint.as_slice(),
+    match sites.get(site) {
+        Some(rests) => rests.keys(),
         None => &[],
     }
 }
 
 /// The form of the site's link, and any if it has none.
-fn form_at(sites: &Sites, site: SiteNo) -> Form
-    ensures { result ≡ form_in (get nat_eq sites.now site) }
+fn form_at(sites: &Sites, site: usize) -> Form
+    ensures { result ≡ form_in (rests_at sites.now.entries site) }
 {
-    match sites.get(&site) {
-        Some(rests) => rests.form,
+    match sites.get(site) {
+        Some(rests) => rests.form(),
         None => Form::Other,
     }
 }
 
 /// The site rests on nothing any more. Takes no memory.
 fn take(sites: &mut Sites, lists: &mut Lists, site: SiteNo)
-    requires { AreListed sites.old lists.old }
-    ensures listed { AreListed sites.new lists.new }
-    ensures gone { (s : ℕ) → get nat_eq sites.new s ≡ (if site == s then None else get nat_eq sites.old s) }
+    requires { AreKept sites.old.entries lists.old }
+    ensures kept { AreKept sites.new.entries lists.new }
+    ensures gone { (s : ℕ) → rests_at sites.new.entries s ≡ (if site == s then None else rests_at sites.old.entries s) }
 {
-    if let Some(old) = sites.swap_remove(&site) {
-        unlist_others(lists, old.footprint.as_slice(), &old.form, &[], site);
+    if let Some(old) = sites.remove(site.number() as usize) {
+        unlist_others(lists, old.keys(), &old.form(), &[], site);
     }
 }
 

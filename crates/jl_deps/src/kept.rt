@@ -1,6 +1,7 @@
 //! Footprints as they are kept.
 
 ghost use Rattle.std.specs.Prelude.{◌≡◌, ◌∷◌, [], IfOk};
+ghost use Rattle.jl_deps.specs.ForProofs.Kept.{keys_of};
 
 use jl_names::Seq;
 use jl_types::Key;
@@ -18,7 +19,7 @@ pub struct Footprint {
 
 /// What is kept of each footprint.
 #[derive(Drop)]
-enum Kept {
+pub(crate) enum Kept {
     Nothing,
     One(Key),
     Several(Arc<Seq<Key>>),
@@ -41,20 +42,6 @@ impl Model for Footprint {
     ghost Value = { List Key };
 
     ghost view = { λ f. keys_of f.kept };
-}
-
-/// The same keys once more, and of more than one the same list. More copies than can be counted are an error.
-impl Clone for Footprint {
-    ghost is_clone = { λ footprint copy. copy ≡ footprint };
-
-    fn clone(&self) -> Result<Footprint, AllocError> {
-        let kept = match &self.kept {
-            Kept::Nothing => Kept::Nothing,
-            Kept::One(key) => Kept::One(*key),
-            Kept::Several(keys) => Kept::Several(Arc::try_clone(keys)?),
-        };
-        Ok(Footprint { kept })
-    }
 }
 
 /// A footprint is printed as the list of its keys.
@@ -96,6 +83,23 @@ impl Footprint {
                 kept: Kept::Several(Arc::new(alloc, Seq::of(keys))?),
             }),
         }
+    }
+
+    /// More than one key, which others may share. Takes no memory.
+    pub(crate) fn several(keys: Arc<Seq<Key>>) -> Self
+        ensures { result ≡ keys.value }
+    {
+        Footprint {
+            kept: Kept::Several(keys),
+        }
+    }
+
+    /// What is kept of it. Takes no memory.
+    pub(crate) fn into_kept(self) -> Kept
+        ensures { keys_of result ≡ self }
+    {
+        let Footprint { kept } = self;
+        kept
     }
 
     /// The keys, in order. Takes no memory.

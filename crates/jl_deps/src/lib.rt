@@ -12,6 +12,7 @@ mod kept;
 mod keys;
 mod laws;
 mod lists;
+mod rests;
 
 pub use footprint::{footprint_of, footprint_of_linked};
 pub use form::{Form, Rests};
@@ -22,3 +23,4 @@ pub use keys::{
     keys_of_target,
 };
 pub use laws::only_touched_sites_change;
+pub use rests::KeptRests;

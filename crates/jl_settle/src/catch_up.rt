@@ -7,7 +7,7 @@ ghost use Rattle.jl_cache.specs.Links.{link_at};
 ghost use Rattle.jl_deps.specs.Indexes.{rests_at};
 
 use jl_cache::Cache;
-use jl_deps::{Index, Rests};
+use jl_deps::{Index, KeptRests};
 use jl_types::SiteNo;
 use std::alloc::{AllocError, Global};
 
@@ -48,7 +48,7 @@ fn take_rests(
     alloc: Global,
     index: &mut Index,
     site: SiteNo,
-    rests: Option<&Rests>,
+    rests: Option<&KeptRests>,
 ) -> Result<(), AllocError>
     ensures { OnOk result ((s : ℕ) → rests_at index.new s ≡ (if site == s then option_copied rests.entry else rests_at index.old s)) }
 {

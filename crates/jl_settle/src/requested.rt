@@ -8,9 +8,9 @@ ghost use Rattle.jl_types.specs.Events.Retirement.{retires_site};
 ghost use Rattle.jl_types.specs.declared.link.Link.{Link};
 ghost use Rattle.jl_settle.specs.ForProofs.Requested.{is_invoked, is_among, is_in_method, requested_where};
 
-use indexmap::IndexSet;
 use jl_class::Method;
 use jl_hierarchy::Classes;
+use jl_places::Places;
 use jl_relink::World;
 use jl_types::{ClassId, LoaderId, Place, SiteNo};
 use std::alloc::{AllocError, Global};
@@ -48,13 +48,13 @@ fn sites_in(alloc: Global, world: &World, classes: &[ClassId]) -> Result<Vec<Sit
 /// Adds the requested invocations of the class. Want of memory is an error.
 fn push_of_class(
     sites: &mut Vec<SiteNo>,
-    places: &IndexSet<Place>,
+    places: &Places,
     classes: &Classes,
     class: ClassId,
 ) -> Result<(), AllocError>
-    requires { length places.now.keys < 2 ^ 32 }
+    requires { length places.now < 2 ^ 32 }
     ensures { OnOk result ((s : ℕ) → list_any (λ t. t == s) sites.new.items
-        ≡ (list_any (λ t. t == s) sites.old.items || requested_where (is_invoked classes.now class) places.now.keys s)) }
+        ≡ (list_any (λ t. t == s) sites.old.items || requested_where (is_invoked classes.now class) places.now s)) }
 {
     let Some(row) = classes.class_at(class) else {
         return Ok(());
@@ -71,14 +71,14 @@ fn push_of_class(
 /// Adds the requested invocations of the method. Want of memory is an error.
 fn push_of_method(
     sites: &mut Vec<SiteNo>,
-    places: &IndexSet<Place>,
+    places: &Places,
     class: ClassId,
     number: u16,
     method: &Method<'_>,
 ) -> Result<(), AllocError>
-    requires { length places.now.keys < 2 ^ 32 }
+    requires { length places.now < 2 ^ 32 }
     ensures { OnOk result ((s : ℕ) → list_any (λ t. t == s) sites.new.items
-        ≡ (list_any (λ t. t == s) sites.old.items || requested_where (is_in_method class number method.now.sites) places.now.keys s)) }
+        ≡ (list_any (λ t. t == s) sites.old.items || requested_where (is_in_method class number method.now.sites) places.now s)) }
 {
     let invocations = method.sites();
     // Bounds the loop.
@@ -97,14 +97,10 @@ fn push_of_method(
 }
 
 /// Adds the site of the place, where it is requested. Want of memory is an error.
-fn push_requested(
-    sites: &mut Vec<SiteNo>,
-    places: &IndexSet<Place>,
-    place: &Place,
-) -> Result<(), AllocError>
-    requires { length places.now.keys < 2 ^ 32 }
+fn push_requested(sites: &mut Vec<SiteNo>, places: &Places, place: &Place) -> Result<(), AllocError>
+    requires { length places.now < 2 ^ 32 }
     ensures { OnOk result ((s : ℕ) → list_any (λ t. t == s) sites.new.items
-        ≡ (list_any (λ t. t == s) sites.old.items || requested_where (same_place place.now) places.now.keys s)) }
+        ≡ (list_any (λ t. t == s) sites.old.items || requested_where (same_place place.now) places.now s)) }
 {
     // Shows that each place is requested once.
     let _len = places.len();

@@ -1,5 +1,5 @@
 -- The sites that are listed under each key. A means of proof.
-use Rattle.std.specs.Prelude.{◌≡◌, ◌&&◌, ℕ, Bool, false, not, nat_eq, List, [], map, filter, Option, Some, None}
+use Rattle.std.specs.Prelude.{◌≡◌, ◌&&◌, ◌^◌, ℕ, Bool, false, not, nat_eq, nat_lt, List, [], map, filter, Option, Some, None}
 use Rattle.std.specs.List.{list_any}
 use Rattle.std.specs.Option.{option_map_or}
 use Rattle.indexmap.specs.IndexMap.{IndexMap, get}
@@ -13,6 +13,7 @@ use Rattle.jl_deps.specs.declared.form.Form.TheVariants.{Other}
 use Rattle.jl_deps.specs.declared.form.Rests.{Rests}
 use Rattle.jl_deps.specs.contracts.form.FormPartialEq.TheImpl as of_forms
 use Rattle.jl_deps.specs.Forms.{may_change}
+use Rattle.jl_deps.specs.Indexes.{rests_at}
 use Rattle.jl_deps.specs.Ways.{has}
 
 -- the derived `==` of keys
@@ -32,12 +33,21 @@ abbrev pub listed : {R S T : Type 0} → IndexMap Key (IndexMap Form (IndexSet �
 listed lists k f s = option_map_or (λ groups. listed_in groups f s) (get key_eq lists k) false
 
 -- the site has the form, and the key in its footprint
-abbrev pub rests : {S : Type 0} → IndexMap ℕ Rests S → ℕ → Key → Form → Bool
-rests sites s k f = option_map_or (λ r. form_eq r.form f && has_key r.footprint k) (get nat_eq sites s) false
+abbrev pub rests : List (ℕ × Rests) → ℕ → Key → Form → Bool
+rests sites s k f = option_map_or (λ r. form_eq r.form f && has_key r.footprint k) (rests_at sites s) false
 
 -- each site is listed under the keys of its footprint and by its form, and by no others
-abbrev pub AreListed : {Q R S T : Type 0} → IndexMap ℕ Rests Q → IndexMap Key (IndexMap Form (IndexSet ℕ R) S) T → Type 0
+abbrev pub AreListed : {R S T : Type 0} → List (ℕ × Rests) → IndexMap Key (IndexMap Form (IndexSet ℕ R) S) T → Type 0
 AreListed sites lists = (s : ℕ) (k : Key) (f : Form) → listed lists k f s ≡ rests sites s k f
+
+-- no site has a number of 2^32 or more
+abbrev pub AreBelow : List (ℕ × Rests) → Type 0
+AreBelow sites = (s : ℕ) → nat_lt s (2 ^ 32) ≡ false → rests_at sites s ≡ None
+
+-- what is kept of an index
+pub record AreKept {R S T : Type 0} (sites : List (ℕ × Rests)) (lists : IndexMap Key (IndexMap Form (IndexSet ℕ R) S) T) : Type 0 where
+  pub listed : AreListed sites lists
+  pub below : AreBelow sites
 
 -- what it rests on, where that may be nothing: its keys, and its form
 abbrev pub keys_in : Option Rests → List Key

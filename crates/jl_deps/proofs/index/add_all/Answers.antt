@@ -1,24 +1,45 @@
-use Rattle.std.specs.Prelude.{◌==◌, Some, if◌then◌else◌}
-use Rattle.std.proofs.Common.{sym, ap, ◌∙◌, arith}
-use Rattle.std.proofs.lemmas.Option.{slice_get_within}
-use Rattle.jl_deps.specs.declared.form.Rests.{Rests}
+use Rattle.std.specs.Prelude.{◌==◌, ◌<◌, ◌+◌, ◌^◌, ◌-◌, Some, if◌then◌else◌}
+use Rattle.std.proofs.Common.{refl, ◌∙◌, arith}
+use Rattle.std.proofs.lemmas.Bool.{ltb-false}
+use Rattle.jl_types.proofs.BySite.{rises_of}
 use Rattle.jl_deps.specs.Indexes.{rests_at}
-use Rattle.jl_deps.proofs.ListLaws.{entry_more, all_entries}
+use Rattle.jl_deps.proofs.ListLaws.{next_is, is_below, number_more, all_numbers}
 use Rattle.jl_deps.proofs.index.add_all.Goals as goal
 
-pub loop-site-preserved : goal.loop-site-preserved
-loop-site-preserved c =
-    let entries = c.args.sites.now.entries in
+pub overflow_cast-number : goal.overflow_cast-number
+overflow_cast-number c =
+    let sites = c.args.sites.now.entries in
+    let next =
+    next_is sites c.loop-number.from c.in-Some.number c.in-Some.rests.now _ (rises_of sites c.len-len.ensures.rising) c.in-Some.ensures.entry in
+    let below = is_below sites c.in-Some.number c.in-Some.rests.now c.requires.below next.value in
+    omega (arith, below)
+
+pub loop-number-smaller : goal.loop-number-smaller
+loop-number-smaller c =
+    let sites = c.args.sites.now.entries in
+    let next =
+    next_is sites c.loop-number.from c.in-Some.number c.in-Some.rests.now _ (rises_of sites c.len-len.ensures.rising) c.in-Some.ensures.entry in
+    let below = is_below sites c.in-Some.number c.in-Some.rests.now c.requires.below next.value in
+    let le = ltb-false c.in-Some.number c.loop-number.from next.from_on in
+    let less : 2 ^ 32 - (c.in-Some.number + 1) < 2 ^ 32 - c.loop-number.from = omega (arith, below, le) in
+    less
+
+pub loop-number-preserved : goal.loop-number-preserved
+loop-number-preserved c =
+    let sites = c.args.sites.now.entries in
+    let next =
+    next_is sites c.loop-number.from c.in-Some.number c.in-Some.rests.now _ (rises_of sites c.len-len.ensures.rising) c.in-Some.ensures.entry in
+    let below = is_below sites c.in-Some.number c.in-Some.rests.now c.requires.below next.value in
     record {
-      within = (let lt = slice_get_within entries c.loop-site.place (c.in-Some.site.now, c.in-Some.rests.now) (sym c.in-Some.ensures.entry) in omega arith);
+      within = omega (arith, below);
       added = λ s.
-          entry_more entries c.loop-site.place c.in-Some.site.now c.in-Some.rests.now (rests_at c.add.new.self s) (rests_at c.loop-site.copy s) s
-          c.in-Some.ensures.entry c.in-Some.ensures.value
-          (c.in_ok-add.ensures.ok s ∙ ap (λ (keys : Rests). if c.in-Some.site.now == s then Some keys else rests_at c.loop-site.copy s)
-          c.in_ok-again.ensures)
-          (c.loop-site.invariant.added s);
+          number_more sites c.loop-number.from c.in-Some.number c.in-Some.rests.now (rests_at c.add.new.self s) (rests_at c.loop-number.copy s) s next
+          (c.in_ok-add.ensures.ok s
+          ∙ (λ i. if c.new.ensures i == s then Some (c.in_ok-again.ensures i) else rests_at c.loop-number.copy s))
+          (c.loop-number.invariant.added s);
     }
 
 pub returns : goal.returns
 returns c = λ s.
-    all_entries c.args.sites.now.entries c.loop-site.place (rests_at c.loop-site.copy s) s c.in_default.ensures.entry (c.loop-site.invariant.added s)
+    all_numbers c.args.sites.now.entries c.loop-number.from (rests_at c.loop-number.copy s) s (c.in_default.ensures.end refl)
+    (c.loop-number.invariant.added s)

@@ -1,4 +1,4 @@
-use Rattle.std.specs.Prelude.{◌≡◌, ◌==◌, ◌&&◌, ℕ, not}
+use Rattle.std.specs.Prelude.{◌==◌, ◌&&◌, ℕ, not}
 use Rattle.std.proofs.Common.{ap, sym, ◌∙◌}
 use Rattle.std.proofs.lemmas.Bool.Decides.{Decides-eqb}
 use Rattle.jl_types.specs.Events.Footprints.{has_key}

@@ -7,7 +7,7 @@ use Rattle.jl_settle.proofs.RequestedLaws.{no_method, class_methods, method_list
 use Rattle.jl_settle.proofs.requested.push_of_class.Goals as goal
 
 pub loop-method-init : goal.loop-method-init
-loop-method-init c = λ s. no_method c.args.classes.now c.args.class (has s c.args.sites.now.items) c.args.places.now.keys s
+loop-method-init c = λ s. no_method c.args.classes.now c.args.class (has s c.args.sites.now.items) c.args.places.now s
 
 pub loop-method-preserved : goal.loop-method-preserved
 loop-method-preserved c = λ s.
@@ -15,7 +15,7 @@ loop-method-preserved c = λ s.
     class_methods c.args.classes.now c.args.class c.in-Some.row.now (sym c.class_at.ensures.found ∙ ap option_copied c.in-Some.is)
     ∙ sym (c.methods-methods.ensures.methods ∙ ap (λ f. f.methods) c.file.ensures) in
     method_listed (has s c.args.sites.now.items) (has s c.loop-method.sites.items) (has s c.push_of_method.new.sites.items)
-    c.args.classes.now c.args.class c.loop-method.number c.in-Some-at.method c.args.places.now.keys s
+    c.args.classes.now c.args.class c.loop-method.number c.in-Some-at.method c.args.places.now s
     (ap (λ (ms : List Method). slice_get ms c.loop-method.number) methods ∙ sym c.at.ensures ∙ c.in-Some-at.is)
     (c.in_ok-push_of_method.ensures s) (c.loop-method.invariant s)
 
@@ -25,6 +25,6 @@ returns c = λ s.
     class_methods c.args.classes.now c.args.class c.in-Some.row.now (sym c.class_at.ensures.found ∙ ap option_copied c.in-Some.is)
     ∙ sym (c.methods-methods.ensures.methods ∙ ap (λ f. f.methods) c.file.ensures) in
     all_methods c.args.classes.now c.args.class (has s c.args.sites.now.items) (has s c.loop-method.sites.items) c.loop-method.number
-    c.args.places.now.keys s
+    c.args.places.now s
     (ap (λ (ms : List Method). slice_get ms c.loop-method.number) methods ∙ sym c.at.ensures ∙ c.in_default-at.is)
     (c.loop-method.invariant s)

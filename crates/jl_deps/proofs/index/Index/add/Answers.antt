@@ -1,8 +1,7 @@
 use Rattle.std.specs.Prelude.{◌==◌, Option, Some, if◌then◌else◌}
-use Rattle.std.proofs.Common.{sym, ap, ◌∙◌}
+use Rattle.std.proofs.Common.{ap, ◌∙◌}
 use Rattle.jl_deps.specs.declared.form.Rests.{Rests}
 use Rattle.jl_deps.specs.Indexes.{rests_at}
-use Rattle.jl_types.proofs.BySite.{found_by_site}
 use Rattle.jl_deps.proofs.ListLaws.{on_ok}
 use Rattle.jl_deps.proofs.index.Index.add.Goals as goal
 
@@ -10,7 +9,6 @@ pub returns-clause-ok : goal.returns-clause-ok
 returns-clause-ok c =
     on_ok
     (λ puts s.
-    found_by_site c.put.new.sites.entries s ∙ puts s
-    ∙ ap (λ (o : Option Rests). if c.args.site == s then Some c.args.rests else o)
-    (sym (found_by_site c.self.inside.sites.entries s) ∙ ap (λ rows. rests_at rows s) c.self.view_is))
+    puts s
+    ∙ ap (λ (o : Option Rests). if c.args.site == s then Some c.args.rests else o) (ap (λ rows. rests_at rows s) c.self.view_is))
     c.put.result c.put.ensures.ok

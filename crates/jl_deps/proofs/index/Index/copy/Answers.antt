@@ -1,13 +1,10 @@
-use Rattle.std.proofs.Common.{sym, ◌∙◌}
-use Rattle.jl_types.specs.ForProofs.BySite.{by_site}
-use Rattle.jl_types.proofs.BySite.{rises, found_by_site}
-use Rattle.jl_types.proofs.BySite.{rises_of}
-use Rattle.jl_types.proofs.BySite.{same_values}
+use Rattle.std.proofs.Common.{ap, ◌∙◌}
+use Rattle.jl_types.proofs.BySite.{rises_of, same_values}
+use Rattle.jl_deps.specs.Indexes.{rests_at}
 use Rattle.jl_deps.proofs.index.Index.copy.Goals as goal
 
 pub returns : goal.returns
 returns c =
-    let entries = c.self.inside.sites.entries in
-    same_values c.add_all.new.copy (by_site entries) (rises_of c.add_all.new.copy c.len-count.ensures.rising) (rises entries)
-    (λ s. c.in_ok-add_all.ensures s ∙ sym (found_by_site entries s))
-    ∙ c.self.view_is
+    same_values c.add_all.new.copy c.args.self.now (rises_of c.add_all.new.copy c.len-count.ensures.rising)
+    (rises_of c.args.self.now c.len-sites.ensures.rising)
+    (λ s. c.in_ok-add_all.ensures s ∙ ap (λ rows. rests_at rows s) c.self.view_is)
