@@ -20,7 +20,8 @@ use Rattle.jl_types.specs.Events.History.{world_after}
 use Rattle.jl_select.proofs.Constancy.{constant_itself}
 use Rattle.jl_relink.specs.Laws.{has_read_file}
 use Rattle.jl_relink.proofs.Loaders.{loader_constant}
-use Rattle.jl_core.specs.State.{State, empty_core, events, world_of, links_of, HasInstalled}
+use Rattle.jl_core.specs.State.{State, empty_core, events, world_of, links_of}
+use Rattle.jl_core.specs.Installs.{HasInstalled}
 use Rattle.jl_core.specs.Logs.{Entry, told, are_told, shown, AreToldThen}
 use Rattle.jl_core.specs.Headline.{AreApplied}
 use Rattle.jl_core.specs.WorkBounds.{most_of_last}

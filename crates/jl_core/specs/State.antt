@@ -1,10 +1,9 @@
 -- A core as its callers see it: the events that it accepted, each with its reply. What there is to link and which links are
 -- installed (polymorphic inline caches: Hölzle, Chambers and Ungar 1991) is what these events come to.
-use Rattle.std.specs.Prelude.{◌≡◌, ◌⊎◌, ℕ, List, [], ◌∷◌, ◌++◌, map, take, slice_get, Some, None, Result, Ok, Err, IsOk}
+use Rattle.std.specs.Prelude.{◌≡◌, ◌⊎◌, ℕ, List, [], ◌∷◌, ◌++◌, map, take, slice_get, Some, Result, Ok, Err, IsOk}
 use Rattle.jl_types.specs.declared.limits.Limits.{Limits}
 use Rattle.jl_types.specs.declared.link.Link.{Link}
 use Rattle.jl_types.specs.Events.Event.{Event}
-use Rattle.jl_types.specs.declared.event.EventOf.TheVariants as event
 use Rattle.jl_types.specs.declared.event.Made.{Made}
 use Rattle.jl_types.specs.declared.event.Reply.{Reply}
 use Rattle.jl_types.specs.declared.refusal.Refusal.{Refusal}
@@ -13,7 +12,6 @@ use Rattle.jl_types.specs.Values.World.{World}
 use Rattle.jl_types.specs.Events.Verdict.{verdict}
 use Rattle.jl_types.specs.Events.History.{world_after, installed_links}
 use Rattle.jl_types.specs.Events.History as history
-use Rattle.jl_types.specs.Events.Preparation.{prepare_fault, ArePrepared}
 use Rattle.jl_select.specs.Constancy.{IsConstant}
 
 pub record State : Type 0 where
@@ -52,13 +50,6 @@ pub record IsAccepted (old new : State) (e : Event) (reply : Reply) : Type 0 whe
   pub answered : history.reply old.limits (events old) e ≡ Ok reply
   pub logged : new ≡ record old { log = old.log ++ (e, reply) ∷ [] }
   pub constant : IsConstant (world_of old).classes (world_of new).classes
-
--- The sites with their links from scratch were installed, and nothing was at fault with the sites.
-pub record HasInstalled (core : State) (sites : List ℕ) (after : State) (reply : Reply) : Type 0 where
-  pub rows : List (ℕ × Link)
-  pub fine : prepare_fault (world_of core) sites ≡ None
-  pub prepared : ArePrepared (world_of core) sites rows
-  pub accepted : IsAccepted core after (event.Install rows) reply
 
 -- What an event does, by its answer: where it is refused, the core is as before.
 abbrev pub IsApplied : State → Event → Result Reply Refusal → State → Type 0

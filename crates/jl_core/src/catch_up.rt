@@ -61,7 +61,8 @@ pub(crate) fn catch_up(
         index_ahead,
         entry,
     )?;
-    catch_up_world(world, alloc, world_ahead, entry.event())?;
+    let event = entry.event();
+    catch_up_world(world, alloc, world_ahead, event.get())?;
     log.push(entry.share()?)?;
     Ok(())
 }
@@ -85,9 +86,10 @@ fn catch_up_links(
     ensures links { OnOk result ((s : ℕ) → link_at links.new s ≡ link_at links_ahead.now s) }
     ensures index { OnOk result (IsIndex ahead.now (link_at links.new) index.new) }
 {
-    match entry.event() {
+    let event = entry.event();
+    match event.get() {
         Accepted::Define(_, _) => {
-            forget(alloc, links, index, entry.reply().dropped.as_slice())?;
+            forget(alloc, links, index, entry.dropped())?;
             Ok(())
         }
         event => catch_up_touched(

@@ -20,6 +20,6 @@ pub use event_machine::EventMachine;
 pub use jl_events::Accepted;
 pub use jl_journal::Journal;
 pub use laws::links_are_exact;
-pub use log::{Entry, share_log};
+pub use log::{Entry, EntryEvent, share_log};
 pub use machine::Core;
 pub use plan::Planned;

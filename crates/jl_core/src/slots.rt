@@ -44,8 +44,9 @@ fn touched(alloc: Global, entry: &Entry) -> Result<Vec<SiteNo>, AllocError>
 fn listed(alloc: Global, entry: &Entry) -> Result<Vec<SiteNo>, AllocError>
     ensures { IfOk result (λ sites. sites.items ≡ touched_by entry.now.event entry.now.reply.dropped) }
 {
-    let sites = entry.reply().dropped.as_slice().to_vec(alloc)?;
-    match entry.event() {
+    let sites = entry.dropped().to_vec(alloc)?;
+    let event = entry.event();
+    match event.get() {
         Accepted::Install(rows) => with_sites(sites, rows.as_slice()),
         _ => Ok(sites),
     }

@@ -38,12 +38,6 @@ module _ {A : Type 0} (size : A) (of : SitesFault → A) where
   batch_cause false None (Some y) f e = inr (inr (refl, e))
   batch_cause false None None f e = cc
 
-  pub no_batch_cause : (b : Bool) (sites : Option SitesFault) (last : Option A) → first_of (then_some b size ∷ option_map of sites ∷ last ∷ []) ≡ None
-      → (b ≡ false) × (sites ≡ None)
-  no_batch_cause true sites last e = cc
-  no_batch_cause false (Some x) last e = cc
-  no_batch_cause false None last e = (refl, refl)
-
 -- ---- the sites
 
 site_cause : (b c : Bool) (u r : SitesFault) (rest : Option SitesFault) (f : SitesFault) → first_of (then_some b u ∷ then_some c r ∷ rest ∷ []) ≡ Some f
@@ -182,22 +176,3 @@ module _ (w : World) where
           let now : scratch w row.0 ≡ Ok row.1 = ap (scratch w) prepared.0.0 ∙ sym same ∙ prepared.0.1 in
           let fine = ap (row_fault row.0 row.1) now ∙ ap (λ (b : Bool). if b then None else Some (refusal.Stale row.0 row.1))
           ((link_decides row.1 row.1).1 refl) in cc (fine, is))
-
--- the prepared rows are of the sites, in order
-pub prepared_sites : (v : World) (sites : List ℕ) (rows : List (ℕ × Link)) → ArePrepared v sites rows → map (λ row. row.0) rows ≡ sites
-prepared_sites v [] [] prepared = refl
-prepared_sites v [] (row ∷ rows) prepared = absurd prepared
-prepared_sites v (s ∷ sites) [] prepared = absurd prepared
-prepared_sites v (s ∷ sites) (row ∷ rows) prepared = λ i. prepared.0.0 i ∷ prepared_sites v sites rows prepared.1 i
-
--- prepared rows have no fault in the world in which they were prepared
-pub no_row_fault : (v : World) (sites : List ℕ) (rows : List (ℕ × Link)) → ArePrepared v sites rows
-    → first_of (map (λ row. row_fault row.0 row.1 (scratch v row.0)) rows) ≡ None
-no_row_fault v [] [] prepared = refl
-no_row_fault v [] (row ∷ rows) prepared = absurd prepared
-no_row_fault v (s ∷ sites) [] prepared = absurd prepared
-no_row_fault v (s ∷ sites) (row ∷ rows) prepared =
-    let now : scratch v row.0 ≡ Ok row.1 = ap (scratch v) prepared.0.0 ∙ prepared.0.1 in
-    let fine : row_fault row.0 row.1 (scratch v row.0) ≡ None =
-    ap (row_fault row.0 row.1) now ∙ ap (λ (b : Bool). if b then None else Some (refusal.Stale row.0 row.1)) ((link_decides row.1 row.1).1 refl) in
-    ap (λ (o : Option Refusal). first_of (o ∷ map (λ r. row_fault r.0 r.1 (scratch v r.0)) rows)) fine ∙ no_row_fault v sites rows prepared.1

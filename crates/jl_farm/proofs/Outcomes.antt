@@ -1,8 +1,7 @@
 -- What a job came to is shown by the lists that its report names.
 use Rattle.std.proofs.Common.{◌≡◌, ◌⊎◌, ◌<◌, ℕ, Bool, true, false, List, [], ◌∷◌, map, length, Option, Some, None, Result, Ok, Err, Any, refl, ap}
 use Rattle.std.proofs.Common.{sym, ◌∙◌, subst, inl, inr, arith}
-use Rattle.std.specs.Prelude.{option_map, IsOk, IsErr}
-use Rattle.std.specs.Bool.{then_some}
+use Rattle.std.specs.Prelude.{IsOk, IsErr}
 use Rattle.std.proofs.lemmas.List.{length-map}
 use mathlib.Core.List.{IsPrefix}
 use Rattle.jl_types.specs.declared.limits.Limits.{Limits}
@@ -36,8 +35,8 @@ use Rattle.jl_farm.specs.declared.report.JobOutcome.{JobOutcome}
 use Rattle.jl_farm.specs.declared.report.JobOutcome.TheVariants as outcome
 use Rattle.jl_farm.specs.Reports.{world_of, ComesAfter, IsNoBatch, IsShown, IsStale, IsRefusedBatch, IsInstalled}
 use Rattle.jl_farm.specs.ForProofs.Work.{refused_as, unprepared_as, HasSeen}
-use Rattle.jl_farm.proofs.Causes.{batch_cause, no_batch_cause, no_row_fault, no_batch_by_size, no_batch_by_sites, unready_by_fault, stale_by_fault}
-use Rattle.jl_farm.proofs.Causes.{prepared_sites}
+use Rattle.jl_farm.proofs.Causes.{batch_cause, no_batch_by_size, no_batch_by_sites, unready_by_fault, stale_by_fault}
+use Rattle.jl_core.proofs.GivenLaws.{prepared_sites, no_install_fault}
 
 -- ---- what a caller had seen before
 
@@ -114,16 +113,6 @@ module _ (w : World) (of : List ℕ) where
 refused_install : (o : Option Refusal) (m : Made) (r : Refusal) → unless o m ≡ Err r → o ≡ Some r
 refused_install None m r e = cc
 refused_install (Some f) m r e = cc
-
--- rows that were prepared in the world would have been accepted there
-no_install_fault : (w : World) (of : List ℕ) (rows : List (ℕ × Link)) → prepare_fault w of ≡ None → ArePrepared w of rows → install_fault w rows ≡ None
-no_install_fault w of rows none prepared =
-    let same = prepared_sites w of rows prepared in
-    let cause = no_batch_cause fault.BatchSize preparation.of_sites (is_bad_size (length of)) (sites_fault w [] of) (ready_fault w of) none in
-    let size : is_bad_size (length rows) ≡ false = ap is_bad_size (sym (length-map rows (λ (row : ℕ × Link). row.0)) ∙ ap length same) ∙ cause.0 in
-    let sites_are : sites_fault w [] (map (λ row. row.0) rows) ≡ None = ap (sites_fault w []) same ∙ cause.1 in
-    let fine = no_row_fault w of rows prepared in
-    λ i. first_of (then_some (size i) refusal.BatchSize ∷ option_map events.of_sites (sites_are i) ∷ fine i ∷ [])
 
 -- a row is stale or not ready
 row_kind : (w : World) (rows : List (ℕ × Link)) (r : Refusal) → first_of (map (λ row. row_fault row.0 row.1 (scratch w row.0)) rows) ≡ Some r

@@ -1,5 +1,5 @@
 -- What lists of events add, one after another.
-use Rattle.std.specs.Prelude.{◌≡◌, ℕ, ◌+◌, ◌<◌, List, [], ◌∷◌, ◌++◌, filter_map, take, length, Option, Some, None, option_to_list, get_or}
+use Rattle.std.specs.Prelude.{◌≡◌, ℕ, ◌+◌, ◌<◌, List, [], ◌∷◌, ◌++◌, filter_map, take, length, Option, Some, None, option_to_list, get_or, slice_get}
 use Rattle.std.specs.List.{cons_option, range_with_len}
 use Rattle.std.proofs.Common.{refl, sym, ap, subst, ◌∙◌, append_assoc}
 use Rattle.std.proofs.lemmas.List.{take_more, append-nil}
@@ -7,7 +7,7 @@ use Rattle.std.proofs.lemmas.List.Elements.{filter_map-append}
 use Rattle.jl_types.specs.Events.Event.{Event}
 use Rattle.jl_core.specs.State.{State, events}
 use Rattle.jl_renewal.specs.Adds.{Adds}
-use Rattle.jl_renewal.proofs.ListLaws.{one_given_more}
+use Rattle.jl_renewal.proofs.ListLaws.{one_given_more, all_taken}
 
 pub adds_none : (core : State) → Adds [] core core
 adds_none core = record { events = sym (append-nil (events core)); limit = refl }
@@ -45,6 +45,11 @@ pub adds_turn : {X : Type 0} (f : X → Option Event) (xs : List X) (i : ℕ) (d
     → o ≡ f (get_or xs i d) → Adds (filter_map f (take i xs)) a b → Adds (option_to_list o) b c → Adds (filter_map f (take (i + 1) xs)) a c
 adds_turn f xs i d o a b c h made before one =
     adds_next f xs i d a b c h before (subst (λ (x : Option Event). Adds (option_to_list x) b c) made one)
+
+-- the end of a loop over places
+pub adds_whole : {X : Type 0} (f : X → Option Event) (xs : List X) (i : ℕ) (a b : State) → slice_get xs i ≡ None → Adds (filter_map f (take i xs)) a b
+    → Adds (filter_map f xs) a b
+adds_whole {X = X} f xs i a b e = subst (λ (ys : List X). Adds (filter_map f ys) a b) (all_taken xs i e)
 
 -- one turn of a loop that pushes what each element gives, if it gives anything
 pub pushes_turn : {X Y : Type 0} (f : X → Option Y) (xs : List X) (i : ℕ) (d : X) (o : Option Y) (made more : List Y) → i < length xs

@@ -80,7 +80,8 @@ fn add_told<M: EventMachine>(
     ensures stops { IfErr result (IsStoppedAt (told_events old.now numbers.now entries.now) (M.state fresh.old) (M.state fresh.new)) }
 {
     for entry in entries {
-        let event = class_event(alloc, old, numbers, entry.event())?;
+        let told = entry.event();
+        let event = class_event(alloc, old, numbers, told.get())?;
         add_if_any(alloc, fresh, event)?;
     }
     Ok(())

@@ -49,12 +49,13 @@ pub fn carry<M: EventMachine>(
     ensures beside { (k : Flags) (before : State) (e : Event) → IsBeside k before (M.state fresh.old) numbers.old
         → event_of old.now.classes.rows entry.now.event ≡ Some e → IsOk (verdict before.limits (world_of before) e) → IfErr result (IsFaultBeside e) }
 {
-    if let Accepted::Install(_) = entry.event() {
+    let told = entry.event();
+    if let Accepted::Install(_) = told.get() {
         return Ok(());
     }
-    match carried_event(alloc, numbers, old, entry.event()) {
-        Ok(Some(event)) => accept_or_fault(alloc, fresh, numbers, event, entry.reply().made),
-        Ok(None) => match note_gone(numbers, entry.reply().made) {
+    match carried_event(alloc, numbers, old, told.get()) {
+        Ok(Some(event)) => accept_or_fault(alloc, fresh, numbers, event, entry.made()),
+        Ok(None) => match note_gone(numbers, entry.made()) {
             Ok(()) => Err(CarryFault::Gone),
             Err(_) => Err(CarryFault::Refused(Refusal::Memory)),
         },

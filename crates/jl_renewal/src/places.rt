@@ -6,8 +6,9 @@ ghost use Rattle.jl_renewal.specs.Adds.{Adds, IsStoppedAt};
 
 use crate::apply::add_if_any;
 use crate::numbers::Renumbering;
-use indexmap::{IndexMap, IndexSet};
+use indexmap::IndexMap;
 use jl_core::EventMachine;
+use jl_places::Places;
 use jl_types::{CallSiteId, Event, Place, Refusal, SiteNo};
 use std::alloc::Global;
 
@@ -15,15 +16,18 @@ use std::alloc::Global;
 pub(crate) fn add_requests<M: EventMachine>(
     alloc: Global,
     fresh: &mut M,
-    places: &IndexSet<Place>,
+    places: &Places,
     numbers: &Renumbering,
 ) -> Result<(), Refusal>
-    ensures adds { OnOk result (Adds (filter_map (renewal.request numbers.now) places.now.keys) (M.state fresh.old) (M.state fresh.new)) }
-    ensures stops { IfErr result (IsStoppedAt (filter_map (renewal.request numbers.now) places.now.keys) (M.state fresh.old) (M.state fresh.new)) }
+    ensures adds { OnOk result (Adds (filter_map (renewal.request numbers.now) places.now) (M.state fresh.old) (M.state fresh.new)) }
+    ensures stops { IfErr result (IsStoppedAt (filter_map (renewal.request numbers.now) places.now) (M.state fresh.old) (M.state fresh.new)) }
 {
-    let places = places.as_slice();
-    for place in places {
+    // Bounds the loop.
+    let _count = places.len();
+    let mut number = 0;
+    while let Some(place) = places.get_index(number) {
         add_if_any(alloc, fresh, request(numbers, place))?;
+        number += 1;
     }
     Ok(())
 }

@@ -10,11 +10,10 @@ use crate::released::Released;
 use crate::stays::{
     call_sites_that_stay, classes_that_stay, loaders_below, sites_that_stay, switches_that_stay,
 };
-use indexmap::IndexSet;
 use jl_hierarchy::Classes;
 use jl_names::Seq;
+use jl_places::Places;
 use jl_relink::World;
-use jl_types::Place;
 use std::alloc::{AllocError, Global};
 
 /// How many loaders, classes, sites, call sites and switch points there are.
@@ -72,12 +71,8 @@ fn classes_present(alloc: Global, classes: &Classes) -> Result<u32, AllocError>
 }
 
 /// How many sites are in classes that are present.
-fn sites_present(
-    alloc: Global,
-    classes: &Classes,
-    places: &IndexSet<Place>,
-) -> Result<u32, AllocError>
-    ensures { IfOk result (λ count. count ≡ how_many (staying_sites classes.now places.now.keys)) }
+fn sites_present(alloc: Global, classes: &Classes, places: &Places) -> Result<u32, AllocError>
+    ensures { IfOk result (λ count. count ≡ how_many (staying_sites classes.now places.now)) }
 {
     let stays = sites_that_stay(alloc, classes, places)?;
     count_of(stays.as_slice())

@@ -18,13 +18,13 @@ ghost use Rattle.jl_renewal.specs.Marks.{marked, binds_staying, is_wanted, is_wa
 use crate::marks::{clear_call_sites, clear_switches, mark_guards, mark_invoked, set_flag};
 use crate::numbers::{Renumbering, how_many, numbered};
 use crate::released::Released;
-use indexmap::IndexSet;
 use jl_callsites::Sites;
 use jl_hierarchy::Classes;
+use jl_places::Places;
 use jl_relink::World;
 use jl_types::{
-    CallSiteFault, CallSiteId, ClassId, DefineFault, Limits, LoaderId, Place, Refusal, SiteNo,
-    SwitchId, Target,
+    CallSiteFault, CallSiteId, ClassId, DefineFault, Limits, LoaderId, Refusal, SiteNo, SwitchId,
+    Target,
 };
 use std::alloc::{AllocError, Global};
 
@@ -158,14 +158,19 @@ pub(crate) fn classes_that_stay(alloc: Global, classes: &Classes) -> Result<Vec<
 pub(crate) fn sites_that_stay(
     alloc: Global,
     classes: &Classes,
-    places: &IndexSet<Place>,
+    places: &Places,
 ) -> Result<Vec<bool>, AllocError>
-    ensures { IfOk result (λ stays. stays.items ≡ staying_sites classes.now places.now.keys) }
+    ensures { IfOk result (λ stays. stays.items ≡ staying_sites classes.now places.now) }
 {
-    places
-        .iter()
-        .map(|place| classes.is_present(place.class))
-        .collect(alloc)
+    // Bounds the loop.
+    let count = places.len();
+    let mut stays = Vec::with_capacity(alloc, count)?;
+    let mut number = 0;
+    while let Some(place) = places.get_index(number) {
+        stays.push(classes.is_present(place.class))?;
+        number += 1;
+    }
+    Ok(stays)
 }
 
 /// Whether each call site stays: those that are wanted, and those that the target of a later one which stays invokes, but for those that

@@ -3,7 +3,8 @@
 ghost use Rattle.std.specs.Prelude.{◌≡◌, ◌≤◌, IfOk, IfErr, OnErr};
 ghost use Rattle.serde_json.specs.View.{view};
 ghost use Rattle.jl_relink.specs.Preparations.{IsFault};
-ghost use Rattle.jl_core.specs.State.{world_of, IsApplied, HasInstalled};
+ghost use Rattle.jl_core.specs.State.{world_of, IsApplied};
+ghost use Rattle.jl_core.specs.Installs.{HasInstalled};
 ghost use Rattle.jl_json.specs.Commands.{command_of};
 ghost use Rattle.jl_session.specs.Jsons.{IsReadAs, IsTextOf};
 ghost use Rattle.jl_session.specs.Obeying.{IsEventData, LacksAnswer};

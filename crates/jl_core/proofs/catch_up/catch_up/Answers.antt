@@ -1,4 +1,4 @@
-use Rattle.std.proofs.Common.{sym, subst}
+use Rattle.std.proofs.Common.{sym, subst, ◌∙◌}
 use Rattle.jl_types.specs.Values.World.{World}
 use Rattle.jl_events.specs.Accepted.{Accepted}
 use Rattle.jl_events.specs.Changes.{IsNext}
@@ -14,4 +14,5 @@ catch_up_links-requires-clause-further c =
 
 pub catch_up_world-requires-clause-next : goal.catch_up_world-requires-clause-next
 catch_up_world-requires-clause-next c =
-    subst (λ (told : Accepted). IsNext c.args.world.now.value c.args.world_ahead.now.value told) (sym c.event.ensures) c.requires.further.next
+    subst (λ (told : Accepted). IsNext c.args.world.now.value c.args.world_ahead.now.value told) (sym (c.get.ensures ∙ c.event-event.ensures))
+    c.requires.further.next

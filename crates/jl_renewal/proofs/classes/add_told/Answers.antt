@@ -12,7 +12,7 @@ loop-entry-preserved g c =
     adds_turn _ c.args.entries.now c.loop-entry.entry-index c.entry-item.result c.in_ok-event.event _ _ _ c.loop-entry-test.true
     (c.in_ok-event.ensures
     ∙ ap (λ (told : Accepted). accepted_event c.args.old.now c.args.numbers.now told)
-    (c.event.ensures ∙ ap (λ (entry : Entry). entry.event) c.entry-item.is))
+    (c.get.ensures ∙ c.event-told.ensures ∙ ap (λ (entry : Entry). entry.event) c.entry-item.is))
     c.loop-entry.invariant c.in_ok-add_if_any.ensures.adds
 
 pub returns-in_err-event-clause-stops : goal.returns-in_err-event-clause-stops
@@ -28,5 +28,5 @@ returns-in_err-add_if_any-clause-stops g c =
     (stopped_turn _ c.args.entries.now c.loop-entry.entry-index c.entry-item.result c.in_ok-event.event _ _ _ _ c.loop-entry-test.true
     (c.in_ok-event.ensures
     ∙ ap (λ (told : Accepted). accepted_event c.args.old.now c.args.numbers.now told)
-    (c.event.ensures ∙ ap (λ (entry : Entry). entry.event) c.entry-item.is))
+    (c.get.ensures ∙ c.event-told.ensures ∙ ap (λ (entry : Entry). entry.event) c.entry-item.is))
     c.loop-entry.invariant c.in_err-add_if_any.ensures.stops)
