@@ -32,7 +32,7 @@ extern "C" {
 #endif
 
 /* Grows with each change of this header; linkd_version() tells it of the library. */
-#define LINKD_VERSION 9
+#define LINKD_VERSION 10
 
 typedef struct linkd linkd;
 typedef struct linkd_seat linkd_seat;
@@ -563,7 +563,13 @@ uint32_t linkd_seat_refresh(linkd_seat *at, linkd *from);
  * the site had no link or a megamorphic one, or its link looks at the receiver, whose class is newer. LINKD_CLOSED where the seat was
  * never refreshed. Takes no lock and no memory, and counts as a call on the seat alone, which may outlive the linker. */
 uint32_t linkd_seat_call(linkd_seat *at, uint32_t site, uint32_t receiver, linkd_call_answer *answer);
-/* The same, but at a megamorphic link what the memo remembers of such calls, and LINKD_MISS where it remembers none; null throws there at
+/* The same answer in 64 bits, which come back in a register; a seat that was never refreshed, or was left, is LINKD_MISS. The class number
+ * begins at bit 0, the value at bit 32 and the kind at bit 56: the three functions below take them apart. */
+uint64_t linkd_seat_answer(linkd_seat *at, uint32_t site, uint32_t receiver);
+static inline uint32_t linkd_kind_of(uint64_t answer) { return (uint32_t)(answer >> 56); }
+static inline uint32_t linkd_class_of(uint64_t answer) { return (uint32_t)answer; }
+static inline uint32_t linkd_value_of(uint64_t answer) { return (uint32_t)(answer >> 32) & UINT32_C(0xffffff); }
+/* As linkd_seat_call, but at a megamorphic link what the memo remembers of such calls, and LINKD_MISS where it remembers none; null throws there at
  * once. The memo was asked of the linker that the seat was refreshed from, and of no other one. LINKD_CLOSED also where the memo isn't
  * open. A site of a retired loader is LINKD_MISS once the seat was refreshed; of a class of a retired loader there is no object, and such
  * a number gets what is remembered. Counts as a call on both. */

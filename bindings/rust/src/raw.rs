@@ -1,6 +1,6 @@
 //! The calls of `include/linkd.h`, of this version. Nothing compares these declarations with the header but the crate's tests.
 
-pub const VERSION: u32 = 9;
+pub const VERSION: u32 = 10;
 
 /// A linker, a seat, a memo, a view or a renewal, in a block of a size that the library tells.
 #[repr(C)]
@@ -32,6 +32,14 @@ pub struct Answer {
     pub kind: u32,
     pub class_number: u32,
     pub value: u32,
+}
+
+impl Answer {
+    /// The answer of which these are the 64 bits.
+    #[inline]
+    pub fn of_bits(bits: u64) -> Answer {
+        Answer { kind: (bits >> 56) as u32, class_number: bits as u32, value: (bits >> 32) as u32 & 0xff_ffff }
+    }
 }
 
 #[repr(C)]
@@ -165,7 +173,7 @@ extern "C" {
     pub fn linkd_seat_align() -> usize;
     pub fn linkd_seat_blank(at: *mut Opaque);
     pub fn linkd_seat_refresh(at: *mut Opaque, from: *mut Opaque) -> u32;
-    pub fn linkd_seat_call(at: *mut Opaque, site: u32, receiver: u32, answer: *mut Answer) -> u32;
+    pub fn linkd_seat_answer(at: *mut Opaque, site: u32, receiver: u32) -> u64;
     pub fn linkd_seat_call_with(at: *mut Opaque, memo: *mut Opaque, site: u32, receiver: u32, answer: *mut Answer) -> u32;
     pub fn linkd_seat_leave(at: *mut Opaque);
     pub fn linkd_memo_size() -> usize;

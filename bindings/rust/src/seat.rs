@@ -63,11 +63,9 @@ impl Seat {
     /// What a call comes to by the links of the last refresh, at once. None is a miss: ask the linker.
     #[inline]
     pub fn call(&mut self, site: SiteId, receiver: Option<ClassId>) -> Option<Answer> {
-        let mut told = raw::Answer::default();
-        // SAFETY: the seat is borrowed alone, and the out place for the call.
-        let status = unsafe { raw::linkd_seat_call(self.block.at(), site.0, receiver.map_or(raw::NULL, ClassId::number), &mut told) };
-        assert_eq!(status, raw::DONE, "a seat has links until it is dropped");
-        answer(told)
+        // SAFETY: the seat is borrowed alone.
+        let bits = unsafe { raw::linkd_seat_answer(self.block.at(), site.0, receiver.map_or(raw::NULL, ClassId::number)) };
+        answer(raw::Answer::of_bits(bits))
     }
 
     /// The same, and at a megamorphic link what the memo remembers of such calls, where it is the linker's of the last refresh; null throws

@@ -88,6 +88,7 @@ fn a_seat_answers_by_its_last_refresh() -> Result<(), Error> {
     let World { mut linker, a, b, site, .. } = world()?;
     let mut seat = linker.seat()?;
     assert_eq!(seat.call(site, Some(b)), Some(answers(a)));
+    assert_eq!(seat.call(site, None), Some(Answer::Outcome(Outcome::Throws(Throwable::NullPointerException))));
     let c = linker.define(&with_f("C", "A"))?;
     linker.install(&[site])?;
     assert_eq!(seat.call(site, Some(c)), None);

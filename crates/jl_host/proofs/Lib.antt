@@ -4,6 +4,7 @@ pub mod TargetLaws
 pub mod FileLaws
 -- what it is shown: links again, waiting sites, renewed numbers; and its limits
 pub mod ReadAgain
+pub mod BitLaws
 pub mod DeclarableLaws
 pub mod GivenLaws
 pub mod AwaitedLaws

@@ -1,6 +1,6 @@
 -- Numbers that hosts know by include/linkd.h, and what is shown of small values.
 pub mod Renewing
-use Rattle.std.specs.Prelude.{◌≡◌, ℕ, List, [], ◌∷◌, ◌++◌, map, replicate, Some, None, option_map}
+use Rattle.std.specs.Prelude.{◌≡◌, ℕ, ◌+◌, ◌*◌, List, [], ◌∷◌, ◌++◌, map, replicate, Some, None, option_map}
 use Rattle.std.proofs.Common.{refl}
 use Rattle.jl_pool.specs.declared.pool_fault.PoolFault.TheVariants as pool
 use Rattle.jl_code.specs.declared.code_fault.CodeFault.TheVariants as code
@@ -33,7 +33,7 @@ use Rattle.jl_host.specs.Numbers.{done, memory, no_class_file, malformed, closed
 use Rattle.jl_host.specs.Numbers.{status_of_refusal, define_number, call_site_number, delegate_number, not_linkable_number, status_of_unprepared}
 use Rattle.jl_host.specs.Numbers.{status_of_file, number_of}
 use Rattle.jl_host.specs.Telling.{told_of_refusal, told_of_reply, told_of_unprepared, told_of_file}
-use Rattle.jl_host.specs.Showing.{recv_of, answer_shown, fast_shown, link_shown, shown}
+use Rattle.jl_host.specs.Showing.{recv_of, answer_shown, fast_shown, bits_of, answer_of, link_shown, shown}
 use Rattle.jl_host.specs.declared.shown.LinkShown.{LinkShown}
 use Rattle.jl_host.specs.Reading.{link_of, all_of}
 use Rattle.jl_host.specs.Targets.{nesting, part, targets_of, target_of}
@@ -233,3 +233,20 @@ deepest : map (λ parts. option_map nesting (target_of parts))
     ≡ Some 127 ∷ None ∷ Some 127 ∷ None ∷ []
 unfolding targets_of
 deepest = refl
+
+-- ---- answers in 64 bits
+
+run_in_bits : bits_of (answer_shown (answer.Run (record { class = 5; index = 2 }))) ≡ 5 + 2 * 4294967296
+run_in_bits = refl
+
+last_run_in_bits : bits_of (answer_shown (answer.Run (record { class = 4294967295; index = 65535 }))) ≡ 281474976710655
+last_run_in_bits = refl
+
+thrown_in_bits : bits_of (answer_shown (answer.Throws throwable.NullPointerException)) ≡ 72057594037927936 + 5 * 4294967296
+thrown_in_bits = refl
+
+miss_in_bits : bits_of (fast_shown Miss) ≡ 288230376151711744
+miss_in_bits = refl
+
+had_back_from_bits : answer_of (72057594037927936 + 5 * 4294967296) ≡ answer_shown (answer.Throws throwable.NullPointerException)
+had_back_from_bits = refl

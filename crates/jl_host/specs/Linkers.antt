@@ -1,5 +1,6 @@
 -- What stands behind a linker that is open, and what each call on a linker leaves, by the status that it answers.
-use Rattle.std.specs.Prelude.{◌^◌, ◌≡◌, ◌⊎◌, ◌-◌, ◌<◌, ◌≤◌, ℕ, nat_le, nat_lt, ◌==◌, List, [], length, slice_get, Option, Some, None, option_map, Result, Ok, Err}
+use Rattle.std.specs.Prelude.{◌^◌, ◌≡◌, ◌⊎◌, ◌-◌, ◌<◌, ◌≤◌, ℕ, nat_le, nat_lt, ◌==◌, List, [], length, slice_get}
+use Rattle.std.specs.Prelude.{Option, Some, None, option_map, Result, Ok, Err}
 use Rattle.std.specs.Prelude.{if◌then◌else◌, Bool, ◌&&◌, MatchBool}
 use Rattle.std.specs.Option.{option_map_or}
 use Rattle.jl_classfile.specs.declared.fault.ClassFault.{ClassFault}

@@ -7,7 +7,7 @@ use Rattle.jl_types.specs.Events.History.{installed}
 use Rattle.jl_core.specs.State.{State, events, world_of}
 use Rattle.jl_host.specs.declared.shown.CallAnswer.{CallAnswer}
 use Rattle.jl_host.specs.Numbers.{done, memory, closed}
-use Rattle.jl_host.specs.Showing.{recv_of, fast_shown}
+use Rattle.jl_host.specs.Showing.{recv_of, otherwise, fast_shown, HasBits}
 use Rattle.jl_host.specs.Linkers.{Opened}
 
 -- so many places as whole pages of 256 have, one for each site that may be requested
@@ -37,3 +37,9 @@ IsSeatCall site receiver None before status after new = (status ≡ closed) × (
 IsSeatCall site receiver (Some seen) before status after new =
     (status ≡ done) × (after ≡ fast_shown (fast_answer (get_or seen.links site None) seen.classes (recv_of receiver)))
     × (new ≡ Some seen)
+
+-- The seat was never refreshed, and that is a miss; or the answer at once of what was seen then.
+abbrev pub IsSeatAnswer : ℕ → ℕ → Option SeatView → ℕ → Option SeatView → Type 0
+IsSeatAnswer site receiver None bits new = HasBits (otherwise 4 0) bits × (new ≡ None)
+IsSeatAnswer site receiver (Some seen) bits new =
+    HasBits (fast_shown (fast_answer (get_or seen.links site None) seen.classes (recv_of receiver))) bits × (new ≡ Some seen)

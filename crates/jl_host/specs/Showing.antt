@@ -1,5 +1,5 @@
 -- Answers, links and receivers as numbers.
-use Rattle.std.specs.Prelude.{ℕ, ◌==◌, List, [], ◌∷◌, map, min, length, get_or, Option, Some, None, if◌then◌else◌}
+use Rattle.std.specs.Prelude.{◌≡◌, ℕ, ◌+◌, ◌*◌, ◌/◌, ◌%◌, ◌^◌, ◌==◌, List, [], ◌∷◌, map, min, length, get_or, Option, Some, None, if◌then◌else◌}
 use Rattle.jl_types.specs.declared.ids.MethodId.{MethodId}
 use Rattle.jl_types.specs.declared.answer.Answer.{Answer}
 use Rattle.jl_types.specs.declared.answer.Answer.TheVariants.{Run, Throws, BadReceiver, Unlinked}
@@ -60,6 +60,21 @@ abbrev pub fast_shown : Fast → CallAnswer
 fast_shown (Now answer) = answer_shown answer
 fast_shown Miss = otherwise 4 0
 fast_shown Closed = otherwise 4 0
+
+-- ---- answers in 64 bits
+
+-- from bit 0 on the class, from bit 32 on the value, from bit 56 on the kind
+abbrev pub bits_of : CallAnswer → ℕ
+bits_of answer = answer.class_number + 2 ^ 32 * answer.value + 2 ^ 56 * answer.kind
+
+-- the answer of the bits
+abbrev pub answer_of : ℕ → CallAnswer
+answer_of bits = record { kind = bits / 2 ^ 56; class_number = bits % 2 ^ 32; value = bits / 2 ^ 32 % 2 ^ 24 }
+
+-- the bits are those of the answer, which is had back from them
+pub record HasBits (answer : CallAnswer) (bits : ℕ) : Type 0 where
+  pub is : bits ≡ bits_of answer
+  pub again : answer_of bits ≡ answer
 
 -- ---- links
 

@@ -10,7 +10,7 @@ ghost use Rattle.jl_host.specs.ForProofs.Behind.{IsNow, IsBehind, installs_at, t
 
 use jl_cache::{KeptLink, KeptSlot};
 use jl_core::{Accepted, Core, Entry};
-use jl_pages::Slots;
+use jl_slots::Slots;
 use jl_types::SiteNo;
 use std::alloc::{AllocError, Global};
 use std::sync::Arc;
@@ -145,11 +145,13 @@ fn write_entries(links: &mut Arc<Links>, core: &Core, entries: &[Entry]) -> Resu
     requires { length links.old.value ≡ room_for core.now.limits.sites }
     ensures all { length links.new.value ≡ room_for core.now.limits.sites }
     ensures kept { (s : ℕ) → IsNow core.now links.old.value s → IsNow core.now links.new.value s }
-    ensures written { OnOk result ((s : ℕ) → s < room_for core.now.limits.sites → list_any (touched_by s) entries.now ≡ true → IsNow core.now links.new.value s) }
+    ensures written { OnOk result ((s : ℕ) → s < room_for core.now.limits.sites → list_any (touched_by s) entries.now ≡ true
+        → IsNow core.now links.new.value s) }
 {
     for entry in entries {
-        write_sites(links, core, entry.reply().dropped.as_slice())?;
-        write_installed(links, core, entry.event())?;
+        write_sites(links, core, entry.dropped())?;
+        let event = entry.event();
+        write_installed(links, core, event.get())?;
     }
     Ok(())
 }

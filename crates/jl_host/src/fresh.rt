@@ -236,7 +236,8 @@ impl Fresh {
         ensures carried { OnOk result (IsCarriedOn defined.now entry.now self.old self.new) }
         ensures uncarried { IfErr result (λ fault. IsUncarriedOn defined.now entry.now self.old fault self.new) }
     {
-        match installs_of(entry.event()) {
+        let event = entry.event();
+        match installs_of(event.get()) {
             Some(rows) => match self.link(alloc, rows) {
                 Ok(()) => Ok(()),
                 Err(refusal) => Err(CarryFault::Refused(refusal)),
@@ -283,7 +284,8 @@ impl Fresh {
     pub(crate) fn gone_of(&self, entry: &Entry) -> Option<u32>
         ensures { result ≡ renewing.gone_of self.now.numbers entry.now.event }
     {
-        match entry.event() {
+        let event = entry.event();
+        match event.get() {
             Accepted::NewCallSite(_, _, target) => gone_in(&self.numbers, target),
             Accepted::SetTarget(site, target) => match self.numbers.call_site(*site) {
                 Some(_) => gone_in(&self.numbers, target),

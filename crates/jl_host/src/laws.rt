@@ -1,6 +1,6 @@
 //! The laws of links and targets as numbers, and of a renewal in steps: each is the contract of a function that does nothing.
 
-ghost use Rattle.std.specs.Prelude.{◌≡◌, ◌≤◌, ◌<◌, ◌^◌, ◌⊎◌, ℕ, true, length, List, Option, Some, Ok, Err};
+ghost use Rattle.std.specs.Prelude.{◌≡◌, ◌==◌, ◌≤◌, ◌<◌, ◌^◌, ◌⊎◌, ℕ, true, length, List, Option, Some, Ok, Err, if◌then◌else◌};
 ghost use Rattle.jl_types.specs.declared.answer.Missing.{Missing};
 ghost use Rattle.jl_types.specs.declared.answer.Unlinked.TheVariants.{NotReady};
 ghost use Rattle.jl_types.specs.declared.limits.Limits.{Limits};
@@ -24,7 +24,9 @@ ghost use Rattle.jl_host.specs.declared.told.Told.{Told};
 ghost use Rattle.jl_types.specs.Values.World.{World};
 ghost use Rattle.jl_host.specs.Awaiting.{awaited};
 ghost use Rattle.jl_host.specs.Numbers.{done, memory};
-ghost use Rattle.jl_host.specs.Showing.{shown};
+ghost use Rattle.jl_host.specs.declared.shown.CallAnswer.{CallAnswer};
+ghost use Rattle.jl_host.specs.Seats.{SeatView, IsSeatCall, IsSeatAnswer};
+ghost use Rattle.jl_host.specs.Showing.{shown, otherwise, HasBits};
 ghost use Rattle.jl_host.specs.Reading.{link_of, rows_of, is_shown_whole, runs_declarable};
 ghost use Rattle.serde_json.specs.Read.{max_depth};
 ghost use Rattle.jl_types.specs.Values.Target.{Target};
@@ -40,6 +42,13 @@ ghost use Rattle.jl_host.specs.UnderWay.{IsUnderWay, IsFillOrUnready};
 /// of its class, as those of a class file are (JVMS SE 17 §4.1).
 pub fn shown_links_are_read_again()
     ensures { (link : Link) → is_shown_whole link ≡ true → link_of (shown link) ≡ Some link }
+{}
+
+/// The 64 bits that a seat answers are those of what a call at it writes, and of a miss where that is closed.
+pub fn seats_answer_what_calls_write()
+    ensures { (site receiver status bits : ℕ) (had called answered : Option SeatView) (before after : CallAnswer)
+        → IsSeatCall site receiver had before status after called → IsSeatAnswer site receiver had bits answered
+        → HasBits (if status == done then after else otherwise 4 0) bits }
 {}
 
 /// A target is read from its parts, unless it nests deeper than JSON may.

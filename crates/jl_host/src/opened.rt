@@ -316,7 +316,7 @@ impl Opened {
         ensures { result.now ≡ last_dropped self.now.session.core }
     {
         match self.session.core().log().kept().last() {
-            Some(entry) => entry.reply().dropped.as_slice(),
+            Some(entry) => entry.dropped(),
             None => &[],
         }
     }

@@ -1,13 +1,13 @@
 //! One thread's place to read.
 
 ghost use Rattle.std.specs.Prelude.{◌≡◌, None};
-ghost use Rattle.jl_host.specs.Seats.{IsRefresh, IsSeatCall};
+ghost use Rattle.jl_host.specs.Seats.{IsRefresh, IsSeatCall, IsSeatAnswer};
 ghost use Rattle.jl_host.specs.Memos.{IsSeatCallWith};
 
 use crate::linker::Linker;
 use crate::memo::Memo;
 use crate::seat_view::SeatView;
-use crate::shown::{CallAnswer, fast_shown, recv_of};
+use crate::shown::{CallAnswer, fast_bits, fast_shown, miss_bits, recv_of};
 use crate::told::{CLOSED, DONE, MEMORY};
 use jl_types::SiteNo;
 use std::alloc::Global;
@@ -75,8 +75,18 @@ impl Seat {
         DONE
     }
 
-    /// The same, at a megamorphic link by what the memo remembers. Takes no lock and no memory. A site of a retired loader is a miss once the seat
-    /// was refreshed; there is no object of a retired class, which gets what is remembered.
+    /// The same in 64 bits; where nothing was seen it is a miss. Takes no lock and no memory.
+    pub fn answer(&mut self, site: u32, receiver: u32) -> u64
+        ensures { IsSeatAnswer site receiver self.old result self.new }
+    {
+        match &self.seen {
+            Some(seen) => fast_bits(seen.answer(SiteNo::new(site), recv_of(receiver))),
+            None => miss_bits(),
+        }
+    }
+
+    /// What a call comes to by what was seen, and at a megamorphic link by what the memo remembers. Takes no lock and no memory. A site of a
+    /// retired loader is a miss once the seat was refreshed; there is no object of a retired class, which gets what is remembered.
     pub fn call_with(
         &mut self,
         memo: &mut Memo,

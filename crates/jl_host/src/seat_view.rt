@@ -46,6 +46,7 @@ impl SeatView {
     }
 
     /// What a call is answered at once. Takes no memory.
+    #[inline(always)]
     pub(crate) fn answer(&self, site: SiteNo, recv: Recv) -> Fast
         ensures { result ≡ fast_of.fast_answer (get_or self.now.links site None) self.now.classes recv }
     {

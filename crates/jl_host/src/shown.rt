@@ -1,7 +1,8 @@
 //! Answers and links, as numbers.
 
-ghost use Rattle.std.specs.Prelude.{◌≡◌, ◌∷◌, [], map, get_or};
+ghost use Rattle.std.specs.Prelude.{◌≡◌, ◌<◌, ◌^◌, ◌∷◌, [], map, get_or};
 ghost use Rattle.jl_host.specs.Showing as showing;
+ghost use Rattle.jl_host.specs.Showing.{HasBits};
 
 use jl_types::{
     Answer, ClassId, Fast, Link, MethodId, Missing, Outcome, Recv, Table, TableKind, Throwable,
@@ -133,6 +134,51 @@ pub(crate) fn fast_shown(fast: Fast) -> CallAnswer
         Fast::Now(answer) => answer_shown(answer),
         Fast::Miss | Fast::Closed => otherwise(4, 0),
     }
+}
+
+/// The bits of a call that isn't answered at once.
+pub(crate) fn miss_bits() -> u64
+    ensures { HasBits (showing.otherwise 4 0) result }
+{
+    0x400_0000_0000_0000
+}
+
+/// An answer at once, in 64 bits.
+#[inline(always)]
+pub(crate) fn fast_bits(fast: Fast) -> u64
+    ensures { HasBits (showing.fast_shown fast) result }
+{
+    match fast {
+        Fast::Now(answer) => answer_bits(answer),
+        Fast::Miss | Fast::Closed => miss_bits(),
+    }
+}
+
+/// An answer to a call, in 64 bits.
+fn answer_bits(answer: Answer) -> u64
+    ensures { HasBits (showing.answer_shown answer) result }
+{
+    match answer {
+        Answer::Run(method) => run_bits(method),
+        Answer::Throws(throwable) => other_bits(1, throwable_number(throwable)),
+        Answer::BadReceiver => other_bits(2, 0),
+        Answer::Unlinked(reason) => other_bits(3, unlinked_number(reason)),
+    }
+}
+
+/// A call that runs the method, in 64 bits.
+fn run_bits(method: MethodId) -> u64
+    ensures { HasBits (showing.runs method) result }
+{
+    u64::from(method.class.number()) + u64::from(method.index) * 0x1_0000_0000
+}
+
+/// A call that comes to something else, in 64 bits.
+fn other_bits(kind: u8, value: u32) -> u64
+    requires { value < 2 ^ 24 }
+    ensures { HasBits (showing.otherwise kind value) result }
+{
+    u64::from(value) * 0x1_0000_0000 + u64::from(kind) * 0x100_0000_0000_0000
 }
 
 /// A row that says nothing.

@@ -6,9 +6,9 @@
 
 ghost use Rattle.std.specs.Prelude.{◌≡◌, List, Option, None};
 ghost use types.Logic.{sem};
-ghost use Rattle.jl_host.specs.Linkers.{Opened, IsOpen, IsOpenWith, limits_of, IsNewLoader, IsDefine, IsDefineUpTo, IsDelegate, IsRequest, IsNewCallSite, IsSetTarget, IsNewSwitch};
-ghost use Rattle.jl_host.specs.Linkers.{IsInvalidate, IsBind, IsInstall, IsDropped, IsCall, IsLinkOf, IsAnswer, IsTake};
-ghost use Rattle.jl_host.specs.Seats.{SeatView, IsRefresh, IsSeatCall};
+ghost use Rattle.jl_host.specs.Linkers.{Opened, IsOpen, IsOpenWith, limits_of, IsNewLoader, IsDefine, IsDefineUpTo, IsDelegate, IsRequest, IsNewCallSite};
+ghost use Rattle.jl_host.specs.Linkers.{IsSetTarget, IsNewSwitch, IsInvalidate, IsBind, IsInstall, IsDropped, IsCall, IsLinkOf, IsAnswer, IsTake};
+ghost use Rattle.jl_host.specs.Seats.{SeatView, IsRefresh, IsSeatCall, IsSeatAnswer};
 ghost use Rattle.jl_host.specs.Memos.{IsMemoOpen, IsMemoAsk, IsMemoCall, IsSeatCallWith};
 ghost use Rattle.jl_host.specs.Asking.{IsLookup, IsClassName, IsMethodName, IsMethodType, IsInvocations, IsNamed, IsAwaited};
 ghost use Rattle.jl_host.specs.Targets.{IsNewCallSiteOf, IsSetTargetOf};
@@ -35,9 +35,9 @@ use std::alloc::Global;
 /// Which header the library is of: LINKD_VERSION there.
 #[unsafe(no_mangle)]
 pub extern "C" fn linkd_version() -> u32
-    ensures { result ≡ 9 }
+    ensures { result ≡ 10 }
 {
-    9
+    10
 }
 
 /// The bytes of a linker.
@@ -594,6 +594,16 @@ pub unsafe extern "C" fn linkd_seat_call(
     ensures* { sem 𝓛 (seat_left at (λ new. IsSeatCall site receiver old answer.old result answer.new new)) }
 {
     (*(at as *mut Seat)).call(site, receiver, answer)
+}
+
+/// The same in 64 bits; a miss where the seat was never refreshed. Takes no lock and no memory.
+#[unsafe(no_mangle)]
+pub unsafe extern "C" fn linkd_seat_answer(at: *mut LinkdSeat, site: u32, receiver: u32) -> u64
+    ghost old: { Option SeatView }
+    requires* { sem 𝓛 (seat_at at old) }
+    ensures* { sem 𝓛 (seat_left at (λ new. IsSeatAnswer site receiver old result new)) }
+{
+    (*(at as *mut Seat)).answer(site, receiver)
 }
 
 /// Lets go what the seat has seen. It has no memory but its block then.

@@ -95,7 +95,8 @@ final class Native {
     private static final MethodHandle OBEY = status("linkd_answer", ADDRESS, JAVA_LONG, ADDRESS);
     private static final MethodHandle TAKE = status("linkd_take", ADDRESS, JAVA_LONG, ADDRESS);
     private static final MethodHandle SEAT_REFRESH = status("linkd_seat_refresh", ADDRESS);
-    private static final MethodHandle SEAT_CALL = status("linkd_seat_call", JAVA_INT, JAVA_INT, ADDRESS);
+    private static final MethodHandle SEAT_ANSWER =
+            handle("linkd_seat_answer", FunctionDescriptor.of(JAVA_LONG, ADDRESS, JAVA_INT, JAVA_INT));
     private static final MethodHandle SEAT_CALL_WITH = status("linkd_seat_call_with", ADDRESS, JAVA_INT, JAVA_INT, ADDRESS);
     private static final MethodHandle MEMO_OPEN = status("linkd_memo_open", JAVA_INT);
     private static final MethodHandle MEMO_ASK = status("linkd_memo_ask", ADDRESS, JAVA_INT, JAVA_INT, ADDRESS);
@@ -480,9 +481,9 @@ final class Native {
         }
     }
 
-    static int seatCall(MemorySegment at, int site, int receiver, MemorySegment answer) {
+    static long seatAnswer(MemorySegment at, int site, int receiver) {
         try {
-            return (int) SEAT_CALL.invokeExact(at, site, receiver, answer);
+            return (long) SEAT_ANSWER.invokeExact(at, site, receiver);
         } catch (Throwable fault) {
             throw failed(fault);
         }

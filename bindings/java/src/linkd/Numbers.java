@@ -120,12 +120,20 @@ final class Numbers {
 
     /** An answer, or none on a miss. */
     static Optional<Answer> answer(MemorySegment from) {
-        int value = at(from, 2);
-        return switch (at(from, 0)) {
+        return answer(at(from, 0), at(from, 1), at(from, 2));
+    }
+
+    /** The answer of these 64 bits, or none on a miss: from bit 0 on the class, from bit 32 on the value, from bit 56 on the kind. */
+    static Optional<Answer> answer(long bits) {
+        return answer((int) (bits >>> 56), (int) bits, (int) (bits >>> 32) & 0xffffff);
+    }
+
+    private static Optional<Answer> answer(int kind, int type, int value) {
+        return switch (kind) {
             case 2 -> Optional.of(new Answer.BadReceiver());
             case 3 -> Optional.of(new Answer.Unlinked(Answer.Want.values()[value - 1]));
             case MISS -> Optional.empty();
-            default -> Optional.of(outcome(at(from, 0), at(from, 1), value));
+            default -> Optional.of(outcome(kind, type, value));
         };
     }
 

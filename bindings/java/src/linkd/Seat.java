@@ -53,8 +53,7 @@ public final class Seat implements AutoCloseable {
     }
 
     private Optional<Answer> call(int site, int receiver) {
-        Numbers.done(Native.seatCall(at(), site, receiver, answer));
-        return Numbers.answer(answer);
+        return Numbers.answer(Native.seatAnswer(at(), site, receiver));
     }
 
     /**

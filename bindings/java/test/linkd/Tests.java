@@ -116,6 +116,7 @@ final class Tests {
         World world = World.open();
         Seat seat = world.linker.seat();
         same(Optional.of(runs(world.a)), seat.call(world.site, world.b));
+        same(Optional.of(new Answer.Throws(Answer.Error.NULL_POINTER_EXCEPTION)), seat.call(world.site));
         ClassId c = world.linker.define(withF("C", "A"));
         world.linker.install(List.of(world.site));
         same(Optional.empty(), seat.call(world.site, c));

@@ -1,0 +1,6 @@
+use Rattle.std.proofs.Common.{arith}
+use Rattle.jl_host.proofs.BitLaws.{had_back}
+use Rattle.jl_host.proofs.shown.run_bits.Goals as goal
+
+pub returns : goal.returns
+returns c = had_back _ _ 0 _ (omega arith) (omega arith) (omega arith) (omega arith)
