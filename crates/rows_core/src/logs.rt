@@ -55,13 +55,12 @@ fn printed(alloc: Global, entry: &Entry) -> Result<String, AllocError> {
 
 /// The name in the file of the class that the entry of a definition names.
 fn defined_name(core: &Core, entry: usize) -> Option<&[u8]> {
-    match core.log().kept().get(entry)?.event() {
-        Accepted::Define(_, class) => {
-            let class = core.world().classes.class_at(*class)?;
-            Some(class.file().name().as_slice())
-        }
-        _ => None,
-    }
+    let event = core.log().kept().get(entry)?.event();
+    let Accepted::Define(_, class) = event.get() else {
+        return None;
+    };
+    let class = core.world().classes.class_at(*class)?;
+    Some(class.file().name().as_slice())
 }
 
 /// Whether these are the entries at these places of the log.

@@ -4,7 +4,7 @@ use crate::hosts::{A, OBJECT, StepRow, assert_rows};
 use crate::steps::Step::*;
 use jl_host::NULL;
 
-/// M, whose run calls A.f twice, then Z.z.
+/// M, whose run calls A.f twice, then Z.z. In one batch the calls of A.f are evaluated once.
 const M: &str =
     r#"{"do":"define","loader":0,"sketch":{"name":"M","super":"java/lang/Object","flags":33,"methods":[{"name":"run","type":"()V","flags":9,"calls":[{"kind":"invokevirtual","of":"A","name":"f","type":"()V"},{"kind":"invokevirtual","of":"A","name":"f","type":"()V"},{"kind":"invokestatic","of":"Z","name":"z","type":"()V"}]}]}}"#;
 
@@ -33,9 +33,9 @@ const CAUGHT_UP: &[StepRow] = &[
     (CatchUp, &[0]),
     (Request(2, 0, 3), &[0, 1]),
     (Install(&[0, 1]), &[0]),
-    (LastWork, &[0, 2]),
+    (LastWork, &[0, 1]),
     (CatchUp, &[0]),
-    (LastWork, &[0, 2]),
+    (LastWork, &[0, 1]),
     (Refresh, &[0]),
     (SeatCall(0, 1), &[0, 0, 1, 0]),
     (Says(C, r#"{"class":3,"dropped":[0,1]}"#), &[0, 0, 1]),
@@ -89,11 +89,11 @@ const INSTALLS: &[StepRow] = &[
     (Request(2, 0, 3), &[0, 1]),
     (Request(2, 0, 6), &[0, 2]),
     (Install(&[1, 0]), &[0]),
-    (LastWork, &[0, 2]),
+    (LastWork, &[0, 1]),
     (Install(&[2, 2]), &[13, 0, 0, 2]),
     (Install(&[2, 7, 2]), &[12, 0, 0, 7]),
     (Install(&[0, 2, 1]), &[11, 0, 0, 2]),
-    (LastWork, &[0, 2]),
+    (LastWork, &[0, 1]),
     (Dropped(4), &[0, 0, 9, 9, 9, 9]),
     (LinkOf(0), &[0, 3, 1, 0, 0, 1, 0]),
     (LinkOf(1), &[0, 3, 1, 0, 0, 1, 0]),

@@ -1,11 +1,13 @@
-//! Tests of what is kept or divided, beside what comes of the same in a plain way: lists in pages, what a loader has recorded, the dependency
-//! index, and preparations by several threads. Nothing here is called by other crates.
+//! Tests of what is kept or divided, beside what comes of the same in a plain way: lists in pages, values by number, places, what a loader
+//! has recorded, the dependency index, and preparations by several threads. Nothing here is called by other crates.
 #![tactic(auto)]
 
 #[cfg(test)]
 mod family;
 #[cfg(test)]
 mod gates;
+#[cfg(test)]
+mod numbered;
 #[cfg(test)]
 mod operations;
 #[cfg(test)]

@@ -6,7 +6,7 @@ use std::process::Abort;
 
 /// A number that can be had once more.
 #[derive(Clone, Copy, Debug, PartialEq, Eq, Drop)]
-struct Number(u32);
+pub(crate) struct Number(pub(crate) u32);
 
 impl Again for Number {
     fn again(&self, _alloc: Global) -> Result<Number, AllocError> {

@@ -75,8 +75,7 @@ impl Plain {
                 let want = keys(alloc, row.keys)?;
                 Ok(match found {
                     Some(rests) => {
-                        rests.footprint.as_slice() == want.as_slice()
-                            && rests.form == form(row.form)
+                        rests.keys() == want.as_slice() && rests.form() == form(row.form)
                     }
                     None => false,
                 })

@@ -1,5 +1,6 @@
 //! Worlds of many calls of one method on one class.
 
+use crate::numbered::add;
 use jl_class::ClassFile;
 use jl_relink::{Snapshot, World};
 use jl_types::{ClassId, LoaderId, Place, SiteNo};
@@ -115,26 +116,26 @@ fn define_receivers(alloc: Global, world: &mut World, shape: Shape, receivers: u
 }
 
 /// Requests the calls, and a place where there is none.
-fn request(world: &mut World, shape: Shape) -> bool {
+fn request(alloc: Global, world: &mut World, shape: Shape) -> bool {
     let size = match shape {
         Shape::Implementers => 5u32,
         _ => 3,
     };
     let mut all = true;
     for number in 0..SITES {
-        all = all && request_at(world, number.saturating_mul(size));
+        all = all && request_at(alloc, world, number.saturating_mul(size));
     }
-    all && request_at(world, u32::MAX)
+    all && request_at(alloc, world, u32::MAX)
 }
 
 /// Requests the place of this pc.
-fn request_at(world: &mut World, pc: u32) -> bool {
+fn request_at(alloc: Global, world: &mut World, pc: u32) -> bool {
     let place = Place {
         class: ClassId::new(3),
         method: 0,
         pc,
     };
-    world.places.insert(place).is_ok()
+    add(alloc, &mut world.places, place).is_ok()
 }
 
 /// A snapshot in which each of the sites 0 to 255 has so many receivers, if there is memory for it.
@@ -142,7 +143,7 @@ pub(crate) fn snapshot(alloc: Global, shape: Shape, receivers: u32) -> Option<Sn
     let mut world = World::new(alloc).ok()?;
     if define_callers(alloc, &mut world, shape)
         && define_receivers(alloc, &mut world, shape, receivers)
-        && request(&mut world, shape)
+        && request(alloc, &mut world, shape)
     {
         return Some(Snapshot::new(world, SERIAL));
     }

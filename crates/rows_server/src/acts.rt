@@ -87,7 +87,7 @@ pub(crate) fn is_forgotten<K: Name, R: Wait, S: Wait + Drop>(
 fn make_switches(entries: &[Entry], numbers: &[u32]) -> bool {
     let mut all = entries.len() == numbers.len();
     for (entry, number) in entries.iter().zip(numbers) {
-        all = entry.reply().made == Made::Switch(SwitchId::new(*number)) && all;
+        all = entry.made() == Made::Switch(SwitchId::new(*number)) && all;
     }
     all
 }

@@ -195,7 +195,8 @@ fn is_carried<L: Name, S: Wait + Drop>(
     world: &World,
     entry: &Entry,
 ) -> bool {
-    match entry.event() {
+    let event = entry.event();
+    match event.get() {
         Accepted::Install(rows) => match &plain_rows(alloc, rows.as_slice()) {
             Ok(rows) => are_installed(alloc, book, numbers, rows.as_slice()),
             Err(_) => false,

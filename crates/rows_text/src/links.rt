@@ -9,11 +9,18 @@ use jl_names::Seq;
 use jl_relink::{World, dispatch, link_counted, link_of, stays_with_receiver};
 use jl_types::{ClassId, Event, Place, Recv, SiteNo, Work};
 
+/// How many sites there may be.
+const MOST_SITES: usize = 65_536;
+
 /// Requests the place, and tells its site.
 fn request(told: &mut Told, world: &mut World, place: Place) {
-    match world.places.insert_full(place) {
-        Ok((site, _)) => told.show(&site),
-        Err(_) => told.lack(),
+    let site = world.places.len();
+    if let Some(site) = world.places.get_index_of(&place) {
+        told.show(&site);
+    } else if site < MOST_SITES && world.places.push(told.alloc(), place).is_ok() {
+        told.show(&site);
+    } else {
+        told.lack();
     }
 }
 
