@@ -47,9 +47,9 @@ static uint64_t sum; /* of what was answered */
 static double seat_turn(linkd_seat *seat, uint32_t site, uint32_t receiver) {
     double start = now();
     for (int i = 0; i < CALLS; i++) {
-        linkd_call_answer answer;
-        must(linkd_seat_call(seat, site, receiver, &answer) == LINKD_DONE && answer.kind == LINKD_RUN, "no answer");
-        sum += answer.class_number;
+        uint64_t answer = linkd_seat_answer(seat, site, receiver);
+        must(linkd_kind_of(answer) == LINKD_RUN, "no answer");
+        sum += linkd_class_of(answer);
     }
     return (now() - start) / CALLS;
 }

@@ -2,9 +2,11 @@
 # $work/liblinkd.a. Sourced, with $top the top of the repository, $work a folder that goes away at the end, and maybe $also, more programs
 # that are needed.
 
-# Compiles a C program, with the header and the archive.
+# Compiles a C program of these files, with the header and the archive.
 build_c() {
-    cc -std=c11 -O2 -Wall -Wextra -Werror -pthread -I"$top/include" -o "$1" "$2" "$work/liblinkd.a"
+    made=$1
+    shift
+    cc -std=c11 -O2 -Wall -Wextra -Werror -pthread -I"$top/include" -o "$made" "$@" "$work/liblinkd.a"
 }
 
 missing=

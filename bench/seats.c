@@ -1,7 +1,8 @@
 /* What calls at seats and by memos take beside look-ups under a lock, and what it takes to refresh a seat.
  *
  *     seats calls [CALLS]        nanoseconds of a call, by 1, 2 and 4 threads of CALLS (2,000,000) each: the middle of seven rounds; at
- *                                1,024 sites beside each other, and spread over all
+ *                                1,024 sites beside each other, and spread over all. The array is looked up within the program, and, as a
+ *                                library's call would be, behind a call (bench/look_up.c)
  *     seats memos [CALLS]        the same, of calls at megamorphic links
  *     seats refresh [EVENTS]     microseconds of a refresh behind one change, of EVENTS (500)
  *
@@ -11,6 +12,7 @@
  */
 #define _POSIX_C_SOURCE 200809L
 #include "linkd.h"
+#include "look_up.h"
 #include <pthread.h>
 #include <stdbool.h>
 #include <stdio.h>
@@ -201,7 +203,7 @@ static linkd_seat *new_seat(void) {
 
 /* ---- calls */
 
-enum table { SEAT, ARRAY, MUTEX, RWLOCK, TABLES, MEMO = TABLES, SEAT_WITH_MEMO, LOCKED, ALL };
+enum table { ANSWER, ARRAY_CALLED, SEAT, ARRAY, MUTEX, RWLOCK, TABLES, MEMO = TABLES, SEAT_WITH_MEMO, LOCKED, ALL };
 
 static struct { uint32_t site, receiver; } called[SPREAD];
 static uint32_t called_count = CALLED;
@@ -212,21 +214,6 @@ static pthread_barrier_t together;
 static enum table table;
 static long calls = 2000000;
 static uint64_t sum_of_all;
-
-/* What a link in the array comes to. */
-static void look_up(uint32_t site, uint32_t receiver, linkd_call_answer *answer) {
-    const linkd_link *link = &links[site];
-    const linkd_row *row = link->rows;
-    if (link->kind != LINKD_DIRECT) {
-        const linkd_row *end = row + link->count;
-        while (row < end && row->receiver != receiver) row++;
-        if (row == end) {
-            *answer = (linkd_call_answer){LINKD_MISS, 0, 0};
-            return;
-        }
-    }
-    *answer = (linkd_call_answer){row->kind, row->class_number, row->value};
-}
 
 static struct spent { double start, end; } spent[MOST_THREADS];
 
@@ -257,12 +244,21 @@ static void *thread(void *at) {
         uint32_t site = called[next].site, receiver = called[next].receiver;
         linkd_call_answer answer = {LINKD_MISS, 0, 0};
         switch (by) {
+        case ANSWER: {
+            uint64_t bits = linkd_seat_answer(seat, site, receiver);
+            answer.kind = linkd_kind_of(bits);
+            answer.class_number = linkd_class_of(bits);
+            break;
+        }
+        case ARRAY_CALLED:
+            look_up_in(links, site, receiver, &answer);
+            break;
         case SEAT:
             linkd_seat_call(seat, site, receiver, &answer);
             break;
         case MUTEX:
             pthread_mutex_lock(&mutex);
-            look_up(site, receiver, &answer);
+            look_up(links, site, receiver, &answer);
             pthread_mutex_unlock(&mutex);
             break;
         case MEMO:
@@ -278,11 +274,11 @@ static void *thread(void *at) {
             break;
         case RWLOCK:
             pthread_rwlock_rdlock(&rwlock);
-            look_up(site, receiver, &answer);
+            look_up(links, site, receiver, &answer);
             pthread_rwlock_unlock(&rwlock);
             break;
         default:
-            look_up(site, receiver, &answer);
+            look_up(links, site, receiver, &answer);
         }
         sum += answer.kind * UINT64_C(1000) + answer.class_number;
         next = next + 1 == end ? 0 : next + 1;
@@ -354,7 +350,7 @@ static void measure_memos(void) {
 
 /* Calls at so many sites from 1 on, scattered by a step that has no factor with them. */
 static void measure_sites(uint32_t count, const char *where) {
-    static const char *const words[] = {"a seat", "an array without a lock", "the array behind a mutex", "behind a read-write lock"};
+    static const char *const words[] = {"a seat, in 64 bits", "an array, behind a call", "a seat", "the array", "behind a mutex", "behind a read-write lock"};
     int tables = 0;
     called_count = count;
     for (uint32_t i = 0; i < count; i++) {
@@ -366,7 +362,7 @@ static void measure_sites(uint32_t count, const char *where) {
         must(links[site].kind == (of_a ? LINKD_VIRTUAL_TABLE : LINKD_DIRECT), "a link is of another kind");
     }
     printf("%u sites %s of %d are called, %d through a table of 2 classes, the others direct; %ld calls a thread\n", count, where, SITES, tables, calls);
-    measure(SEAT, TABLES, words);
+    measure(ANSWER, TABLES, words);
 }
 
 static void measure_calls(void) {

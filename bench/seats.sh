@@ -23,7 +23,7 @@ else
 fi
 . "$here/library.sh"
 
-build_c "$work/seats" "$here/seats.c"
+build_c "$work/seats" "$here/seats.c" "$here/look_up.c"
 echo "== calls"
 "$work/seats" calls "${CALLS:-2000000}"
 echo "== calls at megamorphic links"

@@ -77,6 +77,10 @@ static uint32_t delegate(uint32_t loader, const char *name, uint32_t to) {
     return linkd_delegate(at, loader, bytes(name), strlen(name), to, &told);
 }
 
+static int is_in_bits(uint64_t answer, uint32_t kind, uint32_t class_number, uint32_t value) {
+    return linkd_kind_of(answer) == kind && linkd_class_of(answer) == class_number && linkd_value_of(answer) == value;
+}
+
 static int comes_to(uint32_t status, uint32_t kind, uint32_t class_number, uint32_t value) {
     return status == LINKD_DONE && answer.kind == kind && answer.class_number == class_number && answer.value == value;
 }
@@ -363,6 +367,7 @@ int main(void) {
     MUST(linkd_memo_ask(memo, at, 0, LINKD_NULL, &answer) == LINKD_CLOSED);
     MUST(linkd_seat_call_with(seat, memo, 0, LINKD_NULL, &answer) == LINKD_CLOSED);
     MUST(linkd_seat_call(seat, 0, LINKD_NULL, &answer) == LINKD_CLOSED);
+    MUST(is_in_bits(linkd_seat_answer(seat, 0, LINKD_NULL), LINKD_MISS, 0, 0));
 
     MUST(linkd_open(at, 0) == LINKD_MALFORMED);
     MUST(linkd_open(at, 1048577) == LINKD_MALFORMED);
@@ -482,6 +487,8 @@ int main(void) {
     MUST(linkd_seat_call(seat, 1, 5, &answer) == LINKD_DONE && answer.kind == LINKD_MISS);
     MUST(linkd_seat_call(seat, 0, LINKD_NULL, &answer) == LINKD_DONE && answer.kind == LINKD_MISS);
     MUST(linkd_seat_call(seat, 9, LINKD_NULL, &answer) == LINKD_DONE && answer.kind == LINKD_MISS);
+    MUST(is_in_bits(linkd_seat_answer(seat, 1, 1), LINKD_RUN, 1, 0) && is_in_bits(linkd_seat_answer(seat, 1, 5), LINKD_MISS, 0, 0));
+    MUST(is_in_bits(linkd_seat_answer(seat, 1, LINKD_NULL), LINKD_THROWS, 0, LINKD_NULL_POINTER_EXCEPTION));
     sites[0] = 1;
     TELLS(linkd_invalidate(at, sites, 1, &told), LINKD_DONE, 0, 0, 0);
     sites[0] = 7;
@@ -554,6 +561,7 @@ int main(void) {
     free(memo);
     linkd_seat_leave(seat);
     MUST(linkd_seat_call(seat, 1, 1, &answer) == LINKD_CLOSED);
+    MUST(is_in_bits(linkd_seat_answer(seat, 1, 1), LINKD_MISS, 0, 0));
     MUST(linkd_open(at, 65536) == LINKD_DONE);
     MUST(linkd_seat_refresh(seat, at) == LINKD_DONE);
     linkd_close(at);

@@ -22,7 +22,7 @@ same relation of its old and its new value:
 R and the structs that cross stand in a library below, and MODULES says in which of its modules. `alloc` stands first, where there is
 one, and then the handles. Of two or three handles, the method is the first one's, and takes the others as `&mut`s; `old` and `new` are
 tuples then. The other parameters are numbers, slices, and `&mut`s of numbers, of #[repr(C)] structs and of slices, of numbers or of such structs.
-The result is a u32, or there is none. An export may also write a new value into room, of which the method says `result ≡ VALUE`:
+The result is a u32 or a u64, or there is none. An export may also write a new value into room, of which the method says `result ≡ VALUE`:
 
     pub unsafe extern "C" fn linkd_blank(at: *mut Linkd)
         requires* { sem 𝓛 (linker_room at) }
