@@ -21,7 +21,8 @@ points_in_part w c ty (Guard p first fallback) e =
     let n = length w.sites.switches in
     let guard = first_none (then_some (is_missing w.sites.switches p) UnknownSwitch) (part_fault w c ty first ∷ part_fault w c ty fallback ∷ []) e in
     let one = first_none (part_fault w c ty first) (part_fault w c ty fallback ∷ []) guard.1 in
-    and_from (nat_lt p n) (is_known n c first && is_known n c fallback) (lt-ltb p n (was_made w.sites.switches p (test_none (is_missing w.sites.switches p) UnknownSwitch guard.0)))
+    and_from (nat_lt p n) (is_known n c first && is_known n c fallback)
+    (lt-ltb p n (was_made w.sites.switches p (test_none (is_missing w.sites.switches p) UnknownSwitch guard.0)))
     (and_from (is_known n c first) (is_known n c fallback)
     (points_in_part w c ty first one.0) (points_in_part w c ty fallback (first_none (part_fault w c ty fallback) [] one.1).0))
 points_in_part w c ty (Invoker d) e =

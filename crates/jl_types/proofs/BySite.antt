@@ -1,6 +1,6 @@
 -- Values by site: what is found once a value is put in its place, and their order.
 use Rattle.std.specs.Prelude.{◌≡◌, ℕ, suc, ◌<◌, ◌==◌, ◌⊎◌, nat_lt, Bool, true, false, cond, List, [], ◌∷◌, length, find}
-use Rattle.std.specs.Prelude.{Some, None, option_map, Result, Ok, Err, OnOk, if◌then◌else◌, AllPairs}
+use Rattle.std.specs.Prelude.{Some, None, option_map, if◌then◌else◌, AllPairs}
 use Rattle.std.specs.List.{AllByRecursion, IsDistinct}
 use Rattle.std.specs.Map.{lookup, keys_of}
 use Rattle.std.proofs.Common.{refl, ap, sym, subst, ◌∙◌, arith, get_or, inl, inr}
@@ -169,11 +169,6 @@ rises_of (row ∷ rows) h = (
   each_above row.0 rows (λ j d lt. h 0 (suc j) d (omega arith) (omega arith)),
   rises_of rows (λ i j d le lt. h (suc i) (suc j) d (omega arith) (omega arith)),
 )
-
--- what holds where a call was fine
-pub where_ok : {X E P : Type 0} (r : Result X E) (x : X) → r ≡ Ok x → OnOk r P → P
-where_ok (Ok y) x e h = h
-where_ok (Err y) x e h = cc
 
 -- ---- how many there are
 

@@ -4,7 +4,7 @@ use Rattle.std.specs.List.{range_with_len}
 use Rattle.jl_types.specs.declared.refusal.ReleaseFault.{ReleaseFault}
 use Rattle.jl_types.specs.declared.refusal.ReleaseFault.TheVariants.{UnknownCallSite, UnknownSwitch, Invoked, Guarded}
 use Rattle.jl_types.specs.Values.Target.{Target, Method, Guard, Invoker}
-use Rattle.jl_types.specs.Values.World.{CallSite, Sites, unreleased, is_missing}
+use Rattle.jl_types.specs.Values.World.{Sites, unreleased, is_missing}
 use Rattle.jl_types.specs.Linkage.Resolution.{first_of}
 use Rattle.jl_types.specs.Events.Retirement.{is_listed, has_target}
 

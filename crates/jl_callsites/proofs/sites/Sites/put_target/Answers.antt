@@ -24,10 +24,11 @@ returns-clause-runs c =
     let inside : Sites = record { call_sites = c.self.inside.call_sites.items; switches = c.self.inside.switches.items } in
     subst (λ (old : Sites). method_of (record { call_sites = c.retarget_in.new.call_sites.items; switches = c.self.inside.switches.items }) c.args.site
     ≡ targets.evaluated old c.args.site c.args.target) c.self.view_is
-    (subst (λ (sites : List (Option CallSite)). method_of (record { call_sites = sites; switches = c.self.inside.switches.items }) c.args.site ≡ targets.evaluated inside
-    c.args.site c.args.target)
+    (subst (λ (sites : List (Option CallSite)). method_of (record { call_sites = sites; switches = c.self.inside.switches.items }) c.args.site
+    ≡ targets.evaluated inside c.args.site c.args.target)
     (sym c.retarget_in.ensures)
-    (target_runs inside c.args.site c.args.target (subst (λ (old : Sites). is_missing old.call_sites c.args.site ≡ false) (sym c.self.view_is) c.requires.there)))
+    (target_runs inside c.args.site c.args.target
+    (subst (λ (old : Sites). is_missing old.call_sites c.args.site ≡ false) (sym c.self.view_is) c.requires.there)))
 
 pub returns-clause-others : goal.returns-clause-others
 returns-clause-others c =
