@@ -21,6 +21,7 @@ pub mod NewClass
 pub mod NewRecords
 pub mod Growing
 pub mod GoneLaws
+pub mod Heirs
 pub mod LoaderGone
 -- methods, superinterface methods, and walks up the superclasses
 pub mod PrintLaws

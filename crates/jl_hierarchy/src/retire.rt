@@ -1,6 +1,6 @@
 //! The retirement of loaders with the classes that they have defined (JLS SE 17 §12.7).
 
-ghost use Rattle.std.specs.Prelude.{◌≡◌, ◌<◌, ◌≤◌, ◌+◌, ◌&&◌, ◌||◌, ◌==◌, ◌++◌, ◌∷◌, ℕ, None, All, find, filter, length, replicate, slice_get, [], OnOk};
+ghost use Rattle.std.specs.Prelude.{◌≡◌, ◌<◌, ◌≤◌, ◌+◌, ◌-◌, ◌&&◌, ◌||◌, ◌==◌, ◌++◌, ◌∷◌, ℕ, None, All, find, filter, length, replicate, slice_get, [], OnOk};
 ghost use Rattle.std.specs.Prelude.{OnErr, IfOk, true, if◌then◌else◌};
 ghost use Rattle.std.specs.Option.{option_map_or};
 ghost use Rattle.std.specs.List.{list_any, range_with_len};
@@ -79,8 +79,8 @@ impl Classes {
         }
     }
 
-    /// Why the loader can't go where all of these go at once, by the classes alone: a walk over the ancestors of all classes, and over
-    /// all that loaders record. Takes no memory.
+    /// Why the loader can't go where all of these go at once, by the classes alone: a walk over all classes, and over the ancestors of
+    /// those that came after the loader's first, and over all that loaders record. Takes no memory.
     pub fn retire_fault(&self, loaders: &[LoaderId], loader: LoaderId) -> Option<RetireFault>
         ensures { result ≡ retirement.classes_fault self.now loaders.now loader }
     {
@@ -99,12 +99,29 @@ impl Classes {
         None
     }
 
-    /// The number of the least present class that stays and has an ancestor of the loader.
+    /// The number of the least present class that stays and has an ancestor of the loader. No class has one that came before the
+    /// loader's first class.
     fn first_heir(&self, loaders: &[LoaderId], loader: LoaderId) -> Option<u32>
         ensures { result ≡ find (retirement.inherits_from self.now loaders.now loader) (members.numbers self.now) }
     {
+        let first = self.first_of(loader)?;
+        self.first_heir_from(loaders, loader, first)
+    }
+
+    /// The number of the first class that the loader has defined.
+    fn first_of(&self, loader: LoaderId) -> Option<u32>
+        ensures { result ≡ find (retirement.is_of self.now loader) (members.numbers self.now) }
+    {
         let count = self.count_in_order() as u32;
-        (0..count).find(|class| self.inherits_from(loaders, loader, ClassId::new(*class)))
+        (0..count).find(|class| self.is_of(loader, ClassId::new(*class)))
+    }
+
+    /// As [`Self::first_heir`], of the classes from the first one on.
+    fn first_heir_from(&self, loaders: &[LoaderId], loader: LoaderId, first: u32) -> Option<u32>
+        ensures { result ≡ find (retirement.inherits_from self.now loaders.now loader) (range_with_len first (length self.now.rows - first)) }
+    {
+        let count = self.count_in_order() as u32;
+        (first..count).find(|class| self.inherits_from(loaders, loader, ClassId::new(*class)))
     }
 
     /// Whether the class is a present one that stays, and has an ancestor of the loader.
@@ -143,8 +160,8 @@ impl Classes {
         }
     }
 
-    /// Whether nothing speaks against it that these loaders go at once, by the classes alone: one walk over the ancestors of all
-    /// classes, and one over all that the loaders record that stay. Takes no memory.
+    /// Whether nothing speaks against it that these loaders go at once, by the classes alone: one walk over all classes, and over the
+    /// ancestors of those that came after the loaders' first, and one over all that the loaders record that stay. Takes no memory.
     pub fn spares(&self, leaving: &Leaving) -> bool
         ensures { result ≡ true → retirement.MayRetire self.now leaving.now }
     {
@@ -177,8 +194,24 @@ impl Classes {
     fn first_heir_of_any(&self, leaving: &Leaving) -> Option<u32>
         ensures { result ≡ find (inherits_any self.now leaving.now) (members.numbers self.now) }
     {
+        let first = self.first_of_any(leaving)?;
+        self.first_heir_of_any_from(leaving, first)
+    }
+
+    /// The number of the first class that one of the loaders has defined.
+    fn first_of_any(&self, leaving: &Leaving) -> Option<u32>
+        ensures { result ≡ find (retirement.is_of_any self.now leaving.now) (members.numbers self.now) }
+    {
         let count = self.count_in_order() as u32;
-        (0..count).find(|class| self.inherits_any(leaving, ClassId::new(*class)))
+        (0..count).find(|class| self.is_of_any(leaving, ClassId::new(*class)))
+    }
+
+    /// As [`Self::first_heir_of_any`], of the classes from the first one on.
+    fn first_heir_of_any_from(&self, leaving: &Leaving, first: u32) -> Option<u32>
+        ensures { result ≡ find (inherits_any self.now leaving.now) (range_with_len first (length self.now.rows - first)) }
+    {
+        let count = self.count_in_order() as u32;
+        (first..count).find(|class| self.inherits_any(leaving, ClassId::new(*class)))
     }
 
     /// Whether the class is a present one that stays, and has an ancestor of one of the loaders.

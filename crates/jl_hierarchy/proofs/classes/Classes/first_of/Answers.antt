@@ -1,0 +1,14 @@
+use Rattle.std.specs.Prelude.{length}
+use Rattle.std.proofs.Common.{sym, ◌∙◌, rules, arith}
+use Rattle.std.proofs.lemmas.Iterator.{YieldsList-from_range}
+use Rattle.std.proofs.lemmas.Iterator.Adapters.{option_map_id}
+use Rattle.std.proofs.lemmas.Iterator.Search.{find_from_yields_List}
+use Rattle.jl_types.specs.Events.Retirement.{is_of}
+use Rattle.jl_hierarchy.proofs.classes.Classes.first_of.Goals as goal
+
+pub returns : goal.returns
+returns c =
+    let n = length c.args.self.now.rows in
+    sym (option_map_id c.find.result)
+    ∙ find_from_yields_List (is_of c.args.self.now c.args.loader) _ _ _ c.find.ensures.ran
+    (YieldsList-from_range 0 n n (λ i. record { start = 0; end = c.count_in_order-count.ensures.count i }) (omega arith)) (λ x b q k. search rules)
