@@ -22,7 +22,6 @@ pub mod InOrder
 pub mod Untouched
 pub mod KeyLaws
 -- one receiver more
-mod InheritedRuns
 pub mod OneReceiver
 -- threads, and worked rows
 pub mod Crossing

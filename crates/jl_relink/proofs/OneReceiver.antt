@@ -1,12 +1,11 @@
 -- Whether a link stays once there is one receiver more is told by the link and by what the new receiver comes to.
 use Rattle.std.specs.Prelude.{◌≡◌, ◌≢◌, ℕ, ◌&&◌, ◌||◌, nat_le, Bool, true, false, cond, List, [], ◌∷◌, ◌++◌, length, map, Ok, if◌then◌else◌}
-use Rattle.std.specs.List.{list_all, AllByRecursion}
+use Rattle.std.specs.List.{list_all}
 use Rattle.std.proofs.Common.{refl, ap, sym, subst, ◌∙◌, arith, length-append, inl, inr}
 use Rattle.std.proofs.lemmas.Bool.{leb-true, leb-false, or_cases, or_left, or_right}
 use Rattle.std.proofs.lemmas.Cmp.{nat_eq_equiv}
 use Rattle.std.proofs.lemmas.List.Folds.{list_all-append}
 use Rattle.jl_class.specs.Class.{ClassFile}
-use Rattle.jl_types.specs.declared.ids.MethodId.{MethodId}
 use Rattle.jl_types.specs.declared.answer.Outcome.{Outcome}
 use Rattle.jl_types.specs.declared.answer.Outcome.TheVariants.{Run, Throws}
 use Rattle.jl_types.specs.declared.event.EventOf.TheVariants as event
@@ -36,8 +35,6 @@ use Rattle.jl_relink.proofs.Untouched.{same_key_is, IsLater, AreThere, SiteKeeps
 use Rattle.jl_resolve.proofs.Later.{step_stays}
 use Rattle.jl_hierarchy.proofs.Closed.{closed_defined, present_still}
 use Rattle.jl_relink.proofs.KeyLaws.{good, constant}
-use Rattle.jl_relink.specs.Receivers.{inherits}
-use Rattle.jl_relink.proofs.InheritedRuns.{runs_inherited}
 
 -- ---- links of rows
 
@@ -107,33 +104,6 @@ virtual_more ((y, Run m) ∷ rows) x o =
     by_all true false is = others_told (table_or_mega table.Virtual ((y, Run m) ∷ (rows ++ (x, o) ∷ []))) (Direct (Run m))
         (not_direct table.Virtual ((y, Run m) ∷ (rows ++ (x, o) ∷ [])) (Run m)) ∙ sym is
     by_all false last is = of_rows table.Virtual ((y, Run m) ∷ rows) x o
-
--- a link to one method comes of a first receiver that runs it
-record FirstRuns (outcome_of : ℕ → Outcome) (P : ℕ → Type 0) (m : MethodId) : Type 0 where
-  receiver : ℕ
-  there : P receiver
-  run : outcome_of receiver ≡ Run m
-
-first_runs : (outcome_of : ℕ → Outcome) (P : ℕ → Type 0) (m : MethodId) (ys : List ℕ) → AllByRecursion P ys
-    → virtual_link (map (λ x. (x, outcome_of x)) ys) ≡ Direct (Run m) → FirstRuns outcome_of P m
-first_runs outcome_of P m [] all e = cc
-first_runs outcome_of P m (y ∷ ys) all e =
-    by_outcome (outcome_of y) refl (map (λ x. (x, outcome_of x)) ys) e
-  where
-    by_all : (b : Bool) (k : MethodId) (rows : List (ℕ × Outcome)) → outcome_of y ≡ Run k
-        → (if b then Direct (Run k) else table_or_mega table.Virtual ((y, Run k) ∷ rows)) ≡ Direct (Run m) → FirstRuns outcome_of P m
-    by_all true k rows is e = let same : k ≡ m = cc in record { receiver = y; there = all.0; run = is ∙ ap Run same }
-    by_all false k rows is e = absurd (not_direct table.Virtual ((y, Run k) ∷ rows) (Run m) e)
-
-    by_outcome : (o : Outcome) → outcome_of y ≡ o → (rows : List (ℕ × Outcome)) → virtual_link ((y, outcome_of y) ∷ rows) ≡ Direct (Run m)
-        → FirstRuns outcome_of P m
-    by_outcome (Throws throwable) is rows e =
-        absurd (not_direct table.Virtual ((y, Throws throwable) ∷ rows) (Run m) (ap (λ (o : Outcome). virtual_link ((y, o) ∷ rows)) (sym is) ∙ e))
-    by_outcome (Run k) is rows e =
-        by_all (list_all (λ row. runs k row.1) rows) k rows is (ap (λ (o : Outcome). virtual_link ((y, o) ∷ rows)) (sym is) ∙ e)
-
-runs_itself : (m : MethodId) → runs m (Run m) ≡ true
-runs_itself m = λ i. nat_eq_equiv.refl m.class i && nat_eq_equiv.refl m.index i
 
 map_append : {A B : Type 0} (f : A → B) (xs ys : List A) → map f (xs ++ ys) ≡ map f xs ++ map f ys
 map_append f [] ys = refl
@@ -212,25 +182,6 @@ module _ (w : World) (order : IsInOrder w) (loader : ℕ) (file : ClassFile) (s 
         ∙ of_rows table.Interface (table_rows w.classes i) n (outcome after.classes i n)
     by_selector BySpecial met = cc
 
-    -- a class that inherits the one method runs it
-    direct_runs : (selector : Selector) → i.selector ≡ selector → meets (of_selector w.classes i selector) (of_class after.classes n) ≡ true
-        → (m : MethodId) → link_by w.classes i selector ≡ Direct (Run m) → inherits after.classes n m ≡ true
-        → outcome_by after.classes i selector n ≡ Run m
-    direct_runs ByVirtual is met m e h = by_flag (is_private w.classes i.method) refl met e
-      where
-        by_flag : (b : Bool) → is_private w.classes i.method ≡ b → meets (if b then [] else key.Receivers i.named ∷ []) (of_class after.classes n) ≡ true
-            → (if b then Direct (virtual_outcome w.classes i.named i.method) else virtual_link (table_rows w.classes i)) ≡ Direct (Run m)
-            → virtual_outcome after.classes n i.method ≡ Run m
-        by_flag true private met e = cc
-        by_flag false shared met e =
-            let first = first_runs (λ x. outcome_by w.classes i i.selector x) (IsThere w.classes) m (receivers w.classes i.named)
-            (receivers_there w after s later i there) e
-            in
-            runs_inherited w.classes after.classes later.stays later.good i.method there.method shared first.receiver first.there m
-            (ap (λ (selector : Selector). outcome_by w.classes i selector first.receiver) (sym is) ∙ first.run) n h
-    direct_runs ByInterface is met m e h = absurd (not_direct table.Interface (table_rows w.classes i) (Run m) e)
-    direct_runs BySpecial is met m e h = cc
-
   -- ---- its stage
 
   met_key : (footprint ks : List Key) → meets footprint ks ≡ true → (k : Key) × (has_key footprint k ≡ true) × (has_key ks k ≡ true)
@@ -289,17 +240,12 @@ module _ (w : World) (order : IsInOrder w) (loader : ℕ) (file : ClassFile) (s 
           ap (λ ks. meets ks (of_class after.classes n)) (sym (keeps.chosen i refl)) ∙ touched in
           record {
             invocation = i;
+            before = is;
             selects = keeps.same refl;
             selector = not_special i c i.selector h;
             link =
                 ap (λ (t : Stage). is_link (link_of after.classes t) l) (keeps.same refl)
                 ∙ subst (λ (l : Link). same_link (link_by after.classes i i.selector) l ≡ stays_with l (outcome after.classes i n)) same
                 (by_selector i keeps.there i.selector met);
-            inherited = λ m direct h.
-                ap (λ (t : Stage). is_link (link_of after.classes t) l) (keeps.same refl)
-                ∙ subst (λ (l : Link). same_link (link_by after.classes i i.selector) l ≡ stays_with l (outcome after.classes i n)) same
-                (by_selector i keeps.there i.selector met)
-                ∙ (λ j. stays_with (direct j) (direct_runs i keeps.there i.selector refl met m (same ∙ direct) h j))
-                ∙ runs_itself m;
             rests_on = keeps.keys refl;
           }

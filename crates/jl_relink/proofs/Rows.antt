@@ -25,7 +25,6 @@ use Rattle.jl_types.proofs.Rows.Sketch.{method, calling, class_ref, first, file}
 use Rattle.jl_types.proofs.Rows.CallSites.{begun, m, n}
 use Rattle.jl_relink.specs.Laws.{LinksStay, IsInOrder, SiteStays, OneMore, AreAccepted}
 use Rattle.jl_relink.specs.Receivers.{TellsStay, TellsRun}
-use Rattle.jl_relink.specs.Receivers as receivers
 
 -- ---- which links stay
 
@@ -34,7 +33,7 @@ abbrev bound : Target → World
 bound t = world_after (begun ++ NewCallSite Mutable (codes "()V") t ∷ Bind 0 0 ∷ [])
 
 link_stays : SiteStays (bound (target.Method m)) (step (bound (target.Method m)) NewSwitch) 0 (Plain m)
-link_stays = record { link = refl; rests_on = refl }
+link_stays = record { link = refl; selects = refl; rests_on = refl }
 
 -- the number of the method that a plain link runs
 abbrev runs_number : Result Link Unlinked → ℕ
@@ -89,26 +88,17 @@ calls kind = world_after (events kind)
 abbrev own : ClassFile
 own = below (codes "A") (codes "C") (method 1 (codes "f") ∷ [])
 
-abbrev inherits : ClassFile
-inherits = below (codes "A") (codes "C") []
+abbrev bare : ClassFile
+bare = below (codes "A") (codes "C") []
 
 abbrev by_virtual : ResolvedCall
 by_virtual = record { selector = ByVirtual; caller = 3; named = 1; ref = class_ref (codes "A") (codes "f"); method = first 1 }
 
 goes : OneMore (calls Virtual) 0 own 0 (Direct (Run (first 1)))
-goes = record {
-  invocation = by_virtual;
-  selects = refl;
-  selector = λ e. cc;
-  link = refl;
-  inherited = λ m direct h.
-      let same : first 1 ≡ m = cc in
-      let none : false ≡ true = ap (receivers.inherits (step (calls Virtual) (Define 0 own)).classes 4) same ∙ h in cc;
-  rests_on = refl;
-}
+goes = record { invocation = by_virtual; before = refl; selects = refl; selector = λ e. cc; link = refl; rests_on = refl }
 
-stays : OneMore (calls Virtual) 0 inherits 0 (Direct (Run (first 1)))
-stays = record { invocation = by_virtual; selects = refl; selector = λ e. cc; link = refl; inherited = λ m direct h. refl; rests_on = refl }
+stays : OneMore (calls Virtual) 0 bare 0 (Direct (Run (first 1)))
+stays = record { invocation = by_virtual; before = refl; selects = refl; selector = λ e. cc; link = refl; rests_on = refl }
 
 -- another link, of which the new class tells something else
 not_this_link : ¬ OneMore (calls Virtual) 0 own 0 Mega
@@ -125,39 +115,6 @@ selector_of (Selects i) = i.selector
 
 by_special : ¬ OneMore (calls Special) 0 own 0 (Direct (Run (first 1)))
 by_special h = h.selector (sym (ap selector_of h.selects))
-
--- ---- what a class inherits
-
-abbrev with : ClassFile → World
-with class = step (calls Virtual) (Define 0 class)
-
--- A's f
-inherits_from_above : receivers.inherits (with inherits).classes 4 (first 1) ≡ true
-inherits_from_above = refl
-
-its_own_is_first : receivers.inherits (with own).classes 4 (first 1) ≡ false
-its_own_is_first = refl
-
--- of two of one name the first
-abbrev twice : ClassFile
-twice = below (codes "A") (codes "C") (method 1 (codes "f") ∷ method 1 (codes "f") ∷ [])
-
-its_second_is_not : receivers.inherits (with twice).classes 4 (record { class = 4; index = 1 }) ≡ false
-its_second_is_not = refl
-
-no_such_method : receivers.inherits (with inherits).classes 4 (record { class = 1; index = 7 }) ≡ false
-no_such_method = refl
-
--- A's superclass has no f
-not_from_below : receivers.inherits (with inherits).classes 0 (first 1) ≡ false
-not_from_below = refl
-
--- a method of an interface
-abbrev interface : ClassFile
-interface = record (file (codes "I") 1537 (method 1 (codes "f") ∷ [])) { superclass = Some (codes "java/lang/Object") }
-
-interface_is_not : receivers.inherits (with interface).classes 4 (first 4) ≡ false
-interface_is_not = refl
 
 -- ---- what one receiver tells
 

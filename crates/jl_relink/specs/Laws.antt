@@ -5,10 +5,7 @@ use Rattle.jl_types.specs.declared.limits.Limits.{Limits}
 use Rattle.jl_class.specs.Flags.{extends_object}
 use Rattle.jl_types.specs.Events.Event.{Event}
 use Rattle.jl_types.specs.declared.event.EventOf.TheVariants as event
-use Rattle.jl_types.specs.declared.ids.MethodId.{MethodId}
-use Rattle.jl_types.specs.declared.answer.Outcome.TheVariants.{Run}
 use Rattle.jl_types.specs.declared.link.Link.{Link}
-use Rattle.jl_types.specs.declared.link.Link.TheVariants.{Direct}
 use Rattle.jl_types.specs.Values.World.{World}
 use Rattle.jl_types.specs.Events.Verdict.{verdict, step}
 use Rattle.jl_types.specs.Linkage.Links.{outcome, scratch}
@@ -18,7 +15,6 @@ use Rattle.jl_types.specs.Events.History.{world_after, is_link}
 use Rattle.jl_hierarchy.specs.Constancy.{AreInOrder}
 use Rattle.jl_callsites.specs.Known.{are_known}
 use Rattle.jl_types.specs.Events.Footprints.{footprint, stays_with}
-use Rattle.jl_relink.specs.Receivers.{inherits}
 
 -- each site that has a link from scratch has the same one after the event
 pub record LinksStay (w : World) (e : Event) : Type 0 where
@@ -29,22 +25,21 @@ pub record IsInOrder (w : World) : Type 0 where
   pub classes : AreInOrder w.classes
   pub points : are_known w.sites ≡ true
 
--- the link of site s, and what it rests on, is the same in both worlds
+-- the link of site s, and what it rests on, is the same in both worlds, and the site's invocation comes to the same before its receiver
 pub record SiteStays (w after : World) (s : ℕ) (l : Link) : Type 0 where
   pub link : scratch after s ≡ Ok l
+  pub selects : stage after s ≡ stage w s
   pub rests_on : footprint after s ≡ footprint w s
 
 -- After the definition of a class that the site's link looks at, the site selects as before, by this invocation, and whether its link
--- stays is told by the link and by what the invocation comes to for the new class: a link to one method stays where the class inherits that.
--- What the link rests on stays.
+-- stays is told by the link and by what the invocation comes to for the new class. What the link rests on stays.
 pub record OneMore (w : World) (loader : ℕ) (file : ClassFile) (s : ℕ) (l : Link) : Type 0 where
   pub invocation : ResolvedCall
+  pub before : stage w s ≡ Selects invocation
   pub selects : stage (step w (event.Define loader file)) s ≡ Selects invocation
   pub selector : invocation.selector ≢ BySpecial
   pub link : is_link (scratch (step w (event.Define loader file)) s) l
       ≡ stays_with l (outcome (step w (event.Define loader file)).classes invocation (length w.classes.rows))
-  pub inherited : (m : MethodId) → l ≡ Direct (Run m) → inherits (step w (event.Define loader file)).classes (length w.classes.rows) m ≡ true
-      → is_link (scratch (step w (event.Define loader file)) s) l ≡ true
   pub rests_on : footprint (step w (event.Define loader file)) s ≡ footprint w s
 
 -- ---- lists of accepted events

@@ -1,12 +1,8 @@
 -- What is told of a site's link by one receiver.
-use Rattle.std.specs.Prelude.{◌≡◌, ◌≢◌, ◌<◌, ◌&&◌, ℕ, Bool, false, not, length, Option, Some, None}
-use Rattle.std.specs.Option.{option_map_or}
-use Rattle.jl_types.specs.declared.answer.Outcome.TheVariants.{Run}
+use Rattle.std.specs.Prelude.{◌≡◌, ◌≢◌, ◌<◌, ℕ, Bool, length, Option, Some, None}
 use Rattle.jl_types.specs.declared.ids.MethodId.{MethodId}
 use Rattle.jl_types.specs.declared.link.Link.{Link}
 use Rattle.jl_types.specs.Values.World.{World, Classes}
-use Rattle.jl_types.specs.Values.Members.{is_interface, method_test}
-use Rattle.jl_types.specs.Linkage.Resolution.{declared_upward}
 use Rattle.jl_types.specs.Linkage.Stages.{Stage, ResolvedCall, BySpecial, Selects, stage}
 use Rattle.jl_types.specs.Linkage.Links.{outcome, runs}
 use Rattle.jl_types.specs.Events.Footprints.{stays_with}
@@ -25,9 +21,3 @@ TellsStay w s l x stays = (i : ResolvedCall) → stage w s ≡ Selects i → i.s
 -- the answer is whether the site runs the method for this receiver
 abbrev pub TellsRun : World → ℕ → MethodId → ℕ → Bool → Type 0
 TellsRun w s m x does = (i : ResolvedCall) → stage w s ≡ Selects i → i.selector ≢ BySpecial → does ≡ runs m (outcome w.classes i x)
-
--- the method stands in a class, and is what the class x, from itself upward, first declares of its name and descriptor
-abbrev pub inherits : Classes → ℕ → MethodId → Bool
-inherits cs x m =
-    not (is_interface cs m.class)
-    && method_test (λ method. option_map_or (λ n. runs m (Run n)) (declared_upward cs method.name method.ty x) false) cs m

@@ -11,7 +11,6 @@ mod batch;
 mod by_rows;
 mod earlier;
 mod fill;
-mod inherited;
 mod known;
 mod laws;
 mod link;
@@ -31,7 +30,6 @@ mod world;
 
 pub use answer::dispatch;
 pub use batch::{Row, is_bad_size, sites_fault};
-pub use inherited::inherits;
 pub use laws::{
     accepted_events_are_in_order, links_stay, one_receiver_more, touched_sites_take_one_evaluation,
     untouched_links_stay,

@@ -32,9 +32,8 @@ use Rattle.jl_types.specs.Linkage.Selection.{found_or, overriding, chosen_of, ch
 use Rattle.jl_types.specs.Linkage.Links.{runs, table_or_mega, virtual_link}
 use Rattle.jl_types.specs.Linkage.Stages.{ResolvedCall}
 use Rattle.jl_types.proofs.Bools.{first_test, second_test}
-use Rattle.jl_relink.specs.Receivers.{inherits}
 use Rattle.jl_resolve.proofs.Unchanged.{all_filter, first_there}
-use Rattle.jl_report.specs.Finals.{is_final_method, is_final_in}
+use Rattle.jl_report.specs.Finals.{is_final_method, is_final_in, inherits}
 use Rattle.jl_report.specs.Methods.{run_by_link}
 use Rattle.jl_report.proofs.ResolvedLaws.{IsCalled, IsResolved, upward_found, all_called, defaults_called, found_called}
 

@@ -35,7 +35,7 @@ use Rattle.jl_report.specs.Drops.{keys_of, row_now, now_changed, left_among, dro
 use Rattle.jl_hierarchy.specs.Constancy.{may_be_extended, ExtendNoFinal}
 use Rattle.jl_report.specs.Drops.{may_change, has_changing_link, may_grow, is_open}
 use Rattle.jl_report.specs.Methods.{is_same, distinct, run_of, run_by, looked_at, runs, methods_run}
-use Rattle.jl_report.specs.Finals.{overrides_final, some_overrides_final, AreDerived, is_final_call}
+use Rattle.jl_report.specs.Finals.{overrides_final, some_overrides_final, AreDerived, inherits, is_final_call}
 use Rattle.jl_report.specs.Made.{class_of, named_result, made, meets_made, marks_of, meets_marks}
 use Rattle.jl_report.specs.Totals.{shape_of, column, count, told, largest}
 use Rattle.jl_report.specs.Gathering.{most_classes}
@@ -402,6 +402,37 @@ of_f own more = row (codes "A") 33 (own ∷ []) Virtual on_a more
 -- a class of this name, with these methods, below A
 abbrev below : List ℕ → List Method → Class
 below name methods = class name 33 (Some 1) [] methods
+
+-- ---- what a class inherits: B 3 is below A 1
+
+abbrev plain_f : Method
+plain_f = method 1 (codes "f")
+
+abbrev with_b : List Method → Classes
+with_b methods = with_f plain_f (below (codes "B") methods ∷ [])
+
+inherits_from_above : inherits (with_b []) 3 (first 1) ≡ true
+inherits_from_above = refl
+
+its_own_is_first : inherits (with_b (plain_f ∷ [])) 3 (first 1) ≡ false
+its_own_is_first = refl
+
+-- of two of one name the first
+its_second_is_not : inherits (with_b (plain_f ∷ plain_f ∷ [])) 3 (record { class = 3; index = 1 }) ≡ false
+its_second_is_not = refl
+
+no_such_method : inherits (with_b []) 3 (record { class = 1; index = 7 }) ≡ false
+no_such_method = refl
+
+-- A's superclass has no f
+not_from_below : inherits (with_b []) 0 (first 1) ≡ false
+not_from_below = refl
+
+-- a method of an interface
+interface_is_not : inherits (with_f plain_f (class (codes "I") 1537 (Some 0) [] (plain_f ∷ []) ∷ [])) 3 (first 3) ≡ false
+interface_is_not = refl
+
+-- ---- links that run a FINAL method
 
 final_direct : (of_f final_f []).finding ≡ finding.Linked (Direct (Run (first 1)))
 final_direct = refl

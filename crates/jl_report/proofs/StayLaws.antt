@@ -63,10 +63,9 @@ module _ (cs : Classes) (file : ClassFile) (order : AreInOrder cs) (accepted : d
     untouched l none is = untouched_stays (fixed 0) old (in_order place) (event.Define 0 file) 0 l (is_accepted place) refl none is
 
     kept : (l : Link) → meets (footprint old 0) (keys_of cs file) ≡ true → scratch old 0 ≡ Ok l → is_link (scratch new 0) l ≡ true → SiteStays old new 0 l
-    kept l met is same = record {
-      link = (is_link_decides (scratch new 0) l).0 same;
-      rests_on = (one_more old (in_order place) 0 file 0 l met is).rests_on;
-    }
+    kept l met is same =
+        let more = one_more old (in_order place) 0 file 0 l met is in
+        record { link = (is_link_decides (scratch new 0) l).0 same; selects = more.selects ∙ sym more.before; rests_on = more.rests_on }
 
   module _ (invocation : Invocation) where
     abbrev place : Place

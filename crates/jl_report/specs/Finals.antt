@@ -3,13 +3,15 @@ use Rattle.std.specs.Prelude.{◌≡◌, ℕ, ◌&&◌, Bool, false, not, List, 
 use Rattle.std.specs.List.{list_any}
 use Rattle.std.specs.Option.{option_map_or}
 use Rattle.jl_class.specs.Flags.{has_flag}
+use Rattle.jl_types.specs.declared.answer.Outcome.TheVariants.{Run}
 use Rattle.jl_types.specs.declared.ids.MethodId.{MethodId}
 use Rattle.jl_types.specs.Values.World.{Classes}
 use Rattle.jl_types.specs.Values.Members.{method_test, declared, is_interface, numbers}
 use Rattle.jl_types.specs.Values.Ancestry.{superclass_of, superclasses}
+use Rattle.jl_types.specs.Linkage.Resolution.{declared_upward}
 use Rattle.jl_types.specs.Linkage.Overriding.{methods_in, can_override}
+use Rattle.jl_types.specs.Linkage.Links.{runs}
 use Rattle.jl_hierarchy.specs.Redeclared.{AreLines}
-use Rattle.jl_relink.specs.Receivers.{inherits}
 use Rattle.jl_report.specs.declared.row.Row.{Row}
 use Rattle.jl_report.specs.Methods.{looked_at, run_by}
 
@@ -50,6 +52,12 @@ pub record AreDerived (cs : Classes) : Type 0 where
   pub lines : AreLines cs.rows
 
 -- ---- rows
+
+-- m stands in a class, and is what c, from itself upward, first declares of its name and descriptor (5.4.3.3)
+abbrev pub inherits : Classes → ℕ → MethodId → Bool
+inherits cs c m =
+    not (is_interface cs m.class)
+    && method_test (λ method. option_map_or (λ n. runs m (Run n)) (declared_upward cs method.name method.ty c) false) cs m
 
 -- c is a class, and m, which is FINAL, is what c, from itself upward, first declares of its name and descriptor (5.4.3.3)
 abbrev pub is_final_in : Classes → ℕ → MethodId → Bool

@@ -5,11 +5,11 @@ ghost use Rattle.std.specs.List.{list_any};
 ghost use Rattle.jl_types.specs.Values.Members as members;
 ghost use Rattle.jl_report.specs.Finals as finals;
 
+use crate::inherited::inherits;
 use crate::methods::run_by;
 use crate::row::Row;
 use jl_class::{FINAL, Method, Methods, has_flag};
 use jl_hierarchy::{Classes, NameAndType};
-use jl_relink::inherits;
 use jl_select::can_override;
 use jl_types::{ClassId, MethodId};
 

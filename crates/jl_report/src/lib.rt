@@ -23,6 +23,7 @@ mod totals;
 // What a further class changes of it.
 mod breaking;
 mod finals;
+mod inherited;
 
 // The laws of the definitions.
 mod laws;

@@ -1,8 +1,7 @@
-use Rattle.std.specs.Prelude.{◌≡◌, ◌≤◌, ◌^◌, ℕ, length, sum_by}
+use Rattle.std.specs.Prelude.{◌≡◌, ◌≤◌, ◌^◌, ℕ, length}
 use Rattle.std.proofs.Common.{refl, sym, subst, ◌∙◌, arith, inl}
 use Rattle.std.proofs.lemmas.Result.{err_from_is_err_and}
 use Rattle.jl_types.specs.Values.World.{World}
-use Rattle.jl_types.specs.Events.Footprints.{most_for}
 use Rattle.jl_types.specs.Events.Preparation.{ArePrepared}
 use Rattle.jl_relink.proofs.BatchLaws.{all_ready}
 use Rattle.jl_relink.proofs.WorkCounts.{rows_fit, most_of_prepared}

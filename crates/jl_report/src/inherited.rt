@@ -1,14 +1,14 @@
 //! Whether a class inherits a method from its superclasses.
 
 ghost use Rattle.std.specs.Prelude.{◌≡◌};
-ghost use Rattle.jl_relink.specs.Receivers.{inherits};
+ghost use Rattle.jl_report.specs.Finals.{inherits};
 
 use jl_hierarchy::{Classes, NameAndType};
 use jl_types::{ClassId, MethodId};
 
-/// Whether the method stands in a class, and is what this class, from itself upward, first declares of its name and descriptor. A new
-/// class that inherits the one method that a link runs changes no such link (JVMS SE 17 §5.4.6). Takes no memory.
-pub fn inherits(classes: &Classes, class: ClassId, method: &MethodId) -> bool
+/// Whether the method stands in a class, and is what this class, from itself upward, first declares of its name and descriptor (JVMS SE 17
+/// §5.4.3.3). Takes no memory.
+pub(crate) fn inherits(classes: &Classes, class: ClassId, method: &MethodId) -> bool
     ensures { result ≡ inherits classes.now class method.now }
 {
     if classes.is_interface(method.class) {
