@@ -5,7 +5,7 @@ use Rattle.std.proofs.Common.{refl, ap, sym, ◌∙◌}
 use Rattle.std.proofs.lemmas.Bool.Decides.{Decides-eqb}
 use Rattle.std.proofs.lemmas.List.Folds.{list_any-append}
 use Rattle.indexmap.specs.IndexMap.{IndexMap}
-use Rattle.indexmap.specs.IndexSet.{IndexSet}
+use Rattle.jl_types.specs.declared.ids.MethodId.{MethodId}
 use Rattle.jl_types.specs.declared.key.Key.{Key}
 use Rattle.jl_types.specs.declared.key.Key.TheVariants as key
 use Rattle.jl_types.specs.Events.Footprints.{same_key, has_key}
@@ -13,8 +13,8 @@ use Rattle.jl_deps.specs.declared.form.Form.{Form}
 use Rattle.jl_deps.specs.declared.form.Form.TheVariants as forms
 use Rattle.jl_deps.specs.declared.form.Rests.{Rests}
 use Rattle.jl_relink.proofs.Untouched.{same_key_is}
-use Rattle.jl_deps.specs.Indexes.{rests_at}
-use Rattle.jl_deps.specs.ForProofs.Lists.{form_eq, key_eq, listed, AreListed, keys_in, form_in}
+use Rattle.jl_deps.specs.Indexes.{rests_at, form_eq}
+use Rattle.jl_deps.specs.ForProofs.Lists.{key_eq, listed, AreListed, keys_in, form_in}
 
 pub key_same : (k j : Key) → key_eq k j ≡ same_key k j
 key_same (key.Receivers c) (key.Receivers d) = refl
@@ -122,7 +122,7 @@ stays_more kept front key k b now old present before =
 
 -- ---- the footprints and the lists
 
-pub put_listed : {Q S T : Type 0} (old new : List (ℕ × Rests)) (before after : IndexMap Key (IndexMap Form (IndexSet ℕ Q) S) T) (site : ℕ) (r : Rests)
+pub put_listed : {S T : Type 0} (old new : List (ℕ × Rests)) (before after : IndexMap Key (IndexMap Form (List ℕ) S) T) (site : ℕ) (r : Rests)
     → ((s : ℕ) → rests_at new s ≡ (if site == s then Some r else rests_at old s))
     → AreListed old before
     → ((k : Key) (f : Form) (s : ℕ) → listed after k f s ≡ (if site == s then form_eq r.form f && has_key r.footprint k else listed before k f s))
@@ -137,7 +137,7 @@ put_listed old new before after site r puts were anew s k f =
     by_site false = were s k f
 
 -- what was listed of the site, by what it rested on
-pub was_listed : {Q S T : Type 0} (sites : List (ℕ × Rests)) (lists : IndexMap Key (IndexMap Form (IndexSet ℕ Q) S) T) (site : ℕ) → AreListed sites lists
+pub was_listed : {S T : Type 0} (sites : List (ℕ × Rests)) (lists : IndexMap Key (IndexMap Form (List ℕ) S) T) (site : ℕ) → AreListed sites lists
     → (k : Key) (f : Form) → listed lists k f site ≡ (form_eq (form_in (rests_at sites site)) f && has_key (keys_in (rests_at sites site)) k)
 was_listed sites lists site are k f = are site k f ∙ by_rests (rests_at sites site)
   where
@@ -174,30 +174,30 @@ listed_anew true e g other h all next now before was same listed less =
     by_form true is = ap (λ (o : Bool). not (h && not (o && all)) && ((g && all) || h)) (same is) ∙ there h (g && all)
     by_form false is = nowhere (g && all)
 
--- forms that are equal by their derived `==`
-pub form_is : (f g : Form) → form_eq f g ≡ true → f ≡ g
-form_is forms.Mega forms.Mega e = refl
-form_is forms.Mega (forms.Runs n) e = cc
-form_is forms.Mega forms.Other e = cc
-form_is (forms.Runs m) forms.Mega e = cc
-form_is (forms.Runs m) (forms.Runs n) e = λ k. forms.Runs (record {
-  class = (Decides-eqb m.class n.class).0 (first (m.class == n.class) (m.index == n.index) e) k;
-  index = (Decides-eqb m.index n.index).0 (second (m.class == n.class) (m.index == n.index) e) k;
-})
+method_is : (m n : MethodId) → ((m.class == n.class) && (m.index == n.index)) ≡ true → m ≡ n
+method_is m n e = λ k. record { class = (Decides-eqb m.class n.class).0 (first (m.class == n.class) (m.index == n.index) e) k; index = (Decides-eqb m.index n.index).0 (second (m.class == n.class) (m.index == n.index) e) k }
   where
     first : (a b : Bool) → (a && b) ≡ true → a ≡ true
     first true b h = refl
-    first false b h = cc
+    first false b h = h
 
     second : (a b : Bool) → (a && b) ≡ true → b ≡ true
     second true b h = h
     second false b h = cc
-form_is (forms.Runs m) forms.Other e = cc
-form_is forms.Other forms.Mega e = cc
-form_is forms.Other (forms.Runs n) e = cc
+
+-- forms that are equal by their derived `==`
+pub form_is : (f g : Form) → form_eq f g ≡ true → f ≡ g
+form_is (forms.Virtual m) (forms.Virtual n) e = ap forms.Virtual (method_is m n e)
+form_is (forms.Virtual m) (forms.Interface n) e = cc
+form_is (forms.Virtual m) forms.Other e = cc
+form_is (forms.Interface m) (forms.Virtual n) e = cc
+form_is (forms.Interface m) (forms.Interface n) e = ap forms.Interface (method_is m n e)
+form_is (forms.Interface m) forms.Other e = cc
+form_is forms.Other (forms.Virtual n) e = cc
+form_is forms.Other (forms.Interface n) e = cc
 form_is forms.Other forms.Other e = refl
 
 pub form_same : (f : Form) → form_eq f f ≡ true
-form_same forms.Mega = refl
-form_same (forms.Runs m) = λ i. (Decides-eqb m.class m.class).1 refl i && (Decides-eqb m.index m.index).1 refl i
+form_same (forms.Virtual m) = λ i. (Decides-eqb m.class m.class).1 refl i && (Decides-eqb m.index m.index).1 refl i
+form_same (forms.Interface m) = λ i. (Decides-eqb m.class m.class).1 refl i && (Decides-eqb m.index m.index).1 refl i
 form_same forms.Other = refl

@@ -4,7 +4,7 @@ pub mod ListLaws
 pub mod IndexLaws
 pub mod TouchLaws
 pub mod GroupLaws
-pub mod CountLaws
+pub mod AskedLaws
 pub mod BoundLaws
 -- what a link rests on, and what an event changes of that
 pub mod PointLaws

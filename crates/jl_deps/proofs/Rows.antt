@@ -1,63 +1,33 @@
--- What the forms of links say, what is found in a small index, which lists rise, and which index is that of some links.
-use Rattle.std.specs.Prelude.{◌≡◌, ℕ, ◌==◌, Bool, true, false, cond, List, [], ◌∷◌, ◌++◌, Option, Some, None, length, option_map, codes, refl, if◌then◌else◌}
+-- What forms say, what is found in a small index, which lists rise, and which index is that of some links.
+use Rattle.std.specs.Prelude.{◌≡◌, ℕ, ◌<◌, ◌==◌, Bool, true, false, cond, List, [], ◌∷◌, ◌++◌, Option, Some, None, length, option_map, codes, refl, if◌then◌else◌}
 use Rattle.std.proofs.Common.{ap, arith}
 use Rattle.std.proofs.lemmas.Bool.Decides.{Decides-eqb}
-use Rattle.jl_types.specs.declared.answer.Outcome.TheVariants.{Run, Throws}
 use Rattle.jl_types.specs.declared.answer.Throwable.{Throwable}
+use Rattle.jl_types.specs.declared.answer.Unlinked.TheVariants.{NoSite}
 use Rattle.jl_types.specs.declared.event.EventOf.TheVariants.{NewCallSite, SetTarget, NewSwitch, Invalidate, Bind}
 use Rattle.jl_types.specs.declared.ids.MethodId.{MethodId}
 use Rattle.jl_types.specs.declared.key.Key.{Key}
 use Rattle.jl_types.specs.declared.key.Key.TheVariants.{Receivers, Target, Valid}
 use Rattle.jl_types.specs.declared.link.Link.{Link}
 use Rattle.jl_types.specs.declared.link.Link.TheVariants as link
-use Rattle.jl_types.specs.declared.link.TableKind.TheVariants as kind
 use Rattle.jl_types.specs.declared.target.CallSiteKind.TheVariants.{Mutable}
 use Rattle.jl_types.specs.Values.Target as target
 use Rattle.jl_types.specs.Values.World.{World, Classes}
+use Rattle.jl_types.specs.Linkage.Stages.{Selector, ByVirtual, ByInterface, BySpecial, Stage, Waits, Fails, Calls, Selects}
 use Rattle.jl_types.specs.Events.History.{world_after}
 use Rattle.jl_types.proofs.BySite.{sites_rise}
 use Rattle.jl_types.proofs.Rows.CallSites.{begun, m, n}
-use Rattle.jl_types.proofs.Rows.Sketch.{object, class, classes, method}
+use Rattle.jl_types.proofs.Rows.Sketch.{object, class, classes, class_ref, method}
 use Rattle.jl_deps.specs.declared.form.Form.{Form}
 use Rattle.jl_deps.specs.declared.form.Rests.{Rests}
-use Rattle.jl_deps.specs.declared.form.Form.TheVariants.{Mega, Runs, Other}
-use Rattle.jl_deps.specs.Forms.{form_of, may_change, rests}
-use Rattle.jl_deps.specs.Indexes.{rests_at, AreRising, touched_by, asked_by, IsIndex, StaysIndexed}
+use Rattle.jl_deps.specs.declared.form.Form.TheVariants.{Virtual, Interface, Other}
+use Rattle.jl_deps.specs.Forms.{selects, form_of, rests}
+use Rattle.jl_deps.specs.Indexes.{rests_at, rests_if, AreRising, are_together, is_asked, AreAsked, touched_by, IsIndex, StaysIndexed}
 
--- ---- the forms of links
-
-of_mega : form_of link.Mega ≡ Mega
-of_mega = refl
-
-of_one_method : form_of (link.Direct (Run m)) ≡ Runs m
-of_one_method = refl
-
-of_other_method : form_of (link.Direct (Run n)) ≡ Runs n
-of_other_method = refl
-
-thrown : (throwable : Throwable) → form_of (link.Direct (Throws throwable)) ≡ Other
-thrown throwable = refl
-
-without_method : (throwable : Throwable) → form_of (link.Fault throwable) ≡ Other
-without_method throwable = refl
-
-without_receiver : form_of (link.Plain m) ≡ Other
-without_receiver = refl
-
-of_no_rows : form_of (link.Table kind.Virtual []) ≡ Other
-of_no_rows = refl
-
-of_a_row : form_of (link.Table kind.Interface ((2, Run m) ∷ [])) ≡ Other
-of_a_row = refl
-
--- ---- what a new class may change: A 1 has f and g, B 2 below it neither, and C 3 below it an f of its own
+-- ---- forms: A 1 has f, and a private g
 
 abbrev family : Classes
-family = classes (object
-    ∷ class (codes "A") 33 (Some 0) [] (method 1 (codes "f") ∷ method 1 (codes "g") ∷ [])
-    ∷ class (codes "B") 33 (Some 1) [] []
-    ∷ class (codes "C") 33 (Some 1) [] (method 1 (codes "f") ∷ [])
-    ∷ [])
+family = classes (object ∷ class (codes "A") 33 (Some 0) [] (method 1 (codes "f") ∷ method 2 (codes "g") ∷ []) ∷ [])
 
 abbrev f : MethodId
 f = record { class = 1; index = 0 }
@@ -65,20 +35,43 @@ f = record { class = 1; index = 0 }
 abbrev g : MethodId
 g = record { class = 1; index = 1 }
 
-megamorphic : may_change family 3 Mega ≡ false
-megamorphic = refl
+-- an invocation of a method, by the class's caller itself
+abbrev invoking : Selector → MethodId → Stage
+invoking selector method = Selects (record { selector = selector; caller = 1; named = 1; ref = class_ref (codes "A") (codes "f"); method = method })
 
-inherited : may_change family 2 (Runs f) ≡ false
-inherited = refl
+by_virtual : form_of family (invoking ByVirtual f) ≡ Virtual f
+by_virtual = refl
 
-overridden : may_change family 3 (Runs f) ≡ true
-overridden = refl
+by_interface : form_of family (invoking ByInterface f) ≡ Interface f
+by_interface = refl
 
-beside_it : may_change family 3 (Runs g) ≡ false
-beside_it = refl
+-- a private method is run whatever the receiver's class is; an invokeinterface asks of the receiver all the same
+of_a_private_method : form_of family (invoking ByVirtual g) ≡ Other
+of_a_private_method = refl
 
-any_other : may_change family 2 Other ≡ true
-any_other = refl
+of_a_private_interface_method : form_of family (invoking ByInterface g) ≡ Interface g
+of_a_private_interface_method = refl
+
+by_special : form_of family (invoking BySpecial f) ≡ Other
+by_special = refl
+
+without_receiver : form_of family (Calls m) ≡ Other
+without_receiver = refl
+
+without_method : (throwable : Throwable) → form_of family (Fails throwable) ≡ Other
+without_method throwable = refl
+
+that_waits : form_of family (Waits NoSite) ≡ Other
+that_waits = refl
+
+selects_by_virtual : selects (Virtual f) ≡ true
+selects_by_virtual = refl
+
+selects_by_interface : selects (Interface f) ≡ true
+selects_by_interface = refl
+
+other_selects_nothing : selects Other ≡ false
+other_selects_nothing = refl
 
 -- ---- the footprints of sites 1, 4 and 7, the last of which rests on nothing
 
@@ -115,44 +108,72 @@ other_keys = refl
 no_keys : touched_by index [] ≡ []
 no_keys = refl
 
--- ---- which of them a new class asks
+-- ---- which of them are together
 
--- of the receivers of A a megamorphic link, one that runs f and rests on a call site, too, one that runs g, a table and another one that
--- runs f, and of those of class 2 a table
+-- on the receivers of A: two that select f as an invokevirtual, one of which rests on a call site, too, one that selects g, one that selects f
+-- as an invokeinterface, and one of no such form; on those of class 2 one that selects f
 abbrev grouped : List (ℕ × Rests)
-grouped = (2, record { footprint = Receivers 1 ∷ []; form = Mega })
-    ∷ (3, record { footprint = Receivers 1 ∷ Target 0 ∷ []; form = Runs f })
-    ∷ (5, record { footprint = Receivers 1 ∷ []; form = Runs g })
-    ∷ (6, on (Receivers 1 ∷ []))
-    ∷ (7, record { footprint = Receivers 1 ∷ []; form = Runs f })
-    ∷ (8, on (Receivers 2 ∷ []))
+grouped = (2, record { footprint = Receivers 1 ∷ []; form = Virtual f })
+    ∷ (3, record { footprint = Receivers 1 ∷ Target 0 ∷ []; form = Virtual f })
+    ∷ (5, record { footprint = Receivers 1 ∷ []; form = Virtual g })
+    ∷ (6, record { footprint = Receivers 1 ∷ []; form = Interface f })
+    ∷ (7, on (Receivers 1 ∷ []))
+    ∷ (8, record { footprint = Receivers 2 ∷ []; form = Virtual f })
+    ∷ (9, on (Receivers 1 ∷ []))
     ∷ []
 
-all_forms : touched_by grouped (Receivers 1 ∷ []) ≡ 2 ∷ 3 ∷ 5 ∷ 6 ∷ 7 ∷ []
+alike : are_together grouped 2 3 ≡ true
+alike = refl
+
+turned : are_together grouped 3 2 ≡ true
+turned = refl
+
+itself : are_together grouped 2 2 ≡ true
+itself = refl
+
+other_method : are_together grouped 2 5 ≡ false
+other_method = refl
+
+other_instruction : are_together grouped 2 6 ≡ false
+other_instruction = refl
+
+other_class : are_together grouped 2 8 ≡ false
+other_class = refl
+
+-- sites that don't select are together with none
+select_nothing : are_together grouped 7 9 ≡ false
+select_nothing = refl
+
+not_there : are_together grouped 2 4 ≡ false
+not_there = refl
+
+asked_itself : is_asked grouped (7 ∷ []) 7 ≡ true
+asked_itself = refl
+
+asked_by_another : is_asked grouped (7 ∷ 3 ∷ []) 2 ≡ true
+asked_by_another = refl
+
+asked_by_none : is_asked grouped (7 ∷ 3 ∷ []) 5 ≡ false
+asked_by_none = refl
+
+-- one of each group, and all that don't select
+abbrev AreRowsAsked : List ℕ → Type 0
+AreRowsAsked = AreAsked grouped (Receivers 1 ∷ [])
+
+touched_alone : ¬ AreRowsAsked (2 ∷ 5 ∷ 6 ∷ 7 ∷ 8 ∷ 9 ∷ [])
+touched_alone h = let e = h.touched 8 refl in cc
+
+each_is_asked : ¬ AreRowsAsked (2 ∷ 5 ∷ 6 ∷ 7 ∷ [])
+each_is_asked h = let e = h.all 9 refl in cc
+
+each_group_is_asked : ¬ AreRowsAsked (2 ∷ 6 ∷ 7 ∷ 9 ∷ [])
+each_group_is_asked h = let e = h.all 5 refl in cc
+
+asked_rise : ¬ AreRowsAsked (5 ∷ 2 ∷ 6 ∷ 7 ∷ 9 ∷ [])
+asked_rise h = let lt : 5 < 2 = h.rising.0.0 in omega (arith, lt)
+
+all_forms : touched_by grouped (Receivers 1 ∷ []) ≡ 2 ∷ 3 ∷ 5 ∷ 6 ∷ 7 ∷ 9 ∷ []
 all_forms = refl
-
--- C overrides f and inherits g
-of_an_overriding_class : asked_by grouped (Receivers 1 ∷ []) family 3 ≡ 3 ∷ 6 ∷ 7 ∷ []
-of_an_overriding_class = refl
-
--- B inherits both
-of_an_inheriting_class : asked_by grouped (Receivers 1 ∷ []) family 2 ≡ 6 ∷ []
-of_an_inheriting_class = refl
-
-under_two_keys : asked_by grouped (Target 0 ∷ Receivers 1 ∷ []) family 3 ≡ 3 ∷ 6 ∷ 7 ∷ []
-under_two_keys = refl
-
-under_the_second_key : asked_by grouped (Target 0 ∷ []) family 3 ≡ 3 ∷ []
-under_the_second_key = refl
-
-inherited_under_it : asked_by grouped (Target 0 ∷ []) family 2 ≡ []
-inherited_under_it = refl
-
-of_other_receivers : asked_by grouped (Receivers 2 ∷ []) family 3 ≡ 8 ∷ []
-of_other_receivers = refl
-
-by_no_keys : asked_by grouped [] family 3 ≡ []
-by_no_keys = refl
 
 -- ---- order
 
@@ -186,9 +207,9 @@ how_many (Some r) = length r.footprint
 
 -- a number of the form
 abbrev kind_by : Form → ℕ
-kind_by Mega = 0
+kind_by (Virtual method) = 0
 kind_by Other = 1
-kind_by (Runs method) = 2
+kind_by (Interface method) = 2
 
 abbrev kind_of : Option Rests → ℕ
 kind_of None = 3
@@ -205,8 +226,8 @@ one_site : IsIndex runs_m one_linked ((1, on []) ∷ [])
 one_site s = by_site (1 == s) refl
   where
     by_site : (b : Bool) → (1 == s) ≡ b → option_map (λ row. row.1) (cond {A = Option (ℕ × Rests)} b (Some (1, on [])) None)
-        ≡ option_map (rests runs_m s) (if b then Some (link.Plain m) else None)
-    by_site true is = ap (λ (k : ℕ). Some (rests runs_m k (link.Plain m))) ((Decides-eqb 1 s).0 is)
+        ≡ rests_if runs_m s (if b then Some (link.Plain m) else None)
+    by_site true is = ap (λ (k : ℕ). Some (rests runs_m k)) ((Decides-eqb 1 s).0 is)
     by_site false is = refl
 
 linked_site_missing : ¬ IsIndex runs_m plain []
@@ -218,7 +239,7 @@ pending_site_there h = let e = h 0 in cc
 other_footprint : ¬ IsIndex runs_m plain ((0, on []) ∷ [])
 other_footprint h = let e : 0 ≡ 1 = ap how_many (h 0) in omega (arith, e)
 
-other_form : ¬ IsIndex runs_m plain ((0, record { footprint = Target 0 ∷ []; form = Mega }) ∷ [])
+other_form : ¬ IsIndex runs_m plain ((0, record { footprint = Target 0 ∷ []; form = Virtual f }) ∷ [])
 other_form h = let e : 0 ≡ 1 = ap kind_of (h 0) in omega (arith, e)
 
 -- ---- what an event leaves

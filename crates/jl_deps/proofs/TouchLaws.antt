@@ -1,5 +1,5 @@
 -- The sites that keys touch, by the footprints that a map has.
-use Rattle.std.specs.Prelude.{◌≡◌, ℕ, ◌<◌, ◌==◌, ◌||◌, ◌&&◌, ◌++◌, not, Bool, true, false, cond, List, [], ◌∷◌, map, filter, find, Option, Some, None, option_map}
+use Rattle.std.specs.Prelude.{◌≡◌, ℕ, ◌<◌, ◌==◌, ◌||◌, ◌&&◌, ◌++◌, Bool, true, false, cond, List, [], ◌∷◌, map, filter, find, Option, Some, None, option_map}
 use Rattle.std.specs.List.{AllByRecursion, list_any}
 use Rattle.std.specs.Option.{option_map_or}
 use Rattle.std.proofs.Common.{refl, ap, sym, ◌∙◌, arith}
@@ -11,12 +11,10 @@ use Rattle.jl_hierarchy.proofs.Rising.{has, none_up_to}
 use Rattle.jl_types.specs.declared.key.Key.{Key}
 use Rattle.jl_types.specs.declared.key.Key.TheVariants as key
 use Rattle.jl_types.specs.Events.Footprints.{same_key, has_key, meets}
-use Rattle.jl_types.specs.Values.World.{Classes}
 use Rattle.jl_types.specs.ForProofs.BySite.{value_at}
 use Rattle.jl_types.proofs.BySite.{Rises}
 use Rattle.jl_deps.specs.declared.form.Form.{Form}
 use Rattle.jl_deps.specs.declared.form.Rests.{Rests}
-use Rattle.jl_deps.specs.Forms.{may_change}
 
 -- ---- keys
 
@@ -97,27 +95,12 @@ passing p s (row ∷ rows) h = by_tests (p row.1) (row.0 == s) refl refl (passin
 
 -- ---- those of some forms alone
 
-and_turned : (a b : Bool) → (a && b) ≡ (b && a)
-and_turned true true = refl
-and_turned true false = refl
-and_turned false true = refl
-and_turned false false = refl
-
 -- a test of what is touched, beside one of its form
 abbrev pub OfForms : (Form → Bool) → (List Key → Rests → Bool) → Type 0
 OfForms p test = (keys : List Key) (r : Rests) → test keys r ≡ (p r.form && list_any (has_key r.footprint) keys)
 
 pub all_touched : OfForms (λ f. true) (λ keys r. meets r.footprint keys)
 all_touched keys r = meets_turned r.footprint keys
-
-pub touched_asked : (cs : Classes) (x : ℕ) → OfForms (may_change cs x) (λ keys r. meets r.footprint keys && may_change cs x r.form)
-touched_asked cs x keys r =
-    and_turned (meets r.footprint keys) (may_change cs x r.form) ∙ ap (λ (b : Bool). may_change cs x r.form && b) (meets_turned r.footprint keys)
-
-pub touched_unasked : (cs : Classes) (x : ℕ) → OfForms (λ f. not (may_change cs x f)) (λ keys r. meets r.footprint keys && not (may_change cs x r.form))
-touched_unasked cs x keys r =
-    and_turned (meets r.footprint keys) (not (may_change cs x r.form))
-    ∙ ap (λ (b : Bool). not (may_change cs x r.form) && b) (meets_turned r.footprint keys)
 
 module _ (p : Form → Bool) (test : List Key → Rests → Bool) (tests : OfForms p test) (index : List (ℕ × Rests)) (rising : Rises index) where
   abbrev pub picked : List Key → List ℕ

@@ -1,7 +1,6 @@
 //! What the link of a site rests on.
 
-ghost use Rattle.std.specs.Prelude.{◌≡◌, ◌⊎◌, ◌++◌, [], ℕ, map, filter_map, Ok, IfOk, IfSome, OnOk, option_to_list};
-ghost use Rattle.std.specs.Option.{option_copied};
+ghost use Rattle.std.specs.Prelude.{◌≡◌, ◌⊎◌, ◌++◌, [], ℕ, map, filter_map, Ok, IfOk, OnOk, option_to_list};
 ghost use Rattle.jl_hierarchy.specs.ForProofs.Kept.{Rises};
 ghost use Rattle.jl_types.specs.Linkage.Resolution as resolution;
 ghost use Rattle.jl_types.specs.Linkage.Stages as stages;
@@ -13,14 +12,16 @@ ghost use Rattle.jl_deps.specs.ForProofs.Telling.{tells_receivers};
 ghost use Rattle.jl_deps.specs.Ways.{has, way};
 ghost use Rattle.jl_class.specs.declared.site.Kind.TheVariants.{Virtual, Interface};
 
+use crate::form::Rests;
 use crate::kept::Footprint;
+use crate::resting::{of_resolution, rests_of};
 use jl_callsites::Sites;
 use jl_class::{Kind, Operand, Site};
 use jl_hierarchy::Classes;
 use jl_names::LentName;
 use jl_pool::Reference;
 use jl_relink::{World, invocation_at};
-use jl_resolve::{Resolved, named_class, resolve_reference};
+use jl_resolve::named_class;
 use jl_types::{CallSiteId, ClassId, Key, Link, Outcome, Part, SiteNo, SwitchId, Target};
 use std::alloc::{AllocError, Global};
 
@@ -28,7 +29,11 @@ use std::alloc::{AllocError, Global};
 pub fn footprint_of(alloc: Global, world: &World, site: SiteNo) -> Result<Footprint, AllocError>
     ensures { IfOk result (λ keys. keys ≡ footprints.footprint world.now site) }
 {
-    footprint_by(alloc, world, site, None)
+    let Rests {
+        footprint,
+        form: _form,
+    } = rests_of(alloc, world, site)?;
+    Ok(footprint)
 }
 
 /// The same of a site of which this is the link from scratch. It tells whether receivers are looked at, so that only the class is looked
@@ -40,19 +45,6 @@ pub fn footprint_of_linked(
     link: &Link,
 ) -> Result<Footprint, AllocError>
     requires { scratch world.now site ≡ Ok link.now }
-    ensures { IfOk result (λ keys. keys ≡ footprints.footprint world.now site) }
-{
-    footprint_by(alloc, world, site, Some(link))
-}
-
-/// What the link of the site rests on, which is this one where it is known. Want of memory is an error.
-fn footprint_by(
-    alloc: Global,
-    world: &World,
-    site: SiteNo,
-    link: Option<&Link>,
-) -> Result<Footprint, AllocError>
-    requires { IfSome (option_copied link) (λ l. scratch world.now site ≡ Ok l) }
     ensures { IfOk result (λ keys. keys ≡ footprints.footprint world.now site) }
 {
     let Some(place) = world.places.get_index(site.number() as usize) else {
@@ -67,27 +59,26 @@ fn footprint_by(
     }
 }
 
-/// What the link of the site's invocation in the caller's class rests on. Want of memory is an error.
+/// What the link of the site's invocation in the caller's class rests on, which is this one. Want of memory is an error.
 fn of_invocation(
     alloc: Global,
     world: &World,
     site: SiteNo,
     caller: ClassId,
     invocation: &Site<'_>,
-    link: Option<&Link>,
+    link: &Link,
 ) -> Result<Footprint, AllocError>
-    requires { IfSome (option_copied link) (λ l. link_of world.now.classes
-        (stages.by_operand world.now site caller invocation.now.kind invocation.now.operand) ≡ Ok l) }
+    requires { link_of world.now.classes (stages.by_operand world.now site caller invocation.now.kind invocation.now.operand) ≡ Ok link.now }
     ensures { IfOk result (λ keys. keys ≡ of_operand world.now site caller invocation.now.kind invocation.now.operand) }
 {
     match invocation.operand() {
-        Operand::Method(reference) => Ok(of_class(looked_at(
+        Operand::Method(reference) => Ok(looked_at(
             &world.classes,
             invocation.kind(),
             caller,
             reference,
             link,
-        ))),
+        )),
         Operand::CallSite(_) => match world.bound_to(site) {
             Some(call_site) => of_call_site(alloc, &world.sites, call_site),
             None => Ok(Footprint::nothing()),
@@ -105,26 +96,26 @@ fn of_class(class: Option<ClassId>) -> Footprint
     }
 }
 
-/// The class whose receivers an invocation of the reference in the caller's class looks at. Where the instruction looks at none, nothing
-/// is resolved.
+/// The receivers at which an invocation of the reference in the caller's class looks. Where the instruction looks at none, nothing is
+/// resolved. Takes no memory.
 fn looked_at(
     classes: &Classes,
     kind: Kind,
     caller: ClassId,
     reference: &Reference<LentName<'_>>,
-    link: Option<&Link>,
-) -> Option<ClassId>
-    requires { IfSome (option_copied link) (λ l. link_of classes.now
-        (stages.by_resolution classes.now kind caller reference.now (resolution.resolved classes.now caller reference.now)) ≡ Ok l) }
+    link: &Link,
+) -> Footprint
+    requires { link_of classes.now
+        (stages.by_resolution classes.now kind caller reference.now (resolution.resolved classes.now caller reference.now)) ≡ Ok link.now }
     ensures { of_stage classes.now (stages.by_resolution classes.now kind caller reference.now
-        (resolution.resolved classes.now caller reference.now)) ≡ map key.Receivers (option_to_list result) }
+        (resolution.resolved classes.now caller reference.now)) ≡ result }
 {
     match kind {
         Kind::Virtual => selected_from(classes, kind, caller, reference, link),
         Kind::Interface => selected_from(classes, kind, caller, reference, link),
-        Kind::Special => None,
-        Kind::Static => None,
-        Kind::Dynamic => None,
+        Kind::Special => Footprint::nothing(),
+        Kind::Static => Footprint::nothing(),
+        Kind::Dynamic => Footprint::nothing(),
     }
 }
 
@@ -134,21 +125,22 @@ fn selected_from(
     kind: Kind,
     caller: ClassId,
     reference: &Reference<LentName<'_>>,
-    link: Option<&Link>,
-) -> Option<ClassId>
+    link: &Link,
+) -> Footprint
     requires selects { (kind ≡ Virtual) ⊎ (kind ≡ Interface) }
-    requires link { IfSome (option_copied link) (λ l. link_of classes.now
-        (stages.by_resolution classes.now kind caller reference.now (resolution.resolved classes.now caller reference.now)) ≡ Ok l) }
+    requires link { link_of classes.now
+        (stages.by_resolution classes.now kind caller reference.now (resolution.resolved classes.now caller reference.now)) ≡ Ok link.now }
     ensures { of_stage classes.now (stages.by_resolution classes.now kind caller reference.now
-        (resolution.resolved classes.now caller reference.now)) ≡ map key.Receivers (option_to_list result) }
+        (resolution.resolved classes.now caller reference.now)) ≡ result }
 {
-    let Some(link) = link else {
-        return resolved_to(classes, kind, caller, reference);
-    };
     if tells_receivers(classes, link) {
-        return named_class(classes, caller, reference);
+        return of_class(named_class(classes, caller, reference));
     }
-    resolved_to(classes, kind, caller, reference)
+    let Rests {
+        footprint,
+        form: _form,
+    } = of_resolution(classes, kind, caller, reference);
+    footprint
 }
 
 /// Whether the link of an instruction that may select by the receiver tells that it does: of a private method, and where linking fails,
@@ -166,56 +158,8 @@ fn tells_receivers(classes: &Classes, link: &Link) -> bool
     }
 }
 
-/// The same for any instruction, by the method that the reference resolves to.
-fn resolved_to(
-    classes: &Classes,
-    kind: Kind,
-    caller: ClassId,
-    reference: &Reference<LentName<'_>>,
-) -> Option<ClassId>
-    ensures { of_stage classes.now (stages.by_resolution classes.now kind caller reference.now
-        (resolution.resolved classes.now caller reference.now)) ≡ map key.Receivers (option_to_list result) }
-{
-    match resolve_reference(classes, caller, reference) {
-        Ok(resolved) => looked_at_by(classes, kind, caller, reference, &resolved),
-        Err(_) => None,
-    }
-}
-
-/// The same where the reference is resolved.
-fn looked_at_by(
-    classes: &Classes,
-    kind: Kind,
-    caller: ClassId,
-    reference: &Reference<LentName<'_>>,
-    resolved: &Resolved,
-) -> Option<ClassId>
-    ensures { of_stage classes.now (stages.by_kind classes.now kind caller reference.now resolved.now)
-        ≡ map key.Receivers (option_to_list result) }
-{
-    match kind {
-        Kind::Virtual => {
-            if classes.is_static(&resolved.method) || classes.is_private(&resolved.method) {
-                None
-            } else {
-                Some(resolved.named)
-            }
-        }
-        Kind::Interface => {
-            if classes.is_static(&resolved.method) {
-                None
-            } else {
-                Some(resolved.named)
-            }
-        }
-        Kind::Special => None,
-        Kind::Static => None,
-        Kind::Dynamic => None,
-    }
-}
-
 /// The targets of the call sites on the path of this one, and the valid points on it. Want of memory is an error.
-fn of_call_site(
+pub(crate) fn of_call_site(
     alloc: Global,
     sites: &Sites,
     call_site: CallSiteId,

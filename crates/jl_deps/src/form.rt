@@ -1,62 +1,60 @@
-//! How the definition of a class may change a link.
+//! How the invocation of a site selects its method.
 
-ghost use Rattle.std.specs.Prelude.{◌≡◌};
+ghost use Rattle.std.specs.Prelude.{◌≡◌, ◌∷◌, []};
+ghost use Rattle.jl_types.specs.declared.key.Key.TheVariants as key;
+ghost use Rattle.jl_deps.specs.declared.form.Form.TheVariants.{Other};
 ghost use Rattle.jl_deps.specs.Forms as forms;
 
 use crate::kept::Footprint;
-use jl_hierarchy::Classes;
-use jl_relink::inherits;
-use jl_types::{ClassId, Link, MethodId, Outcome};
+use jl_types::{ClassId, Key, MethodId};
 
-/// How the definition of a class may change a link: a megamorphic one it doesn't, and one that runs a single method only where the class
-/// doesn't inherit that.
+/// How the invocation of a site selects its method: by the class of its receiver and the method that it resolves to, as an invokevirtual or
+/// an invokeinterface does (JVMS SE 17 §6.5). All else is other. Sites of one such form that name one class have one link.
 #[derive(Clone, Copy, Debug, PartialEq, Eq, Hash)]
 pub enum Form {
-    Mega,
-    Runs(MethodId),
+    Virtual(MethodId),
+    Interface(MethodId),
     Other,
 }
 
-/// What the link of a site rests on, and how a definition may change it.
+/// What the link of a site rests on, and how its invocation selects.
 #[derive(Drop)]
 pub struct Rests {
     pub footprint: Footprint,
     pub form: Form,
 }
 
-impl Rests {
-    /// What a link that rests on this is listed by.
-    pub fn of(footprint: Footprint, link: &Link) -> Rests
-        ensures { result ≡ record { footprint = footprint; form = forms.form_of link.now } }
+impl Form {
+    /// Whether it is by the class of the receiver.
+    pub(crate) fn selects(&self) -> bool
+        ensures { result ≡ forms.selects self.now }
     {
-        Rests {
-            footprint,
-            form: form_of(link),
+        match self {
+            Form::Virtual(_) => true,
+            Form::Interface(_) => true,
+            Form::Other => false,
         }
     }
 }
 
-/// How a definition may change the link.
-fn form_of(link: &Link) -> Form
-    ensures { result ≡ forms.form_of link.now }
-{
-    match link {
-        Link::Mega => Form::Mega,
-        Link::Direct(Outcome::Run(method)) => Form::Runs(*method),
-        Link::Direct(Outcome::Throws(_)) => Form::Other,
-        Link::Fault(_) => Form::Other,
-        Link::Plain(_) => Form::Other,
-        Link::Table(_, _) => Form::Other,
+impl Rests {
+    /// It rests on nothing.
+    pub(crate) fn nothing() -> Rests
+        ensures { result ≡ record { footprint = []; form = Other } }
+    {
+        Rests {
+            footprint: Footprint::nothing(),
+            form: Form::Other,
+        }
     }
-}
 
-/// Whether the class may change a link of this form, where it is new.
-pub(crate) fn may_change(classes: &Classes, class: ClassId, form: &Form) -> bool
-    ensures { result ≡ forms.may_change classes.now class form.now }
-{
-    match form {
-        Form::Mega => false,
-        Form::Runs(method) => !inherits(classes, class, method),
-        Form::Other => true,
+    /// It selects by this form, and rests on the receivers of the class.
+    pub(crate) fn selecting(class: ClassId, form: Form) -> Rests
+        ensures { result ≡ record { footprint = key.Receivers class ∷ []; form = form } }
+    {
+        Rests {
+            footprint: Footprint::one(Key::Receivers(class)),
+            form,
+        }
     }
 }

@@ -1,21 +1,22 @@
 //! The index.
 
-ghost use Rattle.std.specs.Prelude.{◌≡◌, ◌==◌, ◌&&◌, ◌||◌, ◌+◌, ◌≤◌, ◌<◌, ◌^◌, ◌∷◌, not, true, ℕ, [], length, Some, None, IfOk, OnOk, OnErr, if◌then◌else◌};
+ghost use Rattle.std.specs.Prelude.{◌≡◌, ◌==◌, ◌&&◌, ◌||◌, ◌∷◌, true, ℕ, [], length, Some, None, IfOk, OnOk, OnErr, if◌then◌else◌};
+ghost use Rattle.std.specs.List.{list_any};
 ghost use Rattle.std.specs.Option.{option_copied};
 ghost use Rattle.indexmap.specs.IndexMap.{IsUnique};
 ghost use Rattle.jl_hierarchy.specs.ForProofs.Kept.{Rises};
+ghost use Rattle.jl_deps.specs.declared.form.Form as declared;
 ghost use Rattle.jl_deps.specs.Forms as forms;
-ghost use Rattle.jl_deps.specs.Indexes.{AreRising, rests_at, touched_by, asked_by};
+ghost use Rattle.jl_deps.specs.Indexes.{AreRising, rests_at, form_eq, touched_by, are_together, is_asked, AreAsked};
 ghost use Rattle.jl_deps.specs.Ways.{has};
-ghost use Rattle.jl_deps.specs.ForProofs.Lists.{AreBelow, AreKept, form_eq, keys_in, form_in, any_listed, any_asked, any_unasked, unasked_by};
+ghost use Rattle.jl_deps.specs.ForProofs.Lists.{AreBelow, AreKept, keys_in, form_in, listed_in, any_listed, rests, is_of_form, stands_for};
 
-use crate::form::{Form, Rests, may_change};
+use crate::form::{Form, Rests};
 use crate::lists::{Groups, Lists, relist, unlist_others};
 use crate::rests::KeptRests;
 use indexmap::IndexMap;
-use jl_hierarchy::Classes;
 use jl_numbered::Numbered;
-use jl_types::{ClassId, Key, SiteNo, Work};
+use jl_types::{Key, SiteNo};
 use std::alloc::{AllocError, Global};
 use std::marker::Model;
 
@@ -128,37 +129,27 @@ impl Index {
         Ok(sites)
     }
 
-    /// Of the sites whose footprints meet the keys those whose links the class may change, where it is new, by rising number: none of a
-    /// megamorphic link, and of links that run one method all or none. It searches once for such a method under a key, and counts that
-    /// where the class inherits the method: with one evaluation of each site that it gives it is no more than one for each site that
-    /// is touched.
-    ///
-    /// # Errors
-    ///
-    /// Want of memory. Nothing is counted then.
-    pub fn asked_by(
-        &self,
-        alloc: Global,
-        keys: &[Key],
-        classes: &Classes,
-        class: ClassId,
-        work: &mut Work,
-    ) -> Result<Vec<SiteNo>, AllocError>
-        requires fits { work.old + length (touched_by self.now keys.now) < 2 ^ 64 }
-        ensures sites { IfOk result (λ sites. sites.items ≡ asked_by self.now keys.now classes.now class) }
-        ensures ticks { OnOk result (work.new + length (asked_by self.now keys.now classes.now class)
-            ≤ work.old + length (touched_by self.now keys.now)) }
-        ensures uncounted { OnErr result (work.new ≡ work.old) }
+    /// Of the sites whose footprints meet the keys, by rising number, all that don't select by their receivers, and of those that do so
+    /// alike one: these have one link. Want of memory is an error.
+    pub fn asked(&self, alloc: Global, keys: &[Key]) -> Result<Vec<SiteNo>, AllocError>
+        ensures asked { IfOk result (λ sites. AreAsked self.now keys.now sites.items) }
         ensures rising { AreRising self.now }
     {
-        let Asked {
-            mut sites,
-            mut searched,
-        } = self.asked_under(alloc, keys, classes, class)?;
+        let mut sites = self.asked_under(alloc, keys)?;
         put_in_order(&mut sites);
-        put_in_order(&mut searched);
-        work.add(searched.len() as u64);
         Ok(sites)
+    }
+
+    /// These sites, and all others that select alike on a key of one of them, by rising number. Want of memory is an error.
+    pub fn together(&self, alloc: Global, sites: &[SiteNo]) -> Result<Vec<SiteNo>, AllocError>
+        ensures { IfOk result (λ all. (s : ℕ) → has s all.items ≡ is_asked self.now sites.now s) }
+    {
+        let mut all = Vec::new(alloc);
+        for site in sites {
+            self.push_together(*site, &mut all)?;
+        }
+        put_in_order(&mut all);
+        Ok(all)
     }
 
     /// The sites that are listed under one of the keys, in no order and some of them more than once. Want of memory is an error.
@@ -189,58 +180,75 @@ impl Index {
     }
 
     /// What is asked under the keys, in no order and some of it more than once. Want of memory is an error.
-    fn asked_under(
-        &self,
-        alloc: Global,
-        keys: &[Key],
-        classes: &Classes,
-        class: ClassId,
-    ) -> Result<Asked, AllocError>
-        ensures sites { IfOk result (λ asked. (s : ℕ) → has s asked.sites.items ≡ has s (asked_by self.now keys.now classes.now class)) }
-        ensures searched { IfOk result (λ asked. (s : ℕ) → has s asked.searched.items ≡ true
-            → has s (unasked_by self.now keys.now classes.now class) ≡ true) }
+    fn asked_under(&self, alloc: Global, keys: &[Key]) -> Result<Vec<SiteNo>, AllocError>
+        ensures touched { IfOk result (λ sites. (s : ℕ) → has s sites.items ≡ true → has s (touched_by self.now keys.now) ≡ true) }
+        ensures all { IfOk result (λ sites. (s : ℕ) → has s (touched_by self.now keys.now) ≡ true → is_asked self.now sites.items s ≡ true) }
         ensures rising { AreRising self.now }
     {
         // Shows that the sites of the index rise.
         let _count = self.len();
-        let mut asked = Asked {
-            sites: Vec::new(alloc),
-            searched: Vec::new(alloc),
-        };
+        let mut sites = Vec::new(alloc);
         for key in keys {
-            self.push_asked(key, classes, class, &mut asked)?;
+            self.push_asked(key, &mut sites)?;
         }
-        Ok(asked)
+        Ok(sites)
     }
 
     /// Adds what is asked under the key. Want of memory is an error.
-    fn push_asked(
-        &self,
-        key: &Key,
-        classes: &Classes,
-        class: ClassId,
-        asked: &mut Asked,
-    ) -> Result<(), AllocError>
-        ensures sites { OnOk result ((s : ℕ) → has s asked.new.sites.items
-            ≡ (has s asked.old.sites.items || has s (asked_by self.now (key.now ∷ []) classes.now class))) }
-        ensures searched { OnOk result ((s : ℕ) → has s asked.new.searched.items ≡ true
-            → (has s asked.old.searched.items || has s (unasked_by self.now (key.now ∷ []) classes.now class)) ≡ true) }
+    fn push_asked(&self, key: &Key, sites: &mut Vec<SiteNo>) -> Result<(), AllocError>
+        ensures touched { OnOk result ((s : ℕ) → has s sites.new.items ≡ true
+            → (has s sites.old.items || has s (touched_by self.now (key.now ∷ []))) ≡ true) }
+        ensures kept { OnOk result ((s : ℕ) → has s sites.old.items ≡ true → has s sites.new.items ≡ true) }
+        ensures all { OnOk result ((s : ℕ) → has s (touched_by self.now (key.now ∷ [])) ≡ true → is_asked self.now sites.new.items s ≡ true) }
     {
         // Shows that the sites of the index rise.
         let _count = self.len();
         let Some(groups) = self.lists.get(key) else {
             return Ok(());
         };
-        push_changing(groups, classes, class, asked)
+        push_firsts(groups, sites)
     }
-}
 
-/// What a definition asks: the sites of the groups that the class may change, and of each other group for whose method it was searched the
-/// first site, which stands for that search.
-#[derive(Drop)]
-struct Asked {
-    sites: Vec<SiteNo>,
-    searched: Vec<SiteNo>,
+    /// Adds the site, and those that select alike on one of its keys. Want of memory is an error.
+    fn push_together(&self, site: SiteNo, all: &mut Vec<SiteNo>) -> Result<(), AllocError>
+        ensures { OnOk result ((s : ℕ) → has s all.new.items
+            ≡ (has s all.old.items || ((site == s) || are_together self.now s site))) }
+    {
+        all.push(site)?;
+        let Some(rests) = self.rests(site) else {
+            return Ok(());
+        };
+        let form = rests.form();
+        if !form.selects() {
+            return Ok(());
+        }
+        self.push_of_form(rests.keys(), &form, all)
+    }
+
+    /// Adds the sites of the form that rest on one of the keys. Want of memory is an error.
+    fn push_of_form(
+        &self,
+        keys: &[Key],
+        form: &Form,
+        all: &mut Vec<SiteNo>,
+    ) -> Result<(), AllocError>
+        ensures { OnOk result ((s : ℕ) → has s all.new.items ≡ (has s all.old.items || is_of_form self.now keys.now form.now s)) }
+    {
+        for key in keys {
+            self.push_of_key(key, form, all)?;
+        }
+        Ok(())
+    }
+
+    /// Adds the sites of the form that rest on the key. Want of memory is an error.
+    fn push_of_key(&self, key: &Key, form: &Form, all: &mut Vec<SiteNo>) -> Result<(), AllocError>
+        ensures { OnOk result ((s : ℕ) → has s all.new.items ≡ (has s all.old.items || rests self.now s key.now form.now)) }
+    {
+        let Some(groups) = self.lists.get(key) else {
+            return Ok(());
+        };
+        push_group(groups, form, all)
+    }
 }
 
 /// Each site rests on what it has there. Want of memory is an error.
@@ -335,62 +343,44 @@ fn push_groups(groups: &Groups, sites: &mut Vec<SiteNo>) -> Result<(), AllocErro
     Ok(())
 }
 
+/// Adds the sites of the form. Want of memory is an error.
+fn push_group(groups: &Groups, form: &Form, all: &mut Vec<SiteNo>) -> Result<(), AllocError>
+    ensures { OnOk result ((s : ℕ) → has s all.new.items ≡ (has s all.old.items || listed_in groups.now form.now s)) }
+{
+    let Some(sites) = groups.get(form) else {
+        return Ok(());
+    };
+    all.extend_from_slice(sites.as_slice())
+}
+
 /// Adds what is asked of the groups. Want of memory is an error.
-fn push_changing(
-    groups: &Groups,
-    classes: &Classes,
-    class: ClassId,
-    asked: &mut Asked,
-) -> Result<(), AllocError>
-    ensures sites { OnOk result ((s : ℕ) → has s asked.new.sites.items
-        ≡ (has s asked.old.sites.items || any_asked classes.now class groups.now.entries s)) }
-    ensures searched { OnOk result ((s : ℕ) → has s asked.new.searched.items ≡ true
-        → (has s asked.old.searched.items || any_unasked classes.now class groups.now.entries s) ≡ true) }
+fn push_firsts(groups: &Groups, sites: &mut Vec<SiteNo>) -> Result<(), AllocError>
+    ensures touched { OnOk result ((s : ℕ) → has s sites.new.items ≡ true → (has s sites.old.items || any_listed groups.now.entries s) ≡ true) }
+    ensures kept { OnOk result ((s : ℕ) → has s sites.old.items ≡ true → has s sites.new.items ≡ true) }
+    ensures all { OnOk result ((f : declared.Form) (s : ℕ) → listed_in groups.now f s ≡ true → stands_for groups.now sites.new.items f s ≡ true) }
     ensures unique { IsUnique form_eq groups.now }
 {
     // Bounds the loop, and shows that each form stands once.
     let _len = groups.len();
     let mut place = 0;
     while let Some((form, listed)) = groups.get_index(place) {
-        push_group(form, listed.as_slice(), classes, class, asked)?;
+        push_first(form, listed.as_slice(), sites)?;
         place += 1;
     }
     Ok(())
 }
 
-/// Adds what is asked of a group: the sites, where the class may change links of their form. Want of memory is an error.
-fn push_group(
-    form: &Form,
-    listed: &[SiteNo],
-    classes: &Classes,
-    class: ClassId,
-    asked: &mut Asked,
-) -> Result<(), AllocError>
-    ensures sites { OnOk result ((s : ℕ) → has s asked.new.sites.items
-        ≡ (has s asked.old.sites.items || (forms.may_change classes.now class form.now && has s listed.now))) }
-    ensures searched { OnOk result ((s : ℕ) → has s asked.new.searched.items ≡ true
-        → (has s asked.old.searched.items || (not (forms.may_change classes.now class form.now) && has s listed.now)) ≡ true) }
+/// Adds what is asked of a group: its first site, if it selects, and else each one. Want of memory is an error.
+fn push_first(form: &Form, listed: &[SiteNo], sites: &mut Vec<SiteNo>) -> Result<(), AllocError>
+    ensures touched { OnOk result ((s : ℕ) → has s sites.new.items ≡ true → (has s sites.old.items || has s listed.now) ≡ true) }
+    ensures kept { OnOk result ((s : ℕ) → has s sites.old.items ≡ true → has s sites.new.items ≡ true) }
+    ensures all { OnOk result ((s : ℕ) → has s listed.now ≡ true
+        → list_any (λ t. (t == s) || (forms.selects form.now && has t listed.now)) sites.new.items ≡ true) }
 {
-    if may_change(classes, class, form) {
-        asked.sites.extend_from_slice(listed)
-    } else {
-        push_searched(form, listed, &mut asked.searched)
-    }
-}
-
-/// Adds the first of the sites, where their links run one method, for which it was searched then. Want of memory is an error.
-fn push_searched(
-    form: &Form,
-    listed: &[SiteNo],
-    searched: &mut Vec<SiteNo>,
-) -> Result<(), AllocError>
-    ensures among { OnOk result ((s : ℕ) → has s searched.new.items ≡ true → (has s searched.old.items || has s listed.now) ≡ true) }
-    ensures one { OnOk result (length searched.new.items ≤ length searched.old.items + 1) }
-{
-    let (Form::Runs(_), [first, ..]) = (form, listed) else {
-        return Ok(());
+    let (true, [first, ..]) = (form.selects(), listed) else {
+        return sites.extend_from_slice(listed);
     };
-    searched.push(*first)?;
+    sites.push(*first)?;
     Ok(())
 }
 

@@ -7,11 +7,13 @@
 
 mod footprint;
 mod form;
+mod group;
 mod index;
 mod kept;
 mod keys;
 mod laws;
 mod lists;
+mod resting;
 mod rests;
 
 pub use footprint::{footprint_of, footprint_of_linked};
@@ -23,4 +25,5 @@ pub use keys::{
     keys_of_target,
 };
 pub use laws::only_touched_sites_change;
+pub use resting::rests_of;
 pub use rests::KeptRests;

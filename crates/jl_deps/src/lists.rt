@@ -1,19 +1,20 @@
 //! The sites that are listed under a key.
 
-ghost use Rattle.std.specs.Prelude.{◌≡◌, ◌==◌, ◌&&◌, ◌||◌, not, ℕ, nat_eq, true, false, List, OnOk, OnErr, if◌then◌else◌};
-ghost use Rattle.indexmap.specs.IndexSet.{contains};
+ghost use Rattle.std.specs.Prelude.{◌≡◌, ◌==◌, ◌&&◌, ◌||◌, not, ℕ, true, false, OnOk, OnErr, if◌then◌else◌};
 ghost use Rattle.jl_types.specs.declared.key.Key.{Key};
 ghost use Rattle.jl_types.specs.Events.Footprints.{has_key};
 ghost use Rattle.jl_deps.specs.declared.form.Form as forms;
-ghost use Rattle.jl_deps.specs.ForProofs.Lists.{form_eq, key_eq, listed, listed_in};
+ghost use Rattle.jl_deps.specs.Indexes.{form_eq};
+ghost use Rattle.jl_deps.specs.ForProofs.Lists.{key_eq, listed, listed_in};
 
 use crate::form::Form;
-use indexmap::{IndexMap, IndexSet};
+use crate::group::Group;
+use indexmap::IndexMap;
 use jl_types::{Key, SiteNo};
 use std::alloc::{AllocError, Global};
 
 /// Sites by the form of their links.
-pub(crate) type Groups = IndexMap<Form, IndexSet<SiteNo>>;
+pub(crate) type Groups = IndexMap<Form, Group>;
 
 /// The sites that are listed under each key.
 pub(crate) type Lists = IndexMap<Key, Groups>;
@@ -102,23 +103,12 @@ fn list_in(groups: &mut Groups, alloc: Global, form: &Form, site: SiteNo) -> Res
     ensures err { OnErr result ((f : forms.Form) (s : ℕ) → listed_in groups.new f s ≡ listed_in groups.old f s) }
 {
     match groups.get_mut(form) {
-        Some(sites) => add(sites, site),
+        Some(sites) => sites.add(alloc, site),
         None => {
-            let mut sites = IndexSet::new(alloc);
-            add(&mut sites, site)?;
-            groups.insert(*form, sites)?;
+            groups.insert(*form, Group::one(site))?;
             Ok(())
         }
     }
-}
-
-/// One site more, where it isn't there. Want of memory is an error; nothing has changed then.
-fn add(sites: &mut IndexSet<SiteNo>, site: SiteNo) -> Result<(), AllocError>
-    ensures ok { OnOk result ((s : ℕ) → contains nat_eq sites.new s ≡ ((site == s) || contains nat_eq sites.old s)) }
-    ensures err { OnErr result ((s : ℕ) → contains nat_eq sites.new s ≡ contains nat_eq sites.old s) }
-{
-    sites.insert(site)?;
-    Ok(())
 }
 
 /// The site is listed by the form under no key any more that is among the first ones and not among the second ones. Takes no memory.
@@ -169,18 +159,9 @@ fn unlist_in(groups: &mut Groups, form: &Form, site: SiteNo) -> bool
     let Some(sites) = groups.get_mut(form) else {
         return false;
     };
-    if !remove(sites, site) {
+    if !sites.remove(site) {
         return false;
     }
     groups.swap_remove(form);
     groups.is_empty()
-}
-
-/// The site isn't there any more. Answers whether no other is. Takes no memory.
-fn remove(sites: &mut IndexSet<SiteNo>, site: SiteNo) -> bool
-    ensures others { (s : ℕ) → contains nat_eq sites.new s ≡ (not (site == s) && contains nat_eq sites.old s) }
-    ensures last { result ≡ true → (s : ℕ) → contains nat_eq sites.new s ≡ false }
-{
-    sites.swap_remove(&site);
-    sites.is_empty()
 }

@@ -18,16 +18,15 @@ pub struct KeptRests {
     kept: Packed,
 }
 
-/// The keys and the form side by side. The method of a link that runs one stands as its index and its class, which share eight bytes with
-/// the variant.
+/// The keys and the form side by side. The method of a form stands as its index and its class, which share eight bytes with the variant.
 #[derive(Drop)]
 enum Packed {
     Nothing(Form),
-    OneMega(Key),
-    OneRuns(u16, ClassId, Key),
+    OneVirtual(u16, ClassId, Key),
+    OneInterface(u16, ClassId, Key),
     OneOther(Key),
-    SeveralMega(Arc<Seq<Key>>),
-    SeveralRuns(u16, ClassId, Arc<Seq<Key>>),
+    SeveralVirtual(u16, ClassId, Arc<Seq<Key>>),
+    SeveralInterface(u16, ClassId, Arc<Seq<Key>>),
     SeveralOther(Arc<Seq<Key>>),
 }
 
@@ -69,11 +68,11 @@ impl KeptRests {
     {
         match &self.kept {
             Packed::Nothing(_) => &[],
-            Packed::OneMega(key) => slice::from_ref(key),
-            Packed::OneRuns(_, _, key) => slice::from_ref(key),
+            Packed::OneVirtual(_, _, key) => slice::from_ref(key),
+            Packed::OneInterface(_, _, key) => slice::from_ref(key),
             Packed::OneOther(key) => slice::from_ref(key),
-            Packed::SeveralMega(keys) => keys.as_slice(),
-            Packed::SeveralRuns(_, _, keys) => keys.as_slice(),
+            Packed::SeveralVirtual(_, _, keys) => keys.as_slice(),
+            Packed::SeveralInterface(_, _, keys) => keys.as_slice(),
             Packed::SeveralOther(keys) => keys.as_slice(),
         }
     }
@@ -84,9 +83,14 @@ impl KeptRests {
     {
         match &self.kept {
             Packed::Nothing(form) => *form,
-            Packed::OneMega(_) | Packed::SeveralMega(_) => Form::Mega,
-            Packed::OneRuns(index, class, _) | Packed::SeveralRuns(index, class, _) => {
-                Form::Runs(MethodId {
+            Packed::OneVirtual(index, class, _) | Packed::SeveralVirtual(index, class, _) => {
+                Form::Virtual(MethodId {
+                    class: *class,
+                    index: *index,
+                })
+            }
+            Packed::OneInterface(index, class, _) | Packed::SeveralInterface(index, class, _) => {
+                Form::Interface(MethodId {
                     class: *class,
                     index: *index,
                 })
@@ -111,11 +115,11 @@ impl KeptRests {
     {
         match &self.kept {
             Packed::Nothing(_) => Ok(Footprint::nothing()),
-            Packed::OneMega(key) => Ok(Footprint::one(*key)),
-            Packed::OneRuns(_, _, key) => Ok(Footprint::one(*key)),
+            Packed::OneVirtual(_, _, key) => Ok(Footprint::one(*key)),
+            Packed::OneInterface(_, _, key) => Ok(Footprint::one(*key)),
             Packed::OneOther(key) => Ok(Footprint::one(*key)),
-            Packed::SeveralMega(keys) => Ok(Footprint::several(Arc::try_clone(keys)?)),
-            Packed::SeveralRuns(_, _, keys) => Ok(Footprint::several(Arc::try_clone(keys)?)),
+            Packed::SeveralVirtual(_, _, keys) => Ok(Footprint::several(Arc::try_clone(keys)?)),
+            Packed::SeveralInterface(_, _, keys) => Ok(Footprint::several(Arc::try_clone(keys)?)),
             Packed::SeveralOther(keys) => Ok(Footprint::several(Arc::try_clone(keys)?)),
         }
     }
@@ -126,8 +130,8 @@ fn one(key: Key, form: &Form) -> Packed
     ensures { rests_of result ≡ record { footprint = key ∷ []; form = form.now } }
 {
     match form {
-        Form::Mega => Packed::OneMega(key),
-        Form::Runs(method) => Packed::OneRuns(method.index, method.class, key),
+        Form::Virtual(method) => Packed::OneVirtual(method.index, method.class, key),
+        Form::Interface(method) => Packed::OneInterface(method.index, method.class, key),
         Form::Other => Packed::OneOther(key),
     }
 }
@@ -137,8 +141,8 @@ fn several(keys: Arc<Seq<Key>>, form: &Form) -> Packed
     ensures { rests_of result ≡ record { footprint = keys.value; form = form.now } }
 {
     match form {
-        Form::Mega => Packed::SeveralMega(keys),
-        Form::Runs(method) => Packed::SeveralRuns(method.index, method.class, keys),
+        Form::Virtual(method) => Packed::SeveralVirtual(method.index, method.class, keys),
+        Form::Interface(method) => Packed::SeveralInterface(method.index, method.class, keys),
         Form::Other => Packed::SeveralOther(keys),
     }
 }

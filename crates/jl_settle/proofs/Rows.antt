@@ -1,15 +1,12 @@
 -- Worked links: which stay, and which go.
-use Rattle.std.specs.Prelude.{◌≡◌, ℕ, true, false, List, [], ◌∷◌, length, Some, None}
+use Rattle.std.specs.Prelude.{◌≡◌, ℕ, true, false, [], ◌∷◌, length, Some, None}
 use Rattle.std.proofs.Common.{refl}
 use Rattle.jl_class.specs.Class.{ClassFile}
 use Rattle.jl_types.specs.declared.event.EventOf.TheVariants as event
 use Rattle.jl_types.specs.declared.link.Link.TheVariants.{Mega}
 use Rattle.jl_types.specs.Values.World.{World, nothing_yet}
-use Rattle.jl_types.specs.declared.key.Key.TheVariants as key
 use Rattle.jl_types.specs.Events.Footprints.{most_for}
-use Rattle.jl_deps.specs.declared.form.Form.TheVariants as form
-use Rattle.jl_deps.specs.declared.form.Rests.{Rests}
-use Rattle.jl_settle.specs.Settling.{kept_at, goes, defined_by, asked_of, most_asked}
+use Rattle.jl_settle.specs.Settling.{kept_at, goes, defined_by, most_asked}
 
 -- a site that was never requested has no link from scratch
 unrequested_is_not_kept : kept_at nothing_yet (λ s. Some Mega) 0 ≡ None
@@ -28,21 +25,6 @@ module _ (w : World) (loader : ℕ) (file : ClassFile) where
 
   new_switch_defines_none : defined_by w event.NewSwitch ≡ None
   new_switch_defines_none = refl
-
--- ---- the sites at which settling looks
-
-abbrev under_one_key : List (ℕ × Rests)
-under_one_key =
-    (0, record { footprint = key.Receivers 0 ∷ []; form = form.Mega })
-    ∷ (1, record { footprint = key.Receivers 0 ∷ []; form = form.Other })
-    ∷ (2, record { footprint = key.Receivers 1 ∷ []; form = form.Other })
-    ∷ []
-
-definition_asks_what_it_may_change : asked_of nothing_yet (Some 0) under_one_key (key.Receivers 0 ∷ []) ≡ 1 ∷ []
-definition_asks_what_it_may_change = refl
-
-other_event_asks_what_it_touches : asked_of nothing_yet None under_one_key (key.Receivers 0 ∷ []) ≡ 0 ∷ 1 ∷ []
-other_event_asks_what_it_touches = refl
 
 -- of a class that was defined a site takes one, and of another event what its link may take
 module _ (w : World) (s : ℕ) where

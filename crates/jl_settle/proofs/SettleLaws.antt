@@ -1,11 +1,11 @@
 -- What is left once the touched sites were looked at.
-use Rattle.std.specs.Prelude.{◌≡◌, ℕ, suc, ◌+◌, ◌<◌, ◌==◌, ◌&&◌, ◌||◌, Bool, true, false, List, [], ◌∷◌, ◌++◌, not, zero, drop, take, get_or, sum_by}
-use Rattle.std.specs.Prelude.{map, length, Option, Some, None, option_map, Result, Ok, Err, is_some, is_none, IfSome, OnOk, if◌then◌else◌}
+use Rattle.std.specs.Prelude.{◌≡◌, ℕ, suc, ◌+◌, ◌<◌, ◌==◌, ◌&&◌, ◌||◌, ◌⊎◌, ◌≤◌, Bool, true, false, List, [], ◌∷◌, ◌++◌, not, zero, drop, take, get_or, sum_by}
+use Rattle.std.specs.Prelude.{map, length, Option, Some, None, Result, Ok, Err, is_some, is_none, IfSome, OnOk, if◌then◌else◌}
 use Rattle.std.specs.List.{AllByRecursion}
 use Rattle.std.specs.Bool.{one_answer}
 use Rattle.std.specs.Option.{option_map_or}
-use Rattle.std.proofs.Common.{refl, ap, sym, subst, ◌∙◌, arith, add-one, length-append}
-use Rattle.std.proofs.lemmas.Bool.{or_left, or_right}
+use Rattle.std.proofs.Common.{refl, ap, sym, subst, ◌∙◌, arith, add-one, length-append, inl, inr}
+use Rattle.std.proofs.lemmas.Bool.{or_left, or_right, or_cases, and_from, both_ways}
 use Rattle.std.proofs.lemmas.Cmp.{nat_eq_equiv}
 use Rattle.std.proofs.lemmas.Option.{same_Some}
 use Rattle.std.proofs.lemmas.Bool.Decides.{Decides-eqb}
@@ -14,9 +14,7 @@ use Rattle.std.proofs.lemmas.List.Sums.{sum_by-cons, sum_by_push}
 use Rattle.std.proofs.lemmas.List.Folds.{list_any-append}
 use Rattle.jl_class.specs.Class.{ClassFile}
 use Rattle.jl_types.specs.declared.answer.Unlinked.{Unlinked}
-use Rattle.jl_types.specs.declared.answer.Outcome.TheVariants.{Run, Throws}
 use Rattle.jl_types.specs.declared.link.Link.{Link}
-use Rattle.jl_types.specs.declared.link.Link.TheVariants.{Fault, Plain, Direct, Table, Mega}
 use Rattle.jl_types.specs.Linkage.Links.{same_link}
 use Rattle.jl_types.specs.ForProofs.SameLink.{link_decides}
 use Rattle.jl_types.specs.Values.World.{World}
@@ -24,24 +22,31 @@ use Rattle.jl_types.specs.Events.Definitions.{class_made}
 use Rattle.jl_types.specs.Events.Event.{Event}
 use Rattle.jl_types.specs.declared.event.EventOf.TheVariants as event
 use Rattle.jl_types.specs.declared.key.Key.{Key}
-use Rattle.jl_types.specs.Linkage.Links.{outcome, scratch}
-use Rattle.jl_types.specs.Linkage.Stages.{stage}
+use Rattle.jl_types.specs.Linkage.Links.{outcome, link_of, scratch}
+use Rattle.jl_types.specs.Linkage.Stages.{Selects, stage}
 use Rattle.jl_types.specs.Events.Verdict.{step}
 use Rattle.jl_types.specs.Events.History.{has_link, is_link, kept}
+use Rattle.jl_types.specs.Events.Footprints as events
 use Rattle.jl_types.specs.Events.Footprints.{footprint, meets, most_for, stays_with, touches}
 use Rattle.jl_hierarchy.proofs.Rising.{has}
 use Rattle.jl_relink.specs.Laws.{OneMore, changes_receivers}
-use Rattle.jl_relink.specs.Receivers.{TellsStay, inherits}
+use Rattle.jl_relink.specs.Receivers.{TellsStay}
 use Rattle.jl_relink.proofs.OneReceiver.{one_more}
+use Rattle.jl_relink.proofs.KeyLaws.{selecting_stays}
 use Rattle.jl_relink.proofs.Costs.{takes_one_evaluation}
 use Rattle.jl_cache.specs.Links.{link_with}
+use Rattle.jl_deps.specs.declared.form.Form.{Form}
 use Rattle.jl_deps.specs.declared.form.Rests.{Rests}
-use Rattle.jl_deps.specs.Forms.{form_of, may_change, rests}
-use Rattle.jl_deps.specs.Indexes.{rests_at, AreRising, IsIndex, StaysIndexed, touched_by, asked_by}
-use Rattle.jl_deps.proofs.IndexLaws.{touched_of, others_stay}
-use Rattle.jl_deps.proofs.TouchLaws.{passing}
+use Rattle.jl_deps.specs.Forms.{selects, rests}
+use Rattle.jl_deps.specs.Indexes.{rests_at, rests_if, AreRising, IsIndex, StaysIndexed, form_eq, are_together, is_asked, AreAsked, touched_by}
+use Rattle.jl_deps.proofs.AskedLaws.{passing_one, any_there}
+use Rattle.jl_deps.proofs.IndexLaws.{same_rests, touched_of, others_stay}
+use Rattle.jl_deps.proofs.KeyLists.{form_is}
+use Rattle.jl_deps.proofs.TouchLaws.{sites_rise}
 use Rattle.jl_types.proofs.BySite.{rises_of}
-use Rattle.jl_settle.specs.Settling.{kept_at, goes, defined_by, AreUpToDate, HasChanged, IsTold, MayBeAsked, asked_of, most_asked}
+use Rattle.jl_settle.specs.Settling.{kept_at, goes, defined_by, AreUpToDate, HasChanged, IsTold, MayBeAsked, most_asked}
+use Rattle.jl_settle.proofs.SumLaws.{sum_within}
+use Rattle.jl_settle.proofs.TogetherLaws.{link_alike, IsSelecting, selecting, one_class, changes, key_met}
 
 -- ---- loops over sites
 
@@ -111,7 +116,7 @@ module _ (world : World) (keys : List Key) (defined : Option ℕ) (links : ℕ �
     (changed : HasChanged world keys defined links index) (rising : AreRising index) where
   -- a site that isn't touched
   pub untouched_stays : (s : ℕ) → has s (touched_by index keys) ≡ false
-      → (kept_at world links s ≡ links s) × (option_map (rests world s) (links s) ≡ rests_at index s)
+      → (kept_at world links s ≡ links s) × (rests_if world s (links s) ≡ rests_at index s)
   untouched_stays s none =
       let stays : StaysIndexed changed.before changed.event links index s =
       others_stay changed.before changed.event links index rising changed.index_is changed.accepted.0 changed.order changed.accepted.1 changed.scratch
@@ -119,7 +124,7 @@ module _ (world : World) (keys : List Key) (defined : Option ℕ) (links : ℕ �
       (ap (λ (k : List Key). has s (touched_by index k)) (sym changed.keys_are) ∙ none)
       in (
         ap (λ (w : World). kept_at w links s) changed.step ∙ stays.link,
-        ap (λ (w : World). option_map (rests w s) (links s)) changed.step ∙ stays.rests_on,
+        ap (λ (w : World). rests_if w s (links s)) changed.step ∙ stays.rests_on,
       )
 
   pub untouched_keeps : (s : ℕ) → has s (touched_by index keys) ≡ false → goes world links s ≡ false
@@ -150,10 +155,6 @@ second_false false b is h = cc is
 not_false : (b : Bool) → not b ≡ false → b ≡ true
 not_false true h = refl
 not_false false h = cc h
-
-some_kept : (o : Option Link) → is_some o ≡ true → is_none o ≡ false
-some_kept None e = cc
-some_kept (Some k) e = refl
 
 told_kept : (l : Link) (r : Result Link Unlinked) → is_link r l ≡ is_some (kept false (Some l) r)
 told_kept l (Err reason) = refl
@@ -222,6 +223,12 @@ ones w x sites = as_many (most_asked w (Some x)) sites (always sites)
     always [] = tt
     always (y ∷ xs) = (refl, always xs)
 
+-- the asked sites take no more than the touched ones
+pub asked_within : (index : List (ℕ × Rests)) (keys : List Key) (sites : List ℕ) (f : ℕ → ℕ) → AreRising index → AreAsked index keys sites
+    → sum_by f sites ≤ sum_by f (touched_by index keys)
+asked_within index keys sites f rising asked =
+    sum_within f sites (touched_by index keys) asked.rising (sites_rise (λ r. meets r.footprint keys) index (rises_of index rising)) asked.touched
+
 module _ (world : World) (keys : List Key) (links : ℕ → Option Link) (index : List (ℕ × Rests)) (rising : AreRising index) where
   -- each touched site takes one evaluation, where no loader goes
   pub most_are : (defined : Option ℕ) → (changed : HasChanged world keys defined links index) → is_retirement changed.event ≡ false
@@ -275,111 +282,187 @@ module _ (world : World) (keys : List Key) (links : ℕ → Option Link) (index 
               ∙ told_kept l (scratch world s);
         }
 
-    -- an asked site is one of the touched
-    asked_touched : (s : ℕ) → has s (asked_by index keys world.classes x) ≡ true → has s (touched_by index keys) ≡ true
-    asked_touched s inside =
-        passing (λ (r : Rests). meets r.footprint keys) s index (rises_of index rising)
-        ∙ by_rests (rests_at index s)
-        (sym (passing (λ (r : Rests). meets r.footprint keys && may_change world.classes x r.form) s index (rises_of index rising)) ∙ inside)
-      where
-        first : (a b : Bool) → (a && b) ≡ true → a ≡ true
-        first true b h = refl
-        first false b h = cc
-
-        by_rests : (o : Option Rests) → option_map_or (λ (r : Rests). meets r.footprint keys && may_change world.classes x r.form) o false ≡ true
-            → option_map_or (λ (r : Rests). meets r.footprint keys) o false ≡ true
-        by_rests None h = cc
-        by_rests (Some r) h = first (meets r.footprint keys) (may_change world.classes x r.form) h
-
-    each_told : AllByRecursion (MayBeAsked world (Some x) links) (asked_by index keys world.classes x)
-    each_told =
-        all_of (MayBeAsked world (Some x) links) (asked_by index keys world.classes x) (λ s inside. told_at s (links s) refl (asked_touched s inside))
-
-    -- a touched link that the class can't change, by its form, is the one from scratch
-    form_stays : (s : ℕ) (l : Link) → OneMore changed.before is_definition.loader is_definition.file s l → may_change world.classes x (form_of l) ≡ false
-        → is_link (scratch world s) l ≡ true
-    form_stays s Mega here none = ap (λ (w : World). is_link (scratch w s) Mega) after ∙ here.link
-    form_stays s (Direct (Run m)) here none =
-        ap (λ (w : World). is_link (scratch w s) (Direct (Run m))) after
-        ∙ here.inherited m refl (sym (λ i. inherits (after i).classes (is_definition.class i) m) ∙ not_false (inherits world.classes x m) none)
-    form_stays s (Direct (Throws throwable)) here none = cc
-    form_stays s (Fault throwable) here none = cc
-    form_stays s (Plain m) here none = cc
-    form_stays s (Table kind rows) here none = cc
-
-    unasked_touched : (s : ℕ) → has s (touched_by index keys) ≡ true → has s (asked_by index keys world.classes x) ≡ false → goes world links s ≡ false
-    unasked_touched s inside none = by_link (links s) refl
-      where
-        may : (r : Rests) → rests_at index s ≡ Some r → may_change world.classes x r.form ≡ false
-        may r is =
-            second_false (meets r.footprint keys) (may_change world.classes x r.form)
-            (sym (passing (λ (r : Rests). meets r.footprint keys) s index (rises_of index rising)
-            ∙ ap (λ (o : Option Rests). option_map_or (λ (r : Rests). meets r.footprint keys) o false) is) ∙ inside)
-            (sym (passing (λ (r : Rests). meets r.footprint keys && may_change world.classes x r.form) s index (rises_of index rising)
-            ∙ ap (λ (o : Option Rests). option_map_or (λ (r : Rests). meets r.footprint keys && may_change world.classes x r.form) o false) is) ∙ none)
-
-        by_link : (o : Option Link) → links s ≡ o → goes world links s ≡ false
-        by_link None is = ap (λ (o : Option Link). is_some o && is_none (kept false o (scratch world s))) is
-        by_link (Some l) is =
-            let form = may (rests changed.before s l) (changed.index_is s ∙ ap (option_map (rests changed.before s)) is) in
-            ap (λ (o : Option Link). is_some o && is_none (kept false o (scratch world s))) is
-            ∙ some_kept (kept false (Some l) (scratch world s))
-            (sym (told_kept l (scratch world s)) ∙ form_stays s l (more s l is inside) form)
-
     -- and what its link rests on stays
-    pub footprint_stays : (s : ℕ) → has s (touched_by index keys) ≡ true → rests_at index s ≡ option_map (rests world s) (links s)
+    pub footprint_stays : (s : ℕ) → has s (touched_by index keys) ≡ true → rests_at index s ≡ rests_if world s (links s)
     footprint_stays s inside = by_link (links s) refl
       where
-        by_link : (o : Option Link) → links s ≡ o → rests_at index s ≡ option_map (rests world s) o
-        by_link None is = changed.index_is s ∙ ap (option_map (rests changed.before s)) is
+        by_link : (o : Option Link) → links s ≡ o → rests_at index s ≡ rests_if world s o
+        by_link None is = changed.index_is s ∙ ap (rests_if changed.before s) is
         by_link (Some l) is =
-            changed.index_is s ∙ ap (option_map (rests changed.before s)) is
-            ∙ ap (λ (ks : List Key). Some (record { footprint = ks; form = form_of l }))
-            (sym (more s l is inside).rests_on ∙ ap (λ (w : World). footprint w s) (sym after))
+            let one = more s l is inside in
+            changed.index_is s ∙ ap (rests_if changed.before s) is
+            ∙ ap Some (sym (same_rests changed.before world s (ap (λ (w : World). stage w s) after ∙ one.selects ∙ sym one.before)
+            (ap (λ (w : World). footprint w s) after ∙ one.rests_on)))
 
 -- each asked site may be
 pub each_asked : (world : World) (keys : List Key) (defined : Option ℕ) (links : ℕ → Option Link) (index : List (ℕ × Rests))
-    → HasChanged world keys defined links index → AreRising index → (sites : List ℕ) → sites ≡ asked_of world defined index keys
+    → HasChanged world keys defined links index → AreRising index → (sites : List ℕ) → AreAsked index keys sites
     → AllByRecursion (MayBeAsked world defined links) sites
-each_asked world keys None links index changed rising sites are =
+each_asked world keys None links index changed rising sites asked =
     all_of (MayBeAsked world None links) sites (λ s inside. tt)
-each_asked world keys (Some x) links index changed rising sites are =
-    subst (AllByRecursion (MayBeAsked world (Some x) links)) (sym are) (each_told world keys links index rising x changed)
+each_asked world keys (Some x) links index changed rising sites asked =
+    all_of (MayBeAsked world (Some x) links) sites
+    (λ s inside. told_at world keys links index rising x changed s (links s) refl (asked.touched s inside))
 
 pub is_there : (world : World) (keys : List Key) (defined : Option ℕ) (links : ℕ → Option Link) (index : List (ℕ × Rests))
     → HasChanged world keys defined links index → AreRising index → IfSome defined (λ x. x < length world.classes.rows)
 is_there world keys None links index changed rising = tt
 is_there world keys (Some x) links index changed rising = there world keys links index rising x changed
 
--- a site that isn't asked keeps its link
-pub unasked_stays : (world : World) (keys : List Key) (defined : Option ℕ) (links : ℕ → Option Link) (index : List (ℕ × Rests))
-    → HasChanged world keys defined links index → AreRising index → (s : ℕ) → has s (asked_of world defined index keys) ≡ false → goes world links s ≡ false
-unasked_stays world keys None links index changed rising s none = untouched_keeps world keys None links index changed rising s none
-unasked_stays world keys (Some x) links index changed rising s none = by_touched (has s (touched_by index keys)) refl
-  where
-    by_touched : (b : Bool) → has s (touched_by index keys) ≡ b → goes world links s ≡ false
-    by_touched true inside = unasked_touched world keys links index rising x changed s inside none
-    by_touched false outside = untouched_keeps world keys (Some x) links index changed rising s outside
+-- ---- sites that are together with a touched one
+
+module _ (world : World) (keys : List Key) (defined : Option ℕ) (links : ℕ → Option Link) (index : List (ℕ × Rests))
+    (changed : HasChanged world keys defined links index) (rising : AreRising index) where
+  abbrev before : World
+  before = changed.before
+
+  both : (a b : Bool) → (a && b) ≡ true → (a ≡ true) × (b ≡ true)
+  both true b h = (refl, h)
+  both false b h = cc
+
+  -- a site that is in the index has a link, and this is what it rests on
+  record IsThere (s : ℕ) (r : Rests) : Type 0 where
+    link : Link
+    is : links s ≡ Some link
+    rests_on : r ≡ rests before s
+
+  is_there_at : (s : ℕ) (r : Rests) → rests_at index s ≡ Some r → IsThere s r
+  is_there_at s r at = by_link (links s) refl (sym (changed.index_is s) ∙ at)
+    where
+      by_link : (o : Option Link) → links s ≡ o → rests_if before s o ≡ Some r → IsThere s r
+      by_link None is e = cc
+      by_link (Some l) is e = record { link = l; is = is; rests_on = sym (same_Some (rests before s) r e) }
+
+  -- it selects by the form, on the receivers of this class, before the event and after it
+  record Selecting (s : ℕ) (c : ℕ) (f : Form) : Type 0 where
+    link : links s ≡ Some (link_alike before.classes c f)
+    scratch : scratch world s ≡ Ok (link_alike world.classes c f)
+    rests_on : rests world s ≡ rests before s
+
+  of_selecting : (s : ℕ) (l : Link) → links s ≡ Some l → (f : Form) → (one : IsSelecting before s f) → changes_receivers changed.event ≡ true
+      → Selecting s one.invocation.named f
+  of_selecting s l is f one receivers =
+      let later =
+      selecting_stays changed.accepted.0 before changed.order changed.event s one.invocation changed.accepted.1 receivers (changed.left s l is) one.is in
+      let selects : stage world s ≡ Selects one.invocation = ap (λ (w : World). stage w s) changed.step ∙ later.0 in
+      let kept : footprint world s ≡ footprint before s = ap (λ (w : World). footprint w s) changed.step ∙ later.1 in
+      record {
+        link =
+            is ∙ ap Some (same_ok l (link_alike before.classes one.invocation.named f)
+            (sym (changed.scratch s l is) ∙ ap (link_of before.classes) one.is ∙ ap Ok (one.link before.classes)));
+        scratch = ap (link_of world.classes) selects ∙ ap Ok (one.link world.classes);
+        rests_on = same_rests before world s (selects ∙ sym one.is) kept;
+      }
+    where
+      same_ok : (a b : Link) → ◌≡◌ {A = Result Link Unlinked} (Ok a) (Ok b) → a ≡ b
+      same_ok a b e = cc
+
+  -- both select so
+  record Together (s t : ℕ) : Type 0 where
+    pub links_are : links s ≡ links t
+    pub scratch : scratch world s ≡ scratch world t
+    pub rests_on : rests_at index s ≡ rests_if world s (links s)
+
+  are_alike : (s t : ℕ) → has t (touched_by index keys) ≡ true → are_together index s t ≡ true → Together s t
+  are_alike s t inside h = by_rests (rests_at index t) (rests_at index s) refl refl h
+    where
+      by_rests : (o p : Option Rests) → rests_at index t ≡ o → rests_at index s ≡ p
+          → option_map_or (λ r. selects r.form && option_map_or (λ q. form_eq q.form r.form && meets r.footprint q.footprint) p false) o false ≡ true
+          → Together s t
+      by_rests None p at_t at_s h = cc
+      by_rests (Some r) None at_t at_s h = absurd (let e = (both (selects r.form) false h).1 in cc)
+      by_rests (Some r) (Some q) at_t at_s h =
+          let first = both (selects r.form) (form_eq q.form r.form && meets r.footprint q.footprint) h in
+          let second = both (form_eq q.form r.form) (meets r.footprint q.footprint) first.1 in
+          let of_t = is_there_at t r at_t in
+          let of_s = is_there_at s q at_s in
+          let form_s : q.form ≡ r.form = form_is q.form r.form second.0 in
+          let one = selecting before t (ap (λ (r : Rests). selects r.form) (sym of_t.rests_on) ∙ first.0) in
+          let other = selecting before s (ap (λ (r : Rests). selects r.form) (sym of_s.rests_on) ∙ ap selects form_s ∙ first.0) in
+          let class = one_class before s t _ _ other one
+          ((λ i. meets ((sym of_t.rests_on) i).footprint ((sym of_s.rests_on) i).footprint) ∙ second.1) in
+          let receivers = changes before changed.event one.invocation.named
+          (key_met one.invocation.named (events.keys before changed.event)
+          (ap (λ (ks : List Key). meets ks (events.keys before changed.event)) (sym one.rests_on)
+          ∙ second_of (is_some (links t)) (touches before changed.event t) (is_touched world keys defined links index changed rising t inside))) in
+          let forms : (rests before s).form ≡ (rests before t).form =
+          ap (λ (r : Rests). r.form) (sym of_s.rests_on) ∙ form_s ∙ ap (λ (r : Rests). r.form) of_t.rests_on in
+          let a = of_selecting s of_s.link of_s.is _ other receivers in
+          let b = of_selecting t of_t.link of_t.is _ one receivers in
+          record {
+            links_are = a.link ∙ ap Some (λ i. link_alike before.classes (class i) (forms i)) ∙ sym b.link;
+            scratch = a.scratch ∙ ap Ok (λ i. link_alike world.classes (class i) (forms i)) ∙ sym b.scratch;
+            rests_on = at_s ∙ ap Some (of_s.rests_on ∙ sym a.rests_on) ∙ ap (rests_if world s) (sym of_s.is);
+          }
+        where
+          second_of : (a b : Bool) → (a && b) ≡ true → b ≡ true
+          second_of true b h = h
+          second_of false b h = cc
+
+  go_together : (s t : ℕ) → Together s t → goes world links s ≡ goes world links t
+  go_together s t both = λ i. is_some (both.links_are i) && is_none (kept false (both.links_are i) (both.scratch i))
 
 -- ---- once the links that go were dropped
 
 module _ (world : World) (keys : List Key) (defined : Option ℕ) (links : ℕ → Option Link) (index : List (ℕ × Rests))
-    (changed : HasChanged world keys defined links index) (rising : AreRising index) (lost : List ℕ) (now : ℕ → Option Link)
-    (listed : (s : ℕ) → has s lost ≡ (has s (asked_of world defined index keys) && goes world links s))
+    (changed : HasChanged world keys defined links index) (rising : AreRising index) (asked gone lost : List ℕ) (now : ℕ → Option Link)
+    (are_asked : AreAsked index keys asked) (found : (s : ℕ) → has s gone ≡ (has s asked && goes world links s))
+    (listed : (s : ℕ) → has s lost ≡ is_asked index gone s)
     (removed : (s : ℕ) → now s ≡ (if has s lost then None else links s)) where
+  -- one that is asked stands for a touched site
+  record StandsFor (s : ℕ) (xs : List ℕ) : Type 0 where
+    item : ℕ
+    there : has item xs ≡ true
+    alike : (item ≡ s) ⊎ (are_together index s item ≡ true)
+
+  stands_for : (s : ℕ) (xs : List ℕ) → is_asked index xs s ≡ true → StandsFor s xs
+  stands_for s xs h =
+      let r = passing_one (λ t. (t == s) || are_together index s t) xs h in
+      elim (or_cases (r.item == s) (are_together index s r.item) r.passes) [
+        | inl same ↦ record { item = r.item; there = r.there; alike = inl ((Decides-eqb r.item s).0 same) }
+        | inr together ↦ record { item = r.item; there = r.there; alike = inr together }
+      ]
+
+  both_of : (a b : Bool) → (a && b) ≡ true → (a ≡ true) × (b ≡ true)
+  both_of true b h = (refl, h)
+  both_of false b h = cc
+
   are_lost : (s : ℕ) → has s lost ≡ goes world links s
-  are_lost s = listed s ∙ by_asked (has s (asked_of world defined index keys)) refl
+  are_lost s = listed s ∙ one_answer (is_asked index gone s) (goes world links s) (λ e. e, λ e. e) (back, forth)
     where
-      by_asked : (b : Bool) → has s (asked_of world defined index keys) ≡ b → (b && goes world links s) ≡ goes world links s
-      by_asked true is = refl
-      by_asked false is = sym (unasked_stays world keys defined links index changed rising s is)
+      forth : is_asked index gone s ≡ true → goes world links s ≡ true
+      forth h =
+          let one = stands_for s gone h in
+          let r = both_of (has one.item asked) (goes world links one.item) (sym (found one.item) ∙ one.there) in
+          by_alike one.item one.alike r.0 r.1
+        where
+          by_alike : (t : ℕ) → (t ≡ s) ⊎ (are_together index s t ≡ true) → has t asked ≡ true → goes world links t ≡ true → goes world links s ≡ true
+          by_alike t (inl same) inside gone = ap (goes world links) (sym same) ∙ gone
+          by_alike t (inr together) inside gone =
+              go_together world keys defined links index changed rising s t
+              (are_alike world keys defined links index changed rising s t (are_asked.touched t inside) together) ∙ gone
+
+      back : goes world links s ≡ true → is_asked index gone s ≡ true
+      back h = by_touched (has s (touched_by index keys)) refl
+        where
+          by_alike : (t : ℕ) → (t ≡ s) ⊎ (are_together index s t ≡ true) → has t asked ≡ true → is_asked index gone s ≡ true
+          by_alike t (inl same) inside =
+              any_there (λ t. (t == s) || are_together index s t) t gone
+              (found t ∙ and_from (has t asked) (goes world links t) inside (ap (goes world links) same ∙ h))
+              (or_left (t == s) (are_together index s t) ((Decides-eqb t s).1 same))
+          by_alike t (inr together) inside =
+              any_there (λ t. (t == s) || are_together index s t) t gone
+              (found t ∙ and_from (has t asked) (goes world links t) inside
+              (sym (go_together world keys defined links index changed rising s t
+              (are_alike world keys defined links index changed rising s t (are_asked.touched t inside) together)) ∙ h))
+              (or_right (t == s) (are_together index s t) together)
+
+          by_touched : (b : Bool) → has s (touched_by index keys) ≡ b → is_asked index gone s ≡ true
+          by_touched false outside = absurd (both_ways (goes world links s) (untouched_keeps world keys defined links index changed rising s outside) h)
+          by_touched true inside = let one = stands_for s asked (are_asked.all s inside) in by_alike one.item one.alike one.there
 
   are_kept : (s : ℕ) → now s ≡ kept_at world links s
   are_kept s = removed s ∙ ap (λ (b : Bool). if b then None else links s) (are_lost s) ∙ kept_or (links s) (scratch world s)
-
-  -- which is the link from scratch
-  pub are_scratch : (s : ℕ) (l : Link) → now s ≡ Some l → scratch world s ≡ Ok l
-  are_scratch s l at = kept_scratch false (links s) (scratch world s) l (sym (are_kept s) ∙ at)
 
   up_to_date : (left : List (ℕ × Rests)) → IsIndex world now left → AreUpToDate world (λ s. false) links now left lost
   up_to_date left indexed = record {
@@ -388,31 +471,46 @@ module _ (world : World) (keys : List Key) (defined : Option ℕ) (links : ℕ �
     lost = λ s. are_lost s ∙ ap (λ (o : Option Link). is_some (links s) && is_none o) (sym (are_kept s));
   }
 
-  -- the touched sites were looked up again
-  refreshed : (left : List (ℕ × Rests))
-      → ((s : ℕ) → rests_at left s ≡ (if has s (touched_by index keys) then option_map (rests world s) (now s) else rests_at index s))
-      → AreUpToDate world (λ s. false) links now left lost
-  refreshed left indexed = up_to_date left (λ s. indexed s ∙ by_touched s (has s (touched_by index keys)) refl)
+  -- what a site rests on that keeps its link, where one was asked for it
+  kept_rests : (s : ℕ) → has s asked ≡ false → rests_at index s ≡ rests_if world s (links s)
+  kept_rests s other = by_touched (has s (touched_by index keys)) refl
     where
-      by_touched : (s : ℕ) (b : Bool) → has s (touched_by index keys) ≡ b
-          → (if b then option_map (rests world s) (now s) else rests_at index s) ≡ option_map (rests world s) (now s)
-      by_touched s true is = refl
-      by_touched s false is =
-          let stays = untouched_stays world keys defined links index changed rising s is in
-          sym stays.1 ∙ ap (option_map (rests world s)) (sym (are_kept s ∙ stays.0))
+      by_alike : (t : ℕ) → (t ≡ s) ⊎ (are_together index s t ≡ true) → has t asked ≡ true → rests_at index s ≡ rests_if world s (links s)
+      by_alike t (inl same) inside = absurd (both_ways (has s asked) other (ap (λ n. has n asked) (sym same) ∙ inside))
+      by_alike t (inr together) inside = (are_alike world keys defined links index changed rising s t (are_asked.touched t inside) together).rests_on
+
+      by_touched : (b : Bool) → has s (touched_by index keys) ≡ b → rests_at index s ≡ rests_if world s (links s)
+      by_touched false outside = sym (untouched_stays world keys defined links index changed rising s outside).1
+      by_touched true inside = let one = stands_for s asked (are_asked.all s inside) in by_alike one.item one.alike one.there
+
+  -- the asked sites were looked up again
+  refreshed : (left : List (ℕ × Rests))
+      → ((s : ℕ) → rests_at left s ≡ (if has s asked then rests_if world s (now s) else if has s lost then None else rests_at index s))
+      → AreUpToDate world (λ s. false) links now left lost
+  refreshed left indexed = up_to_date left (λ s. indexed s ∙ by_asked s (has s asked) refl)
+    where
+      by_lost : (s : ℕ) → has s asked ≡ false → (b : Bool) → has s lost ≡ b → (if b then None else rests_at index s) ≡ rests_if world s (now s)
+      by_lost s other true is = ap (rests_if world s) (sym (removed s ∙ ap (λ (b : Bool). if b then None else links s) is))
+      by_lost s other false is =
+          kept_rests s other ∙ ap (rests_if world s) (sym (removed s ∙ ap (λ (b : Bool). if b then None else links s) is))
+
+      by_asked : (s : ℕ) (b : Bool) → has s asked ≡ b
+          → (if b then rests_if world s (now s) else if has s lost then None else rests_at index s) ≡ rests_if world s (now s)
+      by_asked s true is = refl
+      by_asked s false is = by_lost s is (has s lost) refl
 
   -- the sites whose links went were taken out, and what the others rest on stays
-  left_out : ((s : ℕ) → has s (touched_by index keys) ≡ true → rests_at index s ≡ option_map (rests world s) (links s))
+  left_out : ((s : ℕ) → has s (touched_by index keys) ≡ true → rests_at index s ≡ rests_if world s (links s))
       → (left : List (ℕ × Rests)) → ((s : ℕ) → rests_at left s ≡ (if has s lost then None else rests_at index s))
       → AreUpToDate world (λ s. false) links now left lost
   left_out rests_on left taken =
-      up_to_date left (λ s. taken s ∙ by_lost s (has s lost) ∙ ap (option_map (rests world s)) (sym (removed s)))
+      up_to_date left (λ s. taken s ∙ by_lost s (has s lost) ∙ ap (rests_if world s) (sym (removed s)))
     where
-      as_before : (s : ℕ) (b : Bool) → has s (touched_by index keys) ≡ b → rests_at index s ≡ option_map (rests world s) (links s)
+      as_before : (s : ℕ) (b : Bool) → has s (touched_by index keys) ≡ b → rests_at index s ≡ rests_if world s (links s)
       as_before s true is = rests_on s is
       as_before s false is = sym (untouched_stays world keys defined links index changed rising s is).1
 
-      by_lost : (s : ℕ) (b : Bool) → (if b then None else rests_at index s) ≡ option_map (rests world s) (if b then None else links s)
+      by_lost : (s : ℕ) (b : Bool) → (if b then None else rests_at index s) ≡ rests_if world s (if b then None else links s)
       by_lost s true = refl
       by_lost s false = as_before s (has s (touched_by index keys)) refl
 
@@ -447,30 +545,32 @@ not_with (row ∷ rows) before s e = by_test (row.0 == s) e (λ f. not_with rows
 -- the index is that of the links once the installed sites were looked up
 pub installed_index : (w : World) (rows : List (ℕ × Link)) (links now : ℕ → Option Link) (index left : List (ℕ × Rests)) → IsIndex w links index
     → ((s : ℕ) → now s ≡ link_with rows (links s) s)
-    → ((s : ℕ) → rests_at left s ≡ (if has s (map (λ (row : ℕ × Link). row.0) rows) then option_map (rests w s) (now s) else rests_at index s))
+    → ((s : ℕ) → rests_at left s ≡ (if has s (map (λ (row : ℕ × Link). row.0) rows) then rests_if w s (now s) else rests_at index s))
     → IsIndex w now left
 installed_index w rows links now index left was linked looked s = looked s ∙ by_test (has s (map (λ (row : ℕ × Link). row.0) rows)) refl
   where
     by_test : (b : Bool) → has s (map (λ (row : ℕ × Link). row.0) rows) ≡ b
-        → (if b then option_map (rests w s) (now s) else rests_at index s) ≡ option_map (rests w s) (now s)
+        → (if b then rests_if w s (now s) else rests_at index s) ≡ rests_if w s (now s)
     by_test true e = refl
-    by_test false e = was s ∙ ap (option_map (rests w s)) (sym (linked s ∙ not_with rows (links s) s e))
+    by_test false e = was s ∙ ap (rests_if w s) (sym (linked s ∙ not_with rows (links s) s e))
 
 -- ---- once all is done
 
 pub are_up_to_date : (world : World) (keys : List Key) (defined : Option ℕ) (links : ℕ → Option Link) (index : List (ℕ × Rests))
-    → (changed : HasChanged world keys defined links index) → (rising : AreRising index) → (lost : List ℕ) (now : ℕ → Option Link)
-    → ((s : ℕ) → has s lost ≡ (has s (asked_of world defined index keys) && goes world links s))
+    → (changed : HasChanged world keys defined links index) → (rising : AreRising index) → (asked gone lost : List ℕ) (now : ℕ → Option Link)
+    → AreAsked index keys asked → ((s : ℕ) → has s gone ≡ (has s asked && goes world links s))
+    → ((s : ℕ) → has s lost ≡ is_asked index gone s)
     → ((s : ℕ) → now s ≡ (if has s lost then None else links s))
     → (left : List (ℕ × Rests))
     → (is_some defined ≡ true → (s : ℕ) → rests_at left s ≡ (if has s lost then None else rests_at index s))
     → (is_some defined ≡ false → (s : ℕ)
-    → rests_at left s ≡ (if has s (asked_of world defined index keys) then option_map (rests world s) (now s) else rests_at index s))
+    → rests_at left s ≡ (if has s asked then rests_if world s (now s) else if has s lost then None else rests_at index s))
     → AreUpToDate world (λ s. false) links now left lost
-are_up_to_date world keys None links index changed rising lost now listed removed left taken looked_up =
-    refreshed world keys None links index changed rising lost now listed removed left (looked_up refl)
-are_up_to_date world keys (Some x) links index changed rising lost now listed removed left taken looked_up =
-    left_out world keys (Some x) links index changed rising lost now listed removed (footprint_stays world keys links index rising x changed) left (taken refl)
+are_up_to_date world keys None links index changed rising asked gone lost now are_asked found listed removed left taken looked_up =
+    refreshed world keys None links index changed rising asked gone lost now are_asked found listed removed left (looked_up refl)
+are_up_to_date world keys (Some x) links index changed rising asked gone lost now are_asked found listed removed left taken looked_up =
+    left_out world keys (Some x) links index changed rising asked gone lost now are_asked found listed removed
+    (footprint_stays world keys links index rising x changed) left (taken refl)
 
 pub on_ok : {A E : Type 0} {P Q : Type 0} → (r : Result A E) → (P → Q) → OnOk r P → OnOk r Q
 on_ok (Ok x) f p = f p

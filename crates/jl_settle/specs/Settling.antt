@@ -15,7 +15,7 @@ use Rattle.jl_types.specs.Events.Footprints.{most_for}
 use Rattle.jl_relink.specs.Laws.{IsInOrder}
 use Rattle.jl_relink.specs.Receivers.{TellsStay}
 use Rattle.jl_deps.specs.declared.form.Rests.{Rests}
-use Rattle.jl_deps.specs.Indexes.{IsIndex, touched_by, asked_by}
+use Rattle.jl_deps.specs.Indexes.{IsIndex}
 
 -- the site's link, where it is the one from scratch
 abbrev pub kept_at : World → (ℕ → Option Link) → ℕ → Option Link
@@ -68,9 +68,3 @@ MayBeAsked w None links s = ⊤
 abbrev pub most_asked : World → Option ℕ → ℕ → ℕ
 most_asked w (Some x) s = 1
 most_asked w None s = most_for w s
-
--- The sites at which settling looks: those that the event touches, and of those that a definition touches the ones whose links it may change
--- by their form.
-abbrev pub asked_of : World → Option ℕ → List (ℕ × Rests) → List Key → List ℕ
-asked_of w None index keys = touched_by index keys
-asked_of w (Some x) index keys = asked_by index keys w.classes x

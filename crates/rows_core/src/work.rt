@@ -125,16 +125,16 @@ const BY_GROUPS: &[Row] = &[
     (Applied, Request(2, 0), DropsNone, 0, 0),
     (Applied, Request(2, 6), DropsNone, 0, 0),
     (Applied, Install(&[0, 1]), DropsNone, 2, 2),
-    // Both sites run the one method that the class inherits, and it is searched for once.
+    // Both sites select the one method that the class inherits, and it is asked of once.
     (Applied, Define(0, Heir), DropsNone, 1, 1),
     (Applied, Request(2, 3), DropsNone, 0, 0),
     (Applied, Install(&[2]), DropsNone, 1, 1),
-    // Each of the two methods is searched for once.
+    // Each of the two methods is asked of once.
     (Applied, Loader, DropsNone, 0, 0),
     (Applied, Delegate(1, "Two"), DropsNone, 0, 0),
     (Applied, Define(1, Heir), DropsNone, 2, 2),
-    // The class has an f of its own, so it is asked of at both sites; g is searched for once.
-    (Applied, Define(0, Half), DropsBoth, 3, 3),
+    // The class has an f of its own, which is asked of once for both sites; g is asked of once.
+    (Applied, Define(0, Half), DropsBoth, 2, 2),
     // No site runs f any more.
     (Applied, Define(0, Last), DropsNone, 1, 1),
 ];

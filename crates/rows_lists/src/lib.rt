@@ -3,8 +3,6 @@
 #![tactic(auto)]
 
 #[cfg(test)]
-mod family;
-#[cfg(test)]
 mod gates;
 #[cfg(test)]
 mod numbered;

@@ -1,10 +1,8 @@
 //! An index against a plain list of what sites rest on, over operations that a fixed generator draws.
 
-use crate::family::{FORMS, class_of, family, link};
-use crate::plain::{KeySet, Plain, Row, SITES, keys};
+use crate::plain::{FORMS, KeySet, Plain, Row, SITES, form, keys};
 use jl_deps::{Index, Rests};
-use jl_hierarchy::Classes;
-use jl_types::{SiteNo, Work};
+use jl_types::SiteNo;
 use std::alloc::{AllocError, Global};
 use std::process::Abort;
 
@@ -29,29 +27,32 @@ impl Draws {
     }
 }
 
-/// How often each operation was tried, and how many sites were touched and asked in all.
+/// How often each operation was tried, how many sites were touched in all, and how many were together with one.
 #[derive(Clone, Copy, Debug, PartialEq, Eq)]
 struct Counts {
     added: u32,
     removed: u32,
     touching: u32,
     touched: usize,
-    defining: u32,
-    asked: usize,
+    asking: u32,
+    joining: u32,
+    together: usize,
 }
 
-/// What is tried: the index, the plain list, classes that ask, and what was counted so far.
+/// What is tried: the index, the plain list, and what was counted so far.
 #[derive(Drop)]
 struct Trial {
     index: Index,
     plain: Plain,
-    classes: Classes,
     counts: Counts,
 }
 
 /// Adds the site to both. Answers whether they agree at it then.
 fn add(alloc: Global, trial: &mut Trial, site: u32, row: Row) -> Result<bool, AllocError> {
-    let rests = Rests::of(keys(alloc, row.keys)?, &link(row.form));
+    let rests = Rests {
+        footprint: keys(alloc, row.keys)?,
+        form: form(row.form),
+    };
     trial.index.add(alloc, SiteNo::new(site), rests)?;
     trial.plain.set(site, Some(row));
     trial.counts.added = trial.counts.added.wrapping_add(1);
@@ -76,26 +77,26 @@ fn touch(alloc: Global, trial: &mut Trial, set: KeySet) -> Result<bool, AllocErr
     Ok(sites.as_slice() == want.as_slice())
 }
 
-/// Asks both which of the sites that the keys touch B asks, or C if so. Answers whether they agree, and whether the searches are counted.
-fn define(alloc: Global, trial: &mut Trial, set: KeySet, is_c: bool) -> Result<bool, AllocError> {
+/// Asks the index which sites are asked under the keys. Answers whether these may be so.
+fn ask(alloc: Global, trial: &mut Trial, set: KeySet) -> Result<bool, AllocError> {
     let keys = keys(alloc, set)?;
-    let most = trial.index.touched_by(alloc, keys.as_slice())?.len() as u64;
-    let mut work = Work::new();
-    let sites = trial.index.asked_by(
-        alloc,
-        keys.as_slice(),
-        &trial.classes,
-        class_of(is_c),
-        &mut work,
-    )?;
-    let want = trial.plain.asked(alloc, set, is_c)?;
-    trial.counts.defining = trial.counts.defining.wrapping_add(1);
-    trial.counts.asked = trial.counts.asked.wrapping_add(sites.len());
+    let asked = trial.index.asked(alloc, keys.as_slice())?;
+    let touched = trial.plain.touched(alloc, set)?;
+    trial.counts.asking = trial.counts.asking.wrapping_add(1);
     Ok(
-        sites.as_slice() == want.as_slice()
-            && trial.plain.may_count(set, is_c, work.ticks())
-            && work.ticks().saturating_add(sites.len() as u64) <= most,
+        trial
+            .plain
+            .may_be_asked(set, asked.as_slice(), touched.as_slice()),
     )
+}
+
+/// Asks both which sites are together with this one. Answers whether they agree.
+fn join(alloc: Global, trial: &mut Trial, site: u32) -> Result<bool, AllocError> {
+    let sites = trial.index.together(alloc, &[SiteNo::new(site)])?;
+    let want = trial.plain.together(alloc, site)?;
+    trial.counts.joining = trial.counts.joining.wrapping_add(1);
+    trial.counts.together = trial.counts.together.wrapping_add(sites.len());
+    Ok(sites.as_slice() == want.as_slice())
 }
 
 /// Tries one operation. Answers whether index and list agree.
@@ -107,7 +108,8 @@ fn try_one(alloc: Global, trial: &mut Trial, draws: &mut Draws) -> Result<bool, 
     match draws.below(6) {
         0 => remove(alloc, trial, site),
         1 => touch(alloc, trial, keys),
-        2 => define(alloc, trial, keys, form % 2 == 1),
+        2 if form % 2 == 0 => ask(alloc, trial, keys),
+        2 => join(alloc, trial, site),
         _ => add(alloc, trial, site, Row { keys, form }),
     }
 }
@@ -135,31 +137,21 @@ fn try_all(alloc: Global, trial: &mut Trial) -> Result<Option<Counts>, AllocErro
 }
 
 /// The same with an index and a list of which nothing was tried yet.
-fn counted_with(alloc: Global, classes: Classes) -> Result<Option<Counts>, AllocError> {
-    let plain = Plain::new(alloc)?;
-    let counts = Counts {
-        added: 0,
-        removed: 0,
-        touching: 0,
-        touched: 0,
-        defining: 0,
-        asked: 0,
-    };
+fn counted(alloc: Global) -> Result<Option<Counts>, AllocError> {
     let mut trial = Trial {
         index: Index::new(alloc),
-        plain,
-        classes,
-        counts,
+        plain: Plain::new(alloc)?,
+        counts: Counts {
+            added: 0,
+            removed: 0,
+            touching: 0,
+            touched: 0,
+            asking: 0,
+            joining: 0,
+            together: 0,
+        },
     };
     try_all(alloc, &mut trial)
-}
-
-/// The same, if there is memory for the classes.
-fn counted(alloc: Global) -> Result<Option<Counts>, AllocError> {
-    match family(alloc) {
-        Some(classes) => counted_with(alloc, classes),
-        None => Ok(None),
-    }
 }
 
 /// The counts are those of the same operations over sets, drawn and counted by another program.
@@ -171,8 +163,9 @@ fn agrees_with_a_plain_list(rt: HostRuntime) -> Result<(), AllocError> {
         removed: 1_697,
         touching: 1_661,
         touched: 41_470,
-        defining: 1_666,
-        asked: 15_585,
+        asking: 866,
+        joining: 800,
+        together: 3_512,
     };
     assert_eq!(&rt; counts, Some(want));
     Ok(())

@@ -1,9 +1,8 @@
 //! What sites rest on as a plain list, beside which an index is tried: keys stand by twelve numbers, of which four are each of a kind, and
 //! forms by four.
 
-use crate::family::{changes, form, inherits};
-use jl_deps::{Footprint, Index};
-use jl_types::{CallSiteId, ClassId, Key, SiteNo, SwitchId};
+use jl_deps::{Footprint, Form, Index};
+use jl_types::{CallSiteId, ClassId, Key, MethodId, SiteNo, SwitchId};
 use std::alloc::{AllocError, Global};
 
 /// How many keys there are.
@@ -11,6 +10,25 @@ const KEYS: u32 = 12;
 
 /// How many sites there are.
 pub(crate) const SITES: u32 = 64;
+
+/// How many forms there are.
+pub(crate) const FORMS: u32 = 4;
+
+/// The last form, by which no site selects.
+const OTHER: u32 = 3;
+
+/// The form of this number: an invokevirtual of one method and of another, an invokeinterface of the first one, and none of these.
+pub(crate) fn form(number: u32) -> Form {
+    let method = MethodId {
+        class: ClassId::new(1),
+        index: if number == 1 { 1 } else { 0 },
+    };
+    match number {
+        0 | 1 => Form::Virtual(method),
+        2 => Form::Interface(method),
+        _ => Form::Other,
+    }
+}
 
 /// A set of keys, by their numbers: key n is there where bit n is set.
 pub(crate) type KeySet = u32;
@@ -97,22 +115,40 @@ impl Plain {
         Ok(sites)
     }
 
-    /// Of these the sites whose links B may change, or C if so, rising.
-    pub(crate) fn asked(
-        &self,
-        alloc: Global,
-        set: KeySet,
-        is_c: bool,
-    ) -> Result<Vec<SiteNo>, AllocError> {
+    /// What the site rests on, if anything.
+    fn row(&self, site: u32) -> Option<Row> {
+        self.rows.get(site as usize).copied().flatten()
+    }
+
+    /// Whether the sites select by one form and rest on one key.
+    fn alike(&self, site: u32, other: u32) -> bool {
+        match (self.row(site), self.row(other)) {
+            (Some(row), Some(with)) => {
+                row.form != OTHER && row.form == with.form && row.keys & with.keys != 0
+            }
+            _ => false,
+        }
+    }
+
+    /// The site, and all that select alike on one of its keys, rising.
+    pub(crate) fn together(&self, alloc: Global, site: u32) -> Result<Vec<SiteNo>, AllocError> {
         let mut sites = Vec::new(alloc);
-        for site in 0..SITES {
-            if let Some(Some(row)) = self.rows.get(site as usize) {
-                if row.keys & set != 0 && changes(row.form, is_c) {
-                    sites.push(SiteNo::new(site))?;
-                }
+        for other in 0..SITES {
+            if other == site || self.alike(other, site) {
+                sites.push(SiteNo::new(other))?;
             }
         }
         Ok(sites)
+    }
+
+    /// Whether one of the sites is this one or like it.
+    fn stands(&self, sites: &[SiteNo], site: u32) -> bool {
+        for other in sites {
+            if other.number() == site || self.alike(site, other.number()) {
+                return true;
+            }
+        }
+        false
     }
 
     /// The keys of the set that a site of the form rests on.
@@ -128,18 +164,35 @@ impl Plain {
         found
     }
 
-    /// Whether so many searches may be counted: one for each method that B, or C if so, inherits, up to one for each such method under each
-    /// key.
-    pub(crate) fn may_count(&self, set: KeySet, is_c: bool, searches: u64) -> bool {
-        let mut least: u64 = 0;
-        let mut most: u64 = 0;
-        for form in 1..3 {
-            if inherits(form, is_c) {
-                let keys = self.keys_of_form(set, form);
-                least = least.saturating_add(u64::from(keys != 0));
-                most = most.saturating_add(u64::from(keys.count_ones()));
+    /// How many sites are asked under the keys at most: one of each form under each key, and those that don't select.
+    fn most_asked(&self, set: KeySet) -> usize {
+        let mut most: usize = 0;
+        for form in 0..OTHER {
+            let keys = self.keys_of_form(set, form);
+            most = most.saturating_add(keys.count_ones() as usize);
+        }
+        for site in 0..SITES {
+            if let Some(row) = self.row(site) {
+                if row.form == OTHER && row.keys & set != 0 {
+                    most = most.saturating_add(1);
+                }
             }
         }
-        least <= searches && searches <= most
+        most
+    }
+
+    /// Whether these may be the sites that are asked under the keys, where the others are those that the keys touch.
+    pub(crate) fn may_be_asked(&self, set: KeySet, asked: &[SiteNo], touched: &[SiteNo]) -> bool {
+        for site in asked {
+            if !touched.contains(site) {
+                return false;
+            }
+        }
+        for site in touched {
+            if !self.stands(asked, site.number()) {
+                return false;
+            }
+        }
+        asked.is_sorted() && asked.len() <= self.most_asked(set)
     }
 }

@@ -1,21 +1,29 @@
 //! A key that very many sites rest on.
 
 use jl_deps::{Footprint, Form, Index, Rests};
-use jl_types::{ClassId, Key, SiteNo};
+use jl_types::{ClassId, Key, MethodId, SiteNo};
 use std::alloc::{AllocError, Global};
 use std::process::Abort;
 
 /// How many sites a core has at most.
 const SITES: u32 = 65_536;
 
-/// Adds the site, under the receivers of class 0 and of another class. Each other one has a megamorphic link.
+/// How each other site selects.
+fn selecting() -> Form {
+    Form::Virtual(MethodId {
+        class: ClassId::new(0),
+        index: 0,
+    })
+}
+
+/// Adds the site, under the receivers of class 0 and of another class. Each other one selects a method.
 fn add(alloc: Global, index: &mut Index, site: u32) -> Result<(), AllocError> {
     let other = Key::Receivers(ClassId::new(1 + site % 7));
     let keys = vec![in alloc; Key::Receivers(ClassId::new(0)), other]?;
     let rests = Rests {
         footprint: Footprint::of(alloc, keys)?,
         form: if site % 2 == 1 {
-            Form::Mega
+            selecting()
         } else {
             Form::Other
         },

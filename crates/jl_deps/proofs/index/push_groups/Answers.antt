@@ -13,11 +13,11 @@ loop-listed-preserved c =
     record {
       within = (let lt = slice_get_within entries c.loop-listed.place (c.in-Some.field-0-0.now, c.in-Some.listed.now) (sym c.in-Some.ensures.entry) in omega arith);
       added = λ s.
-          any_next (λ group. list_any (λ t. t == s) group.1.keys) entries c.loop-listed.place
+          any_next (λ group. list_any (λ t. t == s) group.1) entries c.loop-listed.place
           (c.in-Some.field-0-0.now, c.in-Some.listed.now) (has s c.extend_from_slice.new.self.items) (has s c.loop-listed.sites.items)
           (has s c.args.sites.now.items) c.in-Some.ensures.entry
           (ap (has s) c.in_ok-extend_from_slice.ensures.items
           ∙ list_any-append (λ t. t == s) c.loop-listed.sites.items c.as_slice.result.now
-          ∙ ap (λ (ts : List ℕ). has s c.loop-listed.sites.items || has s ts) c.as_slice.ensures.keys)
+          ∙ ap (λ (ts : List ℕ). has s c.loop-listed.sites.items || has s ts) c.as_slice.ensures)
           (c.loop-listed.invariant.added s);
     }

@@ -2,8 +2,8 @@ use Rattle.std.specs.Prelude.{◌≡◌, ◌<◌, ◌^◌, ◌==◌, ◌&&◌, �
 use Rattle.std.proofs.Common.{ap, sym, subst, rules, ◌∙◌}
 use Rattle.jl_types.specs.declared.key.Key.{Key}
 use Rattle.jl_types.specs.Events.Footprints.{has_key}
-use Rattle.jl_deps.specs.Indexes.{rests_at}
-use Rattle.jl_deps.specs.ForProofs.Lists.{form_eq, form_in, keys_in, listed}
+use Rattle.jl_deps.specs.Indexes.{rests_at, form_eq}
+use Rattle.jl_deps.specs.ForProofs.Lists.{form_in, keys_in, listed}
 use Rattle.jl_deps.proofs.KeyLists.{put_listed, was_listed}
 use Rattle.jl_deps.proofs.ListLaws.{put_below}
 use Rattle.jl_deps.proofs.index.put.Goals as goal

@@ -1,7 +1,8 @@
 use Rattle.std.proofs.Common.{◌≡◌, ◌==◌, ◌&&◌, ◌||◌, ℕ, take}
 use Rattle.jl_types.specs.declared.key.Key.{Key}
 use Rattle.jl_types.specs.Events.Footprints.{has_key}
-use Rattle.jl_deps.specs.ForProofs.Lists.{form_eq, listed}
+use Rattle.jl_deps.specs.Indexes.{form_eq}
+use Rattle.jl_deps.specs.ForProofs.Lists.{listed}
 use Rattle.jl_deps.specs.declared.form.Form.{Form}
 use Rattle.jl_deps.proofs.lists.list_all.Given as goal
 

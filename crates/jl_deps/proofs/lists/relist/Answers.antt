@@ -3,7 +3,8 @@ use Rattle.std.proofs.Common.{ap, sym, ◌∙◌}
 use Rattle.std.proofs.lemmas.Bool.Decides.{Decides-eqb}
 use Rattle.jl_types.specs.Events.Footprints.{has_key}
 use Rattle.jl_deps.specs.declared.form.Form.{Form}
-use Rattle.jl_deps.specs.ForProofs.Lists.{form_eq, listed}
+use Rattle.jl_deps.specs.Indexes.{form_eq}
+use Rattle.jl_deps.specs.ForProofs.Lists.{listed}
 use Rattle.jl_deps.proofs.KeyLists.{listed_anew, form_is}
 use Rattle.jl_deps.proofs.lists.relist.Goals as goal
 

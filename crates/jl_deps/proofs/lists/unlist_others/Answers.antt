@@ -3,7 +3,8 @@ use Rattle.std.proofs.Common.{sym, ap, ◌∙◌}
 use Rattle.std.proofs.lemmas.List.{take_more}
 use Rattle.jl_types.specs.declared.key.Key.{Key}
 use Rattle.jl_types.specs.Events.Footprints.{has_key}
-use Rattle.jl_deps.specs.ForProofs.Lists.{form_eq, listed}
+use Rattle.jl_deps.specs.Indexes.{form_eq}
+use Rattle.jl_deps.specs.ForProofs.Lists.{listed}
 use Rattle.jl_deps.proofs.KeyLists.{gone_more, stays_more}
 use Rattle.jl_deps.proofs.lists.unlist_others.Goals.{then-not-is_among, else-not-is_among}
 use Rattle.jl_deps.proofs.lists.unlist_others.Goals as goal

@@ -2,7 +2,8 @@ use Rattle.std.proofs.Common.{◌≡◌, ◌==◌, ◌&&◌, ℕ, take}
 use Rattle.std.specs.Prelude.{not}
 use Rattle.jl_types.specs.declared.key.Key.{Key}
 use Rattle.jl_types.specs.Events.Footprints.{has_key}
-use Rattle.jl_deps.specs.ForProofs.Lists.{form_eq, listed}
+use Rattle.jl_deps.specs.Indexes.{form_eq}
+use Rattle.jl_deps.specs.ForProofs.Lists.{listed}
 use Rattle.jl_deps.specs.declared.form.Form.{Form}
 use Rattle.jl_deps.proofs.lists.unlist_others.Given as goal
 
