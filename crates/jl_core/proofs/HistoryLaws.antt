@@ -20,8 +20,7 @@ use Rattle.jl_types.proofs.Within.{within_step}
 use Rattle.jl_select.specs.Constancy.{IsConstant}
 use Rattle.jl_cache.specs.Links.{link_at}
 use Rattle.jl_deps.specs.declared.form.Rests.{Rests}
-use Rattle.jl_deps.specs.Forms.{rests}
-use Rattle.jl_deps.specs.Indexes.{rests_at, IsIndex}
+use Rattle.jl_deps.specs.Indexes.{rests_at, IsIndex, rests_if}
 use Rattle.jl_relink.specs.Laws.{has_read_file}
 use Rattle.jl_events.specs.Accepted.{event_of}
 use Rattle.jl_events.proofs.AcceptedLaws.{rows_stay}
@@ -160,4 +159,4 @@ exact_same m w v links same log more e f g exact = subst (λ (x : World). IsExac
 pub index_same : (old new : World) (before after : List (ℕ × Link)) (index further : List (ℕ × Rests)) → new ≡ old → after ≡ before → further ≡ index
     → IsIndex old (link_at before) index → IsIndex new (link_at after) further
 index_same old new before after index further w l x is s =
-    (λ i. rests_at (x i) s) ∙ is s ∙ sym (λ i. option_map (rests (w i) s) (link_at (l i) s))
+    (λ i. rests_at (x i) s) ∙ is s ∙ sym (λ i. rests_if (w i) s (link_at (l i) s))

@@ -14,8 +14,7 @@ use Rattle.jl_relink.specs.Laws.{IsInOrder}
 use Rattle.jl_types.specs.Events.Footprints.{keys, retires}
 use Rattle.jl_cache.specs.Links.{link_at}
 use Rattle.jl_deps.specs.declared.form.Rests.{Rests}
-use Rattle.jl_deps.specs.Forms.{rests}
-use Rattle.jl_deps.specs.Indexes.{rests_at, touched_by, AreRising, IsIndex}
+use Rattle.jl_deps.specs.Indexes.{rests_at, touched_by, AreRising, IsIndex, rests_if}
 use Rattle.jl_settle.specs.Settling.{HasChanged, defined_by}
 use Rattle.jl_settle.proofs.SettleLaws.{footprint_stays, untouched_stays}
 use Rattle.jl_events.specs.Changes.{IsAcceptable}
@@ -58,11 +57,11 @@ module _ (old ahead : World) (links : List (ℕ × Link)) (index : List (ℕ × 
   }
 
   -- each link rests on what it rested on
-  rests_on : (s : ℕ) → rests_at index s ≡ option_map (rests ahead s) (link_at links s)
+  rests_on : (s : ℕ) → rests_at index s ≡ rests_if ahead s (link_at links s)
   rests_on s = by_touched (has s (touched_by index (keys old (event.Define loader file)))) refl
     where
       by_touched : (b : Bool) → has s (touched_by index (keys old (event.Define loader file))) ≡ b
-          → rests_at index s ≡ option_map (rests ahead s) (link_at links s)
+          → rests_at index s ≡ rests_if ahead s (link_at links s)
       by_touched true is =
           footprint_stays ahead (keys old (event.Define loader file)) (link_at links) index rising (length old.classes.rows) defined s is
       by_touched false is =
@@ -75,17 +74,17 @@ pub definition_followed : (old ahead : World) (told : Accepted) (links linked af
     → ((s : ℕ) → rests_at near s ≡ (if has s gone then None else rests_at index s))
     → IsIndex ahead (link_at after) near
 definition_followed old ahead told links linked after index far near further loader c is gone left taken s =
-    taken s ∙ by_gone (has s gone) ∙ ap (option_map (rests ahead s)) (sym (left s))
+    taken s ∙ by_gone (has s gone) ∙ ap (rests_if ahead s) (sym (left s))
   where
     by_row : (o : Option Class) → option_map {U = Event} (λ (row : Class). event.Define loader row.file) o ≡ Some further.next.event
-        → rests_at index s ≡ option_map (rests ahead s) (link_at links s)
+        → rests_at index s ≡ rests_if ahead s (link_at links s)
     by_row None tells = absurd (cc tells)
     by_row (Some row) tells =
         let same : event.Define loader row.file ≡ further.next.event = same_Some (event.Define loader row.file) further.next.event tells in
         rests_on old ahead links index loader row.file further.order (subst (IsAcceptable old) (sym same) further.next.accepted)
         (further.next.step ∙ ap (step old) (sym same)) further.were_scratch further.rising further.indexed s
 
-    by_gone : (b : Bool) → (if b then None else rests_at index s) ≡ option_map (rests ahead s) (if b then None else link_at links s)
+    by_gone : (b : Bool) → (if b then None else rests_at index s) ≡ rests_if ahead s (if b then None else link_at links s)
     by_gone true = refl
     by_gone false = by_row (slice_get ahead.classes.rows c) (ap (event_of ahead.classes.rows) (sym is) ∙ further.next.tells)
 
@@ -135,7 +134,7 @@ module _ (old ahead : World) (told : Accepted) (links linked : List (ℕ × Link
   }
 
   stays : (s : ℕ) → has s sites ≡ false
-      → (kept false (link_at links s) (scratch ahead s) ≡ link_at links s) × (option_map (rests ahead s) (link_at links s) ≡ rests_at index s)
+      → (kept false (link_at links s) (scratch ahead s) ≡ link_at links s) × (rests_if ahead s (link_at links s) ≡ rests_at index s)
   stays s none = untouched_stays ahead (keys old e) (defined_by old e) (link_at links) index changed further.rising s (others s none).0
 
   pub links_taken : (left : List (ℕ × Link)) → ((s : ℕ) → link_at left s ≡ (if has s sites then link_at linked s else link_at links s))
@@ -152,10 +151,10 @@ module _ (old ahead : World) (told : Accepted) (links linked : List (ℕ × Link
   pub index_taken : (left : List (ℕ × Link)) → ((s : ℕ) → link_at left s ≡ (if has s sites then link_at linked s else link_at links s))
       → (near : List (ℕ × Rests)) → ((s : ℕ) → rests_at near s ≡ (if has s sites then rests_at far s else rests_at index s))
       → IsIndex ahead (link_at left) near
-  index_taken left taken near looked s = looked s ∙ by_site (has s sites) refl ∙ ap (option_map (rests ahead s)) (sym (taken s))
+  index_taken left taken near looked s = looked s ∙ by_site (has s sites) refl ∙ ap (rests_if ahead s) (sym (taken s))
     where
       by_site : (b : Bool) → has s sites ≡ b → (if b then rests_at far s else rests_at index s)
-          ≡ option_map (rests ahead s) (if b then link_at linked s else link_at links s)
+          ≡ rests_if ahead s (if b then link_at linked s else link_at links s)
       by_site true is = further.ahead_indexed s
       by_site false is = sym (stays s is).1
 

@@ -25,7 +25,7 @@ use Rattle.jl_resolve.proofs.Unchanged.{all_filter}
 use Rattle.jl_cache.specs.Links.{link_at}
 use Rattle.jl_deps.specs.declared.form.Rests.{Rests}
 use Rattle.jl_deps.specs.Forms.{rests}
-use Rattle.jl_deps.specs.Indexes.{rests_at, touched_by, AreRising, IsIndex}
+use Rattle.jl_deps.specs.Indexes.{rests_at, touched_by, AreRising, IsIndex, rests_if}
 use Rattle.jl_deps.proofs.TouchLaws.{passing, sites_rise}
 use Rattle.jl_events.specs.Accepted.{Accepted, event_of}
 use Rattle.jl_core.specs.ForProofs.Changes.{retires_at}
@@ -118,7 +118,7 @@ module _ (links : List (ℕ × Link)) (test : ℕ → Bool) (sites : List ℕ) (
       → (if has s sites then None else rests_at index s) ≡ (if test s then None else rests_at index s)
   taken_all w index indexed =
       ap (λ (o : Option Rests). if has s sites then None else o) (indexed s)
-      ∙ not_listed (rests w s) (has s sites) refl (test s) refl (link_at links s) refl
+      ∙ not_listed (λ l. rests w s) (has s sites) refl (test s) refl (link_at links s) refl
       ∙ ap (λ (o : Option Rests). if test s then None else o) (sym (indexed s))
 
   pub lost_all : (has s sites && is_some (link_at links s)) ≡ (test s && is_some (link_at links s))
@@ -144,9 +144,9 @@ module _ (w : World) (told : Accepted) (links left : List (ℕ × Link)) (index 
   links_left s l is = left_alone (retires_at w told s) (link_at links s) l (sym (dropped s) ∙ is)
 
   pub index_left : IsIndex w (link_at links) index → IsIndex w (link_at left) near
-  index_left indexed s = taken s ∙ by_test (retires_at w told s) ∙ ap (option_map (rests w s)) (sym (dropped s))
+  index_left indexed s = taken s ∙ by_test (retires_at w told s) ∙ ap (rests_if w s) (sym (dropped s))
     where
-      by_test : (b : Bool) → (if b then None else rests_at index s) ≡ option_map (rests w s) (if b then None else link_at links s)
+      by_test : (b : Bool) → (if b then None else rests_at index s) ≡ rests_if w s (if b then None else link_at links s)
       by_test true = refl
       by_test false = indexed s
 

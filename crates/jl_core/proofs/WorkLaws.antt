@@ -1,5 +1,5 @@
 -- How many evaluations an event may take, by the index and by the events.
-use Rattle.std.specs.Prelude.{◌≡◌, ◌≤◌, ◌+◌, ℕ, not, List, [], ◌∷◌, ◌++◌, filter, sum_by, length, Option, option_map}
+use Rattle.std.specs.Prelude.{◌≡◌, ◌≤◌, ◌+◌, ℕ, not, List, [], ◌∷◌, ◌++◌, filter, sum_by, length, Option}
 use Rattle.std.proofs.Common.{refl, ap, sym, ◌∙◌, arith, append-nil, append_assoc}
 use Rattle.std.proofs.lemmas.List.{map-append}
 use Rattle.jl_types.specs.declared.link.Link.{Link}
@@ -12,8 +12,7 @@ use Rattle.jl_types.specs.Events.Verdict.{step}
 use Rattle.jl_types.specs.Events.History.{world_after, installed}
 use Rattle.jl_types.specs.Events.Footprints.{bound, keys, most_for, touched}
 use Rattle.jl_deps.specs.declared.form.Rests.{Rests}
-use Rattle.jl_deps.specs.Forms.{rests}
-use Rattle.jl_deps.specs.Indexes.{AreRising, IsIndex, touched_by}
+use Rattle.jl_deps.specs.Indexes.{AreRising, IsIndex, touched_by, rests_if}
 use Rattle.jl_deps.proofs.BoundLaws.{touched_are_bounded}
 use Rattle.jl_events.specs.Judging.{most_to_judge}
 use Rattle.jl_core.specs.State.{State, events, IsAccepted}
@@ -36,7 +35,7 @@ module _ (h : List Event) (w : World) (links : ℕ → Option Link) (index : Lis
     (is_world : w ≡ world_after h) (are_links : (s : ℕ) → links s ≡ installed h s) (indexed : IsIndex w links index) where
   as_index : IsIndex (world_after h) (installed h) index
   as_index s =
-      indexed s ∙ (λ i. option_map (rests (is_world i) s) (are_links s i))
+      indexed s ∙ (λ i. rests_if (is_world i) s (are_links s i))
 
   touched_so : (e : Event) → length (touched_by index (keys w e)) ≡ length (touched h e)
   touched_so e =

@@ -34,7 +34,7 @@ use std::mem;
 /// The accepted events, each with its reply. A clause sees these, and how many sites there may be; what there is to link and which
 /// links are installed is what the events come to.
 ///
-/// Once an event was planned there is a second instance of all that is kept, at most one event behind, so that the next plan has
+/// Once an event was planned there is a second instance of all that is kept, which lacks one event at most, so that the next plan has
 /// where to make the event without a change of the core. Want of memory loses it, and so does a plan that is dropped; the next plan
 /// then copies what the core keeps.
 pub struct Core {
@@ -121,6 +121,20 @@ impl Core {
         Ok(reply)
     }
 
+    /// As [`apply`](Core::apply), for an event of which the caller knows that it is accepted: it isn't judged, so that of an install no link
+    /// is looked up. Want of memory is the only error, and nothing has changed then. What the change itself took is what
+    /// [`last_work`](Core::last_work) tells: of an install nothing.
+    pub fn apply_judged(&mut self, alloc: Global, event: Event) -> Result<Reply, AllocError>
+        requires { IsOk (verdict self.old.limits (world_of self.old) event) }
+        ensures accepted { IfOk result (IsAccepted self.old self.new event) }
+        ensures unchanged { OnErr result (self.new ≡ self.old) }
+    {
+        let mut work = Work::new();
+        let (after, reply) = self.perform_next(alloc, event, &mut work)?;
+        self.come_to(after, work.ticks());
+        Ok(reply)
+    }
+
     /// Looks up the links of these sites from scratch, and installs them: what is prepared by [`prepare`](Core::prepare) and installed by
     /// [`apply`](Core::apply), but each link is looked up once, since what was prepared in the same world is accepted. What that took is
     /// what [`last_work`](Core::last_work) tells.
@@ -145,7 +159,7 @@ impl Core {
         }
     }
 
-    /// The second instance, if there is none or it is one event behind, comes to be as the core is, so that the next event doesn't pay for
+    /// The second instance, if there is none or it lacks the last event, comes to be as the core is, so that the next event doesn't pay for
     /// the last one: a host calls this when it waits. No clause sees a change. Want of memory is an error, and the next event copies what
     /// the core keeps then.
     pub fn catch_up(&mut self, alloc: Global) -> Result<(), AllocError>

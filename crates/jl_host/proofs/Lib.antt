@@ -23,6 +23,7 @@ pub mod UnderWayLinks
 pub mod UnderWayTaken
 pub mod UnderWayCarried
 pub mod UnderWayMade
+pub mod ComingOver
 pub mod UnderWayUnmade
 pub mod UnderWayFilled
 pub mod UnderWayWhy

@@ -1,5 +1,5 @@
 -- `Numbers`, `Telling`, `Showing`, `Copies`, `Linkers`, `Seats`, `Memos`, `Reading`, `Targets`, `Views`, `Awaiting`, `Asking`, `Renewals`,
--- `Renewing` and `UnderWay` are what contracts cite; `Behind` is a means of proof.
+-- `Renewing` and `UnderWay` are what contracts cite; `Behind` and `Starts` are means of proof.
 pub mod Numbers
 pub mod Telling
 pub mod Showing

@@ -8,6 +8,7 @@ ghost use Rattle.jl_renewal.specs.declared.entries.CarryFault.TheVariants.{Refus
 ghost use Rattle.jl_renewal.specs.Renewal.{fresh_rows};
 ghost use Rattle.jl_host.specs.Linkers.{opened_over};
 ghost use Rattle.jl_host.specs.Renewing as renewing;
+ghost use Rattle.jl_host.specs.ForProofs.Starts.{ComesOver};
 ghost use Rattle.jl_host.specs.Renewing.{IsMade, IsUnmade, IsLinked, AreUnlinked, IsCarriedOn, IsUncarriedOn, HasCarried, StopsBefore};
 
 use crate::behind::{Links, catch_up, no_links};
@@ -16,14 +17,17 @@ use jl_cache::KeptLink;
 use jl_core::{Accepted, Core, Entry, Journal};
 use jl_names::Seq;
 use jl_relink::{Snapshot, World};
-use jl_renewal::{CarryFault, Released, Renumbering, carry, fresh_links, install_all, try_refill};
+use jl_renewal::{
+    CarryFault, Released, Renumbering, carry, fresh_links, install_fresh, renumbered_links,
+    try_refill,
+};
 use jl_types::{Event, Limits, Link, Part, Refusal, SiteNo, Target};
 use std::alloc::{AllocError, Global};
 use std::marker::Model;
 use std::sync::Arc;
 
 /// What there was at the begin of a renewal: what there was to link, the log of the events, which links were installed, and what its host
-/// had released. A clause sees these.
+/// had released. A clause sees these. Links come over by their numbers, so that none is looked up.
 pub(crate) struct Start {
     seen: Snapshot,
     past: Journal<Entry>,
@@ -55,6 +59,11 @@ impl Model for Start {
     ghost coded = { Prim.hlevel (codes, target_code) };
 
     ghost view = { λ s. record { seen = s.seen; past = s.past; sites = s.sites; links = s.links.value; released = s.released } };
+
+    ghost use Rattle.jl_host.specs.Renewing.{listed};
+    ghost use Rattle.jl_host.specs.ForProofs.Starts.{ComesOver};
+
+    ghost invariant = { λ s. ComesOver s.seen.world s.past s.released (listed s.links.value s.sites) };
 }
 
 impl Start {
@@ -66,6 +75,7 @@ impl Start {
         links: Arc<Links>,
         released: Released,
     ) -> Start
+        requires { ComesOver seen.world past released (renewing.listed links.value sites) }
         ensures { result ≡ record { seen = seen; past = past; sites = sites; links = links.value; released = released } }
     {
         Start {
@@ -99,8 +109,8 @@ impl Start {
         let old = self.seen.world();
         let numbers = try_refill(alloc, &mut core, old, &self.past, &self.released, limits)?;
         let linked = listed(alloc, &self.links, self.sites)?;
-        let rows = fresh_links(alloc, core.world(), linked.as_slice(), &numbers)?;
-        install_all(alloc, &mut core, rows.as_slice())?;
+        let rows = renumbered_links(alloc, linked.as_slice(), &numbers)?;
+        install_fresh(alloc, &mut core, rows.as_slice())?;
         let links = no_links(alloc, limits.sites)?;
         Ok(Fresh {
             core,

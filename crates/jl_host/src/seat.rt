@@ -42,8 +42,9 @@ impl Seat {
         Seat { seen: None }
     }
 
-    /// Gives the seat the linker's links and its count of classes as they are now. After events it costs the list of pages once, and
-    /// a page for each in which a link changed; then the next seats share what was made. Want of memory leaves what the seat has.
+    /// Gives the seat the linker's links and its count of classes as they are now. After events it costs the list of pages up to the last
+    /// one that ever had a link, and a page for each in which a link changed; then the next seats share what was made. Want of memory
+    /// leaves what the seat has.
     pub fn refresh(&mut self, alloc: Global, linker: &mut Linker) -> u32
         ensures { IsRefresh self.old linker.old result self.new linker.new }
     {

@@ -1,6 +1,6 @@
 -- The installs of a renewal are accepted.
 use Rattle.std.specs.Prelude.{◌≡◌, ◌<◌, ◌≤◌, ◌+◌, ℕ, zero, suc, Bool, List, [], ◌∷◌, ◌++◌, map, take, drop, min, length, get_or, Option, Some, None}
-use Rattle.std.specs.Prelude.{option_and_then, Result, Ok, Err, IsOk, All, AllPairs}
+use Rattle.std.specs.Prelude.{option_and_then, Result, Ok, Err, IsOk, OnErr, All, AllPairs}
 use Rattle.std.specs.List.{cons_option}
 use Rattle.std.proofs.Common.{refl, sym, ap, subst, ◌∙◌, arith, append_assoc, inl, inr}
 use Rattle.std.proofs.lemmas.List.{append-nil, map-append, take_min, drop_min}
@@ -242,4 +242,15 @@ stops rows left batch a b c r some same first so_far refused = record {
   refused =
       subst (λ (core : State). IsRefusedIn core (event.Install (take 256 left)) r) (sym same)
       (subst (λ (xs : List Row). IsRefusedIn b (event.Install xs) r) first (refused_in b (event.Install batch) r refused));
+}
+
+-- where memory lacks for the next of them
+pub lacks : {X E : Type 0} (rows left : List Row) (a b c : State) → 1 ≤ length left → c ≡ b → InstallsFront rows left a b
+    → (r : Result X E) → OnErr r (StopsAt rows a c Memory)
+lacks rows left a b c some same so_far (Ok x) = tt
+lacks rows left a b c some same so_far (Err e) = record {
+  left = left;
+  some = some;
+  front = subst (λ (core : State). InstallsFront rows left a core) (sym same) so_far;
+  refused = inl refl;
 }

@@ -62,6 +62,7 @@ pub mod LinkClasses
 pub mod LinkNumbers
 pub mod RenewedSites
 pub mod ComeOver
+pub mod NumberedLinks
 -- what the old core accepts after a renewal comes over
 pub mod MovedFollows
 pub mod MovedLists

@@ -1,5 +1,5 @@
 -- What stays of a world, under new numbers.
-use Rattle.std.specs.Prelude.{◌≡◌, ◌&&◌, ℕ, true, not, ⊤, List, [], map, filter, option_map, Result, Ok, Err}
+use Rattle.std.specs.Prelude.{◌≡◌, ◌&&◌, ℕ, nat_le, Bool, true, not, ⊤, List, [], map, filter, filter_map, length, Option, option_map, Result, Ok, Err}
 use Rattle.jl_types.specs.declared.ids.MethodId.{MethodId}
 use Rattle.jl_types.specs.declared.ids.Place.{Place}
 use Rattle.jl_types.specs.declared.answer.Answer.{Answer}
@@ -14,7 +14,7 @@ use Rattle.jl_types.specs.declared.link.Link.TheVariants.{Fault, Plain, Direct, 
 use Rattle.jl_types.specs.Values.World.{World, Class, Classes, CallSite, is_missing}
 use Rattle.jl_types.specs.Values.Members.{is_present}
 use Rattle.jl_renewal.specs.declared.released.Released.{Released}
-use Rattle.jl_renewal.specs.Numbers.{Numbers, staying, renumbered, renumbered_target}
+use Rattle.jl_renewal.specs.Numbers.{Numbers, staying, new_number, renumbered, renumbered_target}
 use Rattle.jl_renewal.specs.Staying.{numbers_of, staying_loaders, staying_classes, staying_sites, is_in_staying_class, staying_call_sites, staying_switches}
 
 -- ---- the world
@@ -80,6 +80,22 @@ renumbered_link n Mega = Mega
 abbrev pub renumbered_result : Numbers → Result Link Unlinked → Result Link Unlinked
 renumbered_result n (Ok l) = Ok (renumbered_link n l)
 renumbered_result n (Err reason) = Err reason
+
+-- the site with its link, both under new numbers, if the site stays
+abbrev pub renumbered_at : Numbers → ℕ × Link → Option (ℕ × Link)
+renumbered_at n row = option_map (λ s. (s, renumbered_link n row.1)) (new_number n.sites row.0)
+
+-- those of the sites that stay
+abbrev pub renumbered_links : Numbers → List (ℕ × Link) → List (ℕ × Link)
+renumbered_links n rows = filter_map (renumbered_at n) rows
+
+-- a table has eight rows at most, as that of each link from scratch
+abbrev pub has_few_rows : Link → Bool
+has_few_rows (Fault throwable) = true
+has_few_rows (Plain m) = true
+has_few_rows (Direct outcome) = true
+has_few_rows (Table kind rows) = nat_le (length rows) 8
+has_few_rows Mega = true
 
 -- ---- calls
 

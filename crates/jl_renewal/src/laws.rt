@@ -2,6 +2,7 @@
 
 ghost use Rattle.std.specs.Prelude.{◌≡◌, ◌↔◌, ℕ, nat_lt, List, ◌++◌, map, fold, Some, None, true, false, is_some, Contains, IsOk};
 ghost use Rattle.std.specs.Bool.{then_some};
+ghost use Rattle.std.specs.List.{list_all};
 ghost use Rattle.jl_types.specs.declared.limits.Limits.{Limits};
 ghost use Rattle.jl_types.specs.declared.refusal.Refusal.TheVariants.{SitesFull};
 ghost use Rattle.jl_types.specs.declared.answer.Recv.{Recv};
@@ -27,7 +28,8 @@ ghost use Rattle.jl_renewal.specs.Adds.{Follow, Installs, InstallsFront};
 ghost use Rattle.jl_renewal.specs.Carries.{carried, IsMade};
 ghost use Rattle.jl_renewal.specs.Moved.{Flags, flags_of, AreThere, may_be_gone, moved_world, IsBeside, HaveSameLinks, HasNoOtherLinks, HasLinksOf};
 ghost use Rattle.jl_renewal.specs.Moved.{renumbered_install};
-ghost use Rattle.jl_renewal.specs.Renewed.{renewed, renumbered_result, renumbered_answer, renumbered_receiver, IsPresentReceiver};
+ghost use Rattle.jl_renewal.specs.Renewed.{has_few_rows, renewed, renumbered_links, renumbered_result};
+ghost use Rattle.jl_renewal.specs.Renewed.{renumbered_answer, renumbered_receiver, IsPresentReceiver};
 
 /// No event of a renewal is refused where the fresh core may have what stays, and what there is to link there is what stays of the old one.
 pub fn renewals_are_accepted()
@@ -65,6 +67,15 @@ pub fn links_come_over()
     ensures { (old fresh : State) (released : Released) (limits : Limits) (numbers : Numbers) → AreAccepted old.limits (events old)
         → IsRenewal old released limits (fresh, numbers)
         → (k : ℕ) (l : Link) → Contains (links_of fresh) (k, l) ↔ CameFrom (links_of old) numbers k l }
+{}
+
+/// In a core that was refilled, what stays of the old core's links has under new numbers the very links that the sites have from scratch there.
+/// Each link of a core is of few rows.
+pub fn links_come_by_number()
+    ensures rows { (old before fresh : State) (entries : List Entry) (released : Released) (n : Numbers) → AreAccepted old.limits (events old)
+        → IsRefilled (world_of old) entries released n before fresh
+        → fresh_rows (world_of fresh) n (links_of old) ≡ renumbered_links n (links_of old) }
+    ensures few { (core : State) → list_all (λ row. has_few_rows row.1) (links_of core) ≡ true }
 {}
 
 /// Whatever an old core accepts after a renewal, the fresh one accepts under new numbers, where no event names what is gone and it may have as

@@ -26,10 +26,10 @@ mod targets;
 pub use entries::{CarryFault, carry};
 pub use laws::{
     entries_come_over, fresh_cores_stay_beside, installed_links_stay_beside, linking_commutes,
-    linking_commutes_beside, links_come_over, links_may_be_installed_later,
+    linking_commutes_beside, links_come_by_number, links_come_over, links_may_be_installed_later,
     links_may_be_read_later, only_sites_can_be_short, renewals_are_accepted,
 };
-pub use links::{fresh_links, install_all};
+pub use links::{fresh_links, install_all, install_fresh, renumbered_links};
 pub use numbers::Renumbering;
 pub use present::{Counts, counts_present};
 pub use released::Released;

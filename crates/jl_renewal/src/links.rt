@@ -1,18 +1,22 @@
 //! The links of the fresh core.
 
-ghost use Rattle.std.specs.Prelude.{◌≡◌, ◌++◌, option_and_then, option_to_list, IfOk, IfErr, OnOk};
+ghost use Rattle.std.specs.Prelude.{◌≡◌, ◌≤◌, ◌++◌, true, map, length, option_and_then, option_to_list, IfOk, IfErr, OnOk, OnErr};
+ghost use Rattle.std.specs.List.{list_all};
 ghost use Rattle.jl_types.specs.declared.refusal.Refusal.TheVariants.{Memory};
 ghost use Rattle.jl_types.specs.Linkage.Links.{scratch};
 ghost use Rattle.jl_core.specs.State.{world_of};
 ghost use Rattle.jl_renewal.specs.Renewal as renewal;
 ghost use Rattle.jl_renewal.specs.Renewal.{fresh_rows};
+ghost use Rattle.jl_renewal.specs.Renewed as renewed;
+ghost use Rattle.jl_renewal.specs.Renewed.{has_few_rows};
 ghost use Rattle.jl_renewal.specs.Adds.{AreFresh, Installs, StopsAt};
 
 use crate::numbers::Renumbering;
+use crate::targets::{renumbered_class, renumbered_method};
 use jl_core::EventMachine;
 use jl_names::Seq;
 use jl_relink::{World, link_of};
-use jl_types::{Event, Link, Refusal, SiteNo};
+use jl_types::{ClassId, Event, Link, Outcome, Refusal, SiteNo, Table};
 use std::alloc::{AllocError, Global};
 
 /// How many links are installed at a time.
@@ -42,6 +46,27 @@ pub fn install_all<M: EventMachine>(
     Ok(())
 }
 
+/// As [`install_all`], of links that are known to be those that their sites have from scratch, and whose sites rise: none is looked up.
+///
+/// Want of memory is the only error. The links before those that lacked it are installed then.
+pub fn install_fresh<M: EventMachine>(
+    alloc: Global,
+    fresh: &mut M,
+    rows: &[(SiteNo, Link)],
+) -> Result<(), AllocError>
+    requires { AreFresh (world_of (M.state fresh.old)) rows.now }
+    ensures installs { OnOk result (Installs rows.now (M.state fresh.old) (M.state fresh.new)) }
+    ensures stops { OnErr result (StopsAt rows.now (M.state fresh.old) (M.state fresh.new) Memory) }
+{
+    let mut rest = rows;
+    while !rest.is_empty() {
+        let (batch, later) = rest.split_at(BATCH.min(rest.len()));
+        fresh.accept_judged(alloc, Event::Install(Seq::of(batch.to_vec(alloc)?)))?;
+        rest = later;
+    }
+    Ok(())
+}
+
 /// Of the sites that had a link those that stay, under their new numbers, each with its link from scratch in the fresh world. Want of
 /// memory is an error.
 pub fn fresh_links(
@@ -57,6 +82,72 @@ pub fn fresh_links(
         push_if_any(&mut rows, row_of(fresh, numbers.site(one.0)))?;
     }
     Ok(rows)
+}
+
+/// Of the sites that had a link those that stay, with that link, both under their new numbers. No table has more than eight rows, as none of
+/// a core has. Nothing is looked up: right after a refill these are the rows that [`fresh_links`] tells, as the law
+/// [`links_come_by_number`](crate::links_come_by_number) says. Want of memory is an error.
+pub fn renumbered_links(
+    alloc: Global,
+    linked: &[(SiteNo, Link)],
+    numbers: &Renumbering,
+) -> Result<Vec<(SiteNo, Link)>, AllocError>
+    requires { list_all (λ row. has_few_rows row.1) linked.now ≡ true }
+    ensures { IfOk result (λ rows. rows.items ≡ renewed.renumbered_links numbers.now linked.now) }
+{
+    let mut rows = Vec::with_capacity(alloc, linked.len())?;
+    for one in linked {
+        push_if_any(&mut rows, renumbered_at(numbers, one.0, &one.1))?;
+    }
+    Ok(rows)
+}
+
+/// The site with its link, both under new numbers, if the site stays.
+fn renumbered_at(numbers: &Renumbering, site: SiteNo, link: &Link) -> Option<(SiteNo, Link)>
+    requires { has_few_rows link.now ≡ true }
+    ensures { result ≡ renewed.renumbered_at numbers.now (site, link.now) }
+{
+    let site = numbers.site(site)?;
+    Some((site, renumbered_link(numbers, link)))
+}
+
+/// The link under new numbers, 0 for what goes.
+fn renumbered_link(numbers: &Renumbering, link: &Link) -> Link
+    requires { has_few_rows link.now ≡ true }
+    ensures { result ≡ renewed.renumbered_link numbers.now link.now }
+{
+    match link {
+        Link::Fault(throwable) => Link::Fault(*throwable),
+        Link::Plain(method) => Link::Plain(renumbered_method(numbers, method)),
+        Link::Direct(outcome) => Link::Direct(renumbered_outcome(numbers, outcome)),
+        Link::Table(kind, table) => Link::Table(*kind, renumbered_rows(numbers, table.as_slice())),
+        Link::Mega => Link::Mega,
+    }
+}
+
+/// The table of these rows under new numbers.
+fn renumbered_rows(numbers: &Renumbering, rows: &[(ClassId, Outcome)]) -> Table
+    requires { length rows.now ≤ 8 }
+    ensures { result ≡ map (renewed.renumbered_row numbers.now) rows.now }
+{
+    let mut table = Table::new();
+    for row in rows {
+        table.push(
+            renumbered_class(numbers, row.0),
+            renumbered_outcome(numbers, &row.1),
+        );
+    }
+    table
+}
+
+/// The outcome under new numbers.
+fn renumbered_outcome(numbers: &Renumbering, outcome: &Outcome) -> Outcome
+    ensures { result ≡ renewed.renumbered_outcome numbers.now outcome.now }
+{
+    match outcome {
+        Outcome::Run(method) => Outcome::Run(renumbered_method(numbers, method)),
+        Outcome::Throws(throwable) => Outcome::Throws(*throwable),
+    }
 }
 
 /// Adds the row, if there is one. Want of memory is an error.

@@ -9,7 +9,7 @@ ghost use Rattle.jl_core.specs.State.{world_of, empty_core};
 
 use crate::call_sites::{add_call_sites, add_invalidation, add_switches};
 use crate::classes::{add_classes, add_loaders};
-use crate::links::{fresh_links, install_all};
+use crate::links::{install_fresh, renumbered_links};
 use crate::numbers::Renumbering;
 use crate::places::{add_bindings, add_requests};
 use crate::released::Released;
@@ -42,13 +42,13 @@ pub fn renew(
     let old = core.world();
     let numbers = refill(alloc, &mut fresh, old, core.log(), released, limits)?;
     let linked = core.list_links(alloc)?;
-    let rows = fresh_links(alloc, fresh.world(), linked.as_slice(), &numbers)?;
-    install_all(alloc, &mut fresh, rows.as_slice())?;
+    let rows = renumbered_links(alloc, linked.as_slice(), &numbers)?;
+    install_fresh(alloc, &mut fresh, rows.as_slice())?;
     Ok((fresh, numbers))
 }
 
 /// Gives an empty core of these limits, or what keeps one, what stays of an old one, whose world and log these are, but for its links: those
-/// that [`fresh_links`] tells are then to be installed by [`install_all`]. The log may have [forgotten](Core::forget) what is past.
+/// that [`fresh_links`](crate::fresh_links) tells are then to be installed by [`install_fresh`]. The log may have [forgotten](Core::forget) what is past.
 ///
 /// # Errors
 ///

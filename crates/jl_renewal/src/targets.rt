@@ -35,7 +35,14 @@ pub(crate) fn renumbered_method(numbers: &Renumbering, method: &MethodId) -> Met
     ensures { result ≡ record method.now { class = renumbered numbers.now.classes method.now.class } }
 {
     MethodId {
-        class: numbers.class(method.class).unwrap_or(ClassId::new(0)),
+        class: renumbered_class(numbers, method.class),
         index: method.index,
     }
+}
+
+/// The class's new number, 0 where it goes.
+pub(crate) fn renumbered_class(numbers: &Renumbering, class: ClassId) -> ClassId
+    ensures { result ≡ renumbered numbers.now.classes class }
+{
+    numbers.class(class).unwrap_or(ClassId::new(0))
 }

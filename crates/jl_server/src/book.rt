@@ -285,7 +285,7 @@ impl<K: Name, R: Wait + Drop> Book<K, R> {
 }
 
 /// A book takes events as a core does, and its table shows them: each is one [`step`](Book::step), of which the reply or the refusal alone
-/// is handed on.
+/// is handed on. One that is known to be accepted is as one that was judged after the present list.
 impl<K: Name, R: Wait + Drop> EventMachine for Book<K, R> {
     ghost use Rattle.jl_server.specs.History.{core_of};
 
@@ -305,6 +305,25 @@ impl<K: Name, R: Wait + Drop> EventMachine for Book<K, R> {
             event,
             judged,
         )
+    }
+
+    fn accept_judged(&mut self, alloc: Global, event: Event) -> Result<Reply, AllocError> {
+        let judged = self.list.again();
+        let stepped = step_on(
+            &self.rt,
+            alloc,
+            &mut self.core,
+            &mut self.head,
+            &mut self.list,
+            &mut self.since,
+            &mut self.writer,
+            event,
+            Some(&judged),
+        );
+        match stepped {
+            Ok(reply) => Ok(reply),
+            Err(_) => Err(AllocError),
+        }
     }
 }
 

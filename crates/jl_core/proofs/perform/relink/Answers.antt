@@ -64,6 +64,6 @@ returns-in_ok-lost-in-Retire-clause-up_to_date c =
 
 pub returns-in_ok-lost-in-RetireAll-clause-up_to_date : goal.returns-in_ok-lost-in-RetireAll-clause-up_to_date
 returns-in_ok-lost-in-RetireAll-clause-up_to_date c =
-    subst (λ (told : Accepted). AreUpToDate c.args.world.now (λ s. installs_at s told) (link_at c.args.links.now) (link_at c.retire_links-in-RetireAll.new.links)
-    c.retire_links-in-RetireAll.new.index c.in_ok-lost-in-RetireAll.lost.items)
+    subst (λ (told : Accepted). AreUpToDate c.args.world.now (λ s. installs_at s told) (link_at c.args.links.now)
+    (link_at c.retire_links-in-RetireAll.new.links) c.retire_links-in-RetireAll.new.index c.in_ok-lost-in-RetireAll.lost.items)
     (sym c.in-RetireAll.is) c.in_ok-lost-in-RetireAll.ensures.up_to_date

@@ -7,7 +7,19 @@ use Rattle.jl_host.specs.Linkers.{Opened}
 use Rattle.jl_host.specs.Seats.{seen_of}
 use Rattle.jl_host.specs.Renewals.{limits_for, released_of, counts_of}
 use Rattle.jl_host.specs.Renewing.{Renewing, AreEntries, HasBegun, begun_from}
+use Rattle.jl_host.proofs.ComingOver.{comes_over}
 use Rattle.jl_host.proofs.opened.Opened.begun.Goals as goal
+
+pub new-start-requires : goal.new-start-requires
+new-start-requires c =
+    let here = ap (λ (o : Opened). o.session.core) (c.links_now.ensures.same ∙ c.self.view_is) in
+    let core : ◌≡◌ {A = State} c.args.self.now.session.core c.core-2.result.now = sym (c.core-2.ensures ∙ here) in
+    comes_over c.core-2.result.now c.in_ok-released.released _ c.in_ok-past.past c.log.result.now _ _ c.log.ensures.answered c.log.ensures.files
+    c.log.ensures.events
+    (ap (λ snapshot. snapshot.world) c.in_ok-seen.ensures.snapshot ∙ (ap world_of (c.core.ensures ∙ here) ∙ ap world_of core))
+    c.in_ok-past.ensures
+    (c.in_ok-links.ensures.links ∙ (ap (λ (o : Opened). (seen_of o.session.core).links) c.self.view_is ∙ ap (λ (s : State). (seen_of s).links) core))
+    (ap (λ counts. counts.sites) (c.counts.ensures ∙ ap (λ (s : State). counts_of (world_of s)) (here ∙ core)))
 
 pub returns-clause-begun : goal.returns-clause-begun
 returns-clause-begun c =
