@@ -4,7 +4,7 @@
  *                                1,024 sites beside each other, and spread over all. The array is looked up within the program, and, as a
  *                                library's call would be, behind a call (bench/look_up.c)
  *     seats memos [CALLS]        the same, of calls at megamorphic links
- *     seats refresh [EVENTS]     microseconds of a refresh behind one change, of EVENTS (500)
+ *     seats refresh [EVENTS [ROOM]]     microseconds of a refresh behind one change, of EVENTS (500), of a linker opened for ROOM (65,536) sites
  *
  * The linker has 65,536 sites, all requested and installed: 256 classes M0, M1, .. call A.f, which B overrides, and C.f, which D leaves as it
  * is, 128 times each; one site less is an invokedynamic's. For memos they call E.f in the place of C.f, and sixteen classes below E override it. The
@@ -118,6 +118,7 @@ static void dynamic_call(const char *name) {
 
 static linkd *linker;
 static linkd_told told;
+static uint32_t room = SITES;
 
 /* Defines the public class of the methods that were written, and forgets them. Gives its number. */
 static uint32_t define(const char *name, const char *super) {
@@ -157,7 +158,7 @@ static void make(bool megamorphic) {
     char runs[64];
     linker = block(linkd_size(), linkd_align());
     linkd_blank(linker);
-    must(linkd_open(linker, SITES) == LINKD_DONE, "the linker isn't opened");
+    must(linkd_open(linker, room) == LINKD_DONE, "the linker isn't opened");
     define("java/lang/Object", NULL);
     plain_method("f", 1), a = define("A", "java/lang/Object");
     plain_method("f", 1), b = define("B", "A");
@@ -405,7 +406,7 @@ static void measure_refresh(long events) {
         refreshing[i] = (refreshed - made) * 1e6;
         again[i] = (end - refreshed) * 1e6;
     }
-    printf("%d sites installed, %ld events that change one link, the middle of each\n", SITES, events);
+    printf("%d sites installed of %u that may be, %ld events that change one link, the middle of each\n", SITES, room, events);
     tell("a new target, and its site installed", making, events);
     tell("a refresh behind that", refreshing, events);
     tell("a refresh behind nothing", again, events);
@@ -415,14 +416,16 @@ static void measure_refresh(long events) {
 
 int main(int argc, char **argv) {
     long count = argc > 2 ? atol(argv[2]) : 0;
-    if (argc < 2 || argc > 3 || (argc > 2 && count < 1)
+    bool refreshes = argc > 1 && strcmp(argv[1], "refresh") == 0;
+    if (argc > 3) room = (uint32_t)atol(argv[3]);
+    if (argc < 2 || argc > (refreshes ? 4 : 3) || (argc > 2 && count < 1) || room < SITES
         || (strcmp(argv[1], "calls") != 0 && strcmp(argv[1], "memos") != 0 && strcmp(argv[1], "refresh") != 0)) {
-        fprintf(stderr, "seats: calls [CALLS], memos [CALLS], or refresh [EVENTS]\n");
+        fprintf(stderr, "seats: calls [CALLS], memos [CALLS], or refresh [EVENTS [ROOM]]\n");
         return 2;
     }
     bool megamorphic = strcmp(argv[1], "memos") == 0;
     make(megamorphic);
-    if (strcmp(argv[1], "refresh") == 0) {
+    if (refreshes) {
         measure_refresh(count > 0 ? count : 500);
     } else {
         if (count > 0) calls = count;

@@ -29,7 +29,9 @@ echo "== calls"
 echo "== calls at megamorphic links"
 "$work/seats" memos "${CALLS:-2000000}"
 echo "== refreshes"
-"$work/seats" refresh "${EVENTS:-500}"
+for room in 65536 1048576; do
+    "$work/seats" refresh "${EVENTS:-500}" "$room"
+done
 if [ $# = 0 ]; then
     exit 0
 fi

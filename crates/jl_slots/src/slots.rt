@@ -2,17 +2,20 @@
 
 ghost use Rattle.std.specs.Prelude.{◌≡◌, ◌<◌, ◌≤◌, ◌*◌, length, replicate, slice_get, slice_set, IfOk, OnOk, OnErr};
 ghost use Rattle.std.specs.Option.{option_copied};
-ghost use Rattle.jl_slots.specs.ForProofs.Pages.{elements, AreWhole};
+ghost use Rattle.jl_slots.specs.ForProofs.Pages.{elements, AreWhole, all_pages};
 
 use crate::fixed_page::{FixedPage, PAGE};
 use jl_pages::Again;
 use std::alloc::{AllocError, Global};
 use std::marker::Model;
 
-/// A list of a fixed length, in pages of 256 that copies share. A clause sees its elements.
+/// A list of a fixed length, in pages of 256 that copies share. Pages are listed up to the last one that was ever written, and each later
+/// one is as it was at first. A clause sees all elements.
 pub struct Slots<T> {
     alloc: Global,
     pages: Vec<FixedPage<T>>,
+    blank: FixedPage<T>,
+    count: usize,
 }
 
 /// Written out, so that what drops one makes one call of it and doesn't take apart what it holds.
@@ -21,30 +24,33 @@ impl<T: Drop> Drop for Slots<T> {
         let Slots {
             alloc: _alloc,
             pages: _pages,
+            blank: _blank,
+            count: _count,
         } = self;
     }
 }
 
 impl<T> Model for Slots<T> {
     ghost use Rattle.std.specs.Prelude.{List};
-    ghost use Rattle.jl_slots.specs.ForProofs.Pages.{elements, AreWhole};
+    ghost use Rattle.jl_slots.specs.ForProofs.Pages.{elements, AreWhole, all_pages};
 
     ghost Value = { List T };
 
-    ghost view = { λ s. elements s.pages.items };
+    ghost view = { λ s. elements (all_pages s.pages.items s.blank s.count) };
 
-    ghost invariant = { λ s. AreWhole s.pages.items };
+    ghost invariant = { λ s. AreWhole (all_pages s.pages.items s.blank s.count) };
 }
 
 impl<T: Again> Slots<T> {
-    /// So many pages with this element at each place: one page that they share. Want of memory is an error.
+    /// So many pages with this element at each place, of which none is listed yet. Want of memory is an error.
     pub fn filled(alloc: Global, element: T, pages: usize) -> Result<Slots<T>, AllocError>
         ensures { IfOk result (λ slots. slots ≡ replicate (256 * pages) element) }
     {
-        let page = FixedPage::filled(alloc, element)?;
         Ok(Slots {
             alloc,
-            pages: repeated(alloc, &page, pages)?,
+            pages: Vec::new(alloc),
+            blank: FixedPage::filled(alloc, element)?,
+            count: pages,
         })
     }
 
@@ -58,7 +64,7 @@ impl<T: Again> Slots<T> {
         ensures ok { OnOk result (self.new ≡ slice_set self.old place element) }
         ensures err { OnErr result (self.new ≡ self.old) }
     {
-        set_in(self.pages.as_mut_slice(), place, element)
+        set_in(&mut self.pages, &self.blank, self.count, place, element)
     }
 }
 
@@ -69,12 +75,13 @@ impl<T> Slots<T> {
     {
         match page_at(self.pages.as_slice(), place / PAGE) {
             Some(page) => page.get(place % PAGE),
+            None if place / PAGE < self.count => self.blank.get(place % PAGE),
             None => None,
         }
     }
 }
 
-/// The same list once more, which shares all pages. Want of memory is an error.
+/// The same list once more, which shares all pages. It takes as long as pages are listed. Want of memory is an error.
 impl<T: Drop> Clone for Slots<T> {
     ghost is_clone = { λ slots copy. copy ≡ slots };
 
@@ -82,6 +89,8 @@ impl<T: Drop> Clone for Slots<T> {
         Ok(Slots {
             alloc: self.alloc,
             pages: copies(self.alloc, self.pages.as_slice())?,
+            blank: self.blank.copy()?,
+            count: self.count,
         })
     }
 }
@@ -93,34 +102,48 @@ fn page_at<T>(pages: &[FixedPage<T>], place: usize) -> Option<&FixedPage<T>>
     pages.get(place)
 }
 
-/// Writes the element at the place of all elements.
+/// Writes the element at the place of all elements, in a page that is listed by then.
 ///
 /// # Errors
 ///
 /// Want of memory. Nothing has changed then.
-fn set_in<T: Again>(pages: &mut [FixedPage<T>], place: usize, element: T) -> Result<(), AllocError>
-    requires whole { AreWhole pages.old }
-    requires within { place < length (elements pages.old) }
-    ensures whole { AreWhole pages.new }
-    ensures ok { OnOk result (elements pages.new ≡ slice_set (elements pages.old) place element) }
-    ensures err { OnErr result (elements pages.new ≡ elements pages.old) }
+fn set_in<T: Again>(
+    pages: &mut Vec<FixedPage<T>>,
+    blank: &FixedPage<T>,
+    count: usize,
+    place: usize,
+    element: T,
+) -> Result<(), AllocError>
+    requires whole { AreWhole (all_pages pages.old.items blank.now count) }
+    requires within { place < length (elements (all_pages pages.old.items blank.now count)) }
+    ensures whole { AreWhole (all_pages pages.new.items blank.now count) }
+    ensures ok { OnOk result (elements (all_pages pages.new.items blank.now count)
+        ≡ slice_set (elements (all_pages pages.old.items blank.now count)) place element) }
+    ensures err { OnErr result (elements (all_pages pages.new.items blank.now count) ≡ elements (all_pages pages.old.items blank.now count)) }
 {
+    list_to(pages, blank, count, place / PAGE)?;
     pages[place / PAGE].set(place % PAGE, element)
 }
 
-/// So many copies of a page, which all share. Want of memory is an error.
-fn repeated<T: Drop>(
-    alloc: Global,
-    page: &FixedPage<T>,
+/// Lists the pages up to this one as they are.
+///
+/// # Errors
+///
+/// Want of memory. All pages are as before then, too.
+fn list_to<T: Drop>(
+    pages: &mut Vec<FixedPage<T>>,
+    blank: &FixedPage<T>,
     count: usize,
-) -> Result<Vec<FixedPage<T>>, AllocError>
-    ensures { IfOk result (λ made. made.items ≡ replicate count page.now) }
+    page: usize,
+) -> Result<(), AllocError>
+    requires { page < length (all_pages pages.old.items blank.now count) }
+    ensures same { all_pages pages.new.items blank.now count ≡ all_pages pages.old.items blank.now count }
+    ensures listed { OnOk result (page < length pages.new.items) }
 {
-    let mut made = Vec::with_capacity(alloc, count)?;
-    for _ in 0..count {
-        made.push(page.copy()?)?;
+    while pages.len() <= page {
+        pages.push(blank.copy()?)?;
     }
-    Ok(made)
+    Ok(())
 }
 
 /// The same pages once more, which both share. Want of memory is an error.
