@@ -27,13 +27,24 @@ nm --defined-only -g "$work/liblinkd.a" | awk '$2 ~ /^[TW]$/ && $3 ~ /^linkd_/ {
 diff "$work/declared" "$work/exported"
 test -s "$work/declared"
 
-echo "== the header as C99, as C++98 and as C++11"
+echo "== the header as C99, C11, C++98, C++11 and C++17"
 printf '#include "linkd.h"\n#include "linkd.h"\nint main(void) { return LINKD_DONE; }\n' > "$work/header.c"
 cp "$work/header.c" "$work/header.cpp"
 strict="-pedantic -Wall -Wextra -Werror -fsyntax-only"
 cc -std=c99 $strict -I"$top/include" "$work/header.c"
+cc -std=c11 $strict -I"$top/include" "$work/header.c" "$top/bench/layout.c"
 c++ -std=c++98 $strict -Wno-long-long -I"$top/include" "$work/header.cpp"
-c++ -std=c++11 $strict -I"$top/include" "$work/header.cpp"
+c++ -std=c++11 $strict -I"$top/include" "$work/header.cpp" -x c++ "$top/bench/layout.c"
+c++ -std=c++17 $strict -I"$top/include" "$work/header.cpp" -x c++ "$top/bench/layout.c"
+# A switch that leaves a status out gets a warning.
+printf '#include "linkd.h"\nint is_done(linkd_status is) { switch (is) { case LINKD_DONE: return 1; } return 0; }\n' > "$work/less.c"
+for compiler in "cc -std=c11" "c++ -std=c++11 -x c++"; do
+    if $compiler -Wall -Werror -fsyntax-only -I"$top/include" "$work/less.c" 2> "$work/warned.txt"; then
+        echo "$compiler takes a switch that leaves statuses out" >&2
+        exit 1
+    fi
+    grep -q LINKD_RELEASED "$work/warned.txt"
+done
 
 echo "== each call, with its refusals"
 build_c "$work/statuses" "$top/bench/statuses.c"
@@ -70,6 +81,23 @@ java "$work/Take.java" "$work/classes/Object.class"
 java -cp "$work/classes" Main
 cp -r "$work/classes" "$work/compiled"
 javac --release 17 -Xlint:all -cp "$work/classes" -d "$work/compiled" "$host"/dynamic/*.java
+
+echo "== a made class that calls a private method"
+mkdir "$work/nest"
+javac --release 17 -Xlint:all -d "$work/nest" "$host"/nest/*.java
+cp "$work/classes/Object.class" "$work/nest"
+build_c "$work/nest_c" "$host/nest.c"
+for words in "Adder Adder" 'Adder Adder$Twice' "Doubler Doubler"; do
+    valgrind -q --leak-check=full --error-exitcode=99 "$work/nest_c" "$work/nest" $words
+done | tee "$work/told.txt"
+diff "$work/told.txt" - <<'TOLD'
+Adder as its file is: IllegalAccessError
+Adder with Adder$$Made$0 in its NestMembers: Adder.lambda$one$0 runs
+Adder as its file is: IllegalAccessError
+Adder with Adder$Twice$$Made$0 in its NestMembers: Adder$Twice.lambda$two$0 runs
+Doubler as its file is: IllegalAccessError
+Doubler with Doubler$$Made$0 in its NestMembers: Doubler.lambda$doubler$0 runs
+TOLD
 
 echo "== the hosts in C"
 build_c "$work/host_c" "$host/host.c"

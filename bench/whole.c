@@ -178,7 +178,7 @@ static size_t install_each(const uint32_t *list, size_t count) {
 
 static void link_of(size_t site, linkd_link *link) {
     done(linkd_link_of(linker, (uint32_t)site, link), "a link");
-    must(link->kind < KINDS, "no link's kind");
+    must((size_t)link->kind < KINDS, "no link's kind");
 }
 
 static bool is_table(const linkd_link *link) { return link->kind == LINKD_VIRTUAL_TABLE || link->kind == LINKD_INTERFACE_TABLE; }

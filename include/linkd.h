@@ -31,7 +31,7 @@
 extern "C" {
 #endif
 
-/* Grows with each change of this header; linkd_version() tells it of the library. */
+/* Grows with each change of this header that a library has to follow; linkd_version() tells it of the library. */
 #define LINKD_VERSION 10
 
 typedef struct linkd linkd;
@@ -42,8 +42,9 @@ typedef struct linkd_renewal linkd_renewal;
 
 /* What a call answers: LINKD_DONE, why the linker refuses an event, or why it wasn't asked. But where it was done the linker and the
  * seat are as before, unless linkd_answer lacks memory (see there). The sections named are those of the Java Virtual Machine
- * Specification, SE 17. */
-enum linkd_status {
+ * Specification, SE 17. The enum of a fault, a cause or a value depends on the status or the kind, so it is a uint32_t: cast it before a
+ * switch, as to linkd_define_fault. */
+typedef enum linkd_status {
     LINKD_DONE = 0,
     LINKD_DEFINE = 1,          /* a class isn't defined (5.3.5): fault is a linkd_define_fault */
     LINKD_UNKNOWN_CLASS = 2,   /* there is no class of this number or name; of a request, also a retired one */
@@ -70,7 +71,7 @@ enum linkd_status {
     LINKD_OPEN_ALREADY = 35,   /* of a renewal, that it has begun */
     LINKD_TOO_SHORT = 36,      /* the array is too short; the length that is wanted was written, where there is a place for it */
     LINKD_RELEASED = 37        /* since a renewal's begin an event has named what was released: see at linkd_renewal_fill */
-};
+} linkd_status;
 
 /* What an event made, or why it was refused; each number that says nothing is 0. It is written whatever the status is. */
 typedef struct linkd_told {
@@ -81,7 +82,7 @@ typedef struct linkd_told {
     uint32_t at;     /* the pc of a fault of a code */
 } linkd_told;
 
-enum linkd_define_fault {
+typedef enum linkd_define_fault {
     LINKD_UNKNOWN_LOADER = 1, /* never made, or retired */
     LINKD_ALREADY_RECORDED = 2,
     LINKD_NAMES_ITSELF = 3,
@@ -92,21 +93,21 @@ enum linkd_define_fault {
     LINKD_INACCESSIBLE_PARENT = 8,
     LINKD_SECOND_OBJECT = 9,
     LINKD_CLASSES_FULL = 10 /* there are as many as the linker may have */
-};
+} linkd_define_fault;
 
 /* Why an invocation is never linked. */
-enum linkd_not_linkable_fault {
+typedef enum linkd_not_linkable_fault {
     LINKD_ARRAY_RECEIVER = 1,       /* it names an array type */
     LINKD_POLYMORPHIC_SIGNATURE = 2 /* it names a method of MethodHandle or VarHandle of java.lang.invoke (2.9.3) */
-};
+} linkd_not_linkable_fault;
 
-enum linkd_delegate_fault {
+typedef enum linkd_delegate_fault {
     LINKD_DELEGATE_UNKNOWN_LOADER = 1, /* one of the two was never made, or is retired */
     LINKD_DELEGATE_NOT_RECORDED = 2,   /* the other loader finds no class under the name */
     LINKD_DELEGATE_ALREADY_RECORDED = 3
-};
+} linkd_delegate_fault;
 
-enum linkd_call_site_fault {
+typedef enum linkd_call_site_fault {
     LINKD_UNKNOWN_CALL_SITE = 1, /* never made, or released */
     LINKD_CONSTANT = 2,
     LINKD_WRONG_TYPE = 3,
@@ -116,26 +117,26 @@ enum linkd_call_site_fault {
     LINKD_TOO_DEEP = 7,
     LINKD_CALL_SITES_FULL = 8, /* there are as many as the linker may have; of a new switch point, as many of these */
     LINKD_INVOKER_ORDER = 9 /* place is the call site that the target invokes */
-};
+} linkd_call_site_fault;
 
-enum linkd_retire_fault {
+typedef enum linkd_retire_fault {
     LINKD_NO_LOADER = 1,    /* never made, or retired */
     LINKD_FIRST_LOADER = 2, /* loader 0 stays */
     LINKD_INHERITED = 3,    /* place is the least class of a loader that stays that has an ancestor in this one */
     LINKD_RECORDED = 4,     /* place is the least loader that stays and records a class of this one */
     LINKD_TARGETED = 5      /* place is the least call site whose target names a method of one of its classes */
-};
+} linkd_retire_fault;
 
 /* Why call sites and switch points aren't let go. A target names what stands on a side that isn't taken, too. */
-enum linkd_release_fault {
+typedef enum linkd_release_fault {
     LINKD_NO_CALL_SITE = 1, /* place is the first call site in the array that was never made, or is released */
     LINKD_NO_SWITCH = 2,    /* place is the first switch point in the array that was never made, or is released */
     LINKD_INVOKED = 3,      /* place is the least call site that stays and whose target invokes one of the call sites */
     LINKD_GUARDED = 4       /* place is the least call site that stays and whose target guards by one of the switch points */
-};
+} linkd_release_fault;
 
 /* Why bytes are no class file (chapter 4). */
-enum linkd_class_fault {
+typedef enum linkd_class_fault {
     LINKD_TOO_LARGE = 1,
     LINKD_BAD_MAGIC = 2,
     LINKD_BAD_VERSION = 3,      /* one that isn't taken, or from 56 on one with a minor, as of preview files */
@@ -150,59 +151,59 @@ enum linkd_class_fault {
     LINKD_BAD_MEMBER = 12,      /* place is the member, fields and methods together */
     LINKD_BAD_LINK = 13,        /* place is the number */
     LINKD_BAD_NEST = 14
-};
+} linkd_class_fault;
 
 /* What is wrong in the constant pool (4.4). */
-enum linkd_pool_cause {
+typedef enum linkd_pool_cause {
     LINKD_POOL_TRUNCATED = 1,
     LINKD_POOL_BAD_TAG = 2,
     LINKD_POOL_BAD_INDEX = 3,
     LINKD_POOL_BAD_TEXT = 4,
     LINKD_POOL_BAD_DESCRIPTOR = 5
-};
+} linkd_pool_cause;
 
 /* What is wrong in a method's code (4.9.1, 4.10). */
-enum linkd_code_cause {
+typedef enum linkd_code_cause {
     LINKD_CODE_BAD_OPCODE = 1,
     LINKD_CODE_CUT_SHORT = 2,
     LINKD_CODE_BAD_SWITCH = 3,
     LINKD_CODE_BAD_OPERAND = 4,
     LINKD_CODE_BAD_LAYOUT = 5 /* at is 0 */
-};
+} linkd_code_cause;
 
 /* What a call comes to. */
-enum linkd_answer_kind {
+typedef enum linkd_answer_kind {
     LINKD_RUN = 0,          /* the method `value` of the class `class_number` runs */
     LINKD_THROWS = 1,       /* value is a linkd_throwable */
     LINKD_BAD_RECEIVER = 2, /* no object can be such a receiver here */
     LINKD_UNLINKED = 3,     /* value is a linkd_unlinked */
     LINKD_MISS = 4          /* a seat or a memo doesn't know: ask the linker */
-};
+} linkd_answer_kind;
 
-enum linkd_throwable {
+typedef enum linkd_throwable {
     LINKD_NO_SUCH_METHOD_ERROR = 1,
     LINKD_ILLEGAL_ACCESS_ERROR = 2,
     LINKD_INCOMPATIBLE_CLASS_CHANGE_ERROR = 3,
     LINKD_ABSTRACT_METHOD_ERROR = 4,
     LINKD_NULL_POINTER_EXCEPTION = 5
-};
+} linkd_throwable;
 
-enum linkd_unlinked {
+typedef enum linkd_unlinked {
     LINKD_WANTS_NAMED = 1,       /* the class that the instruction names isn't there yet */
     LINKD_WANTS_CALLER_HOST = 2, /* the nest host of the caller's class isn't */
     LINKD_WANTS_METHOD_HOST = 3, /* the nest host of the method's class isn't */
     LINKD_UNBOUND = 4,           /* an invokedynamic without a call site */
     LINKD_GONE = 5,              /* the site's class is retired, or the call site to which it is bound is released */
     LINKD_NO_SITE = 6
-};
+} linkd_unlinked;
 
 typedef struct linkd_call_answer {
-    uint32_t kind;         /* a linkd_answer_kind */
+    linkd_answer_kind kind;
     uint32_t class_number; /* 0 but for LINKD_RUN */
     uint32_t value;        /* 0 for LINKD_BAD_RECEIVER and LINKD_MISS */
 } linkd_call_answer;
 
-enum linkd_link_kind {
+typedef enum linkd_link_kind {
     LINKD_NONE = 0,            /* none is installed */
     LINKD_FAULT = 1,           /* each call throws: row 0 has it */
     LINKD_PLAIN = 2,           /* each call runs this method: row 0 */
@@ -210,20 +211,24 @@ enum linkd_link_kind {
     LINKD_VIRTUAL_TABLE = 4,   /* by the receiver's class: `count` rows; a class without a row is none that can be a receiver */
     LINKD_INTERFACE_TABLE = 5, /* the same; a class without a row throws IncompatibleClassChangeError (6.5) */
     LINKD_MEGA = 6             /* too many classes for a table */
-};
+} linkd_link_kind;
 
 typedef struct linkd_row {
-    uint32_t receiver;     /* the class of the receiver, in a table; else 0 */
-    uint32_t kind;         /* LINKD_RUN or LINKD_THROWS */
-    uint32_t class_number; /* as in a linkd_call_answer */
+    uint32_t receiver;      /* the class of the receiver, in a table; else 0 */
+    linkd_answer_kind kind; /* LINKD_RUN or LINKD_THROWS */
+    uint32_t class_number;  /* as in a linkd_call_answer */
     uint32_t value;
 } linkd_row;
 
 typedef struct linkd_link {
-    uint32_t kind;  /* a linkd_link_kind */
+    linkd_link_kind kind;
     uint32_t count; /* how many rows say something: 1 of a fault, a plain and a direct link; the others are 0 */
     linkd_row rows[8];
 } linkd_link;
+
+/* The library has a uint32_t in the place of each of these: a compiler that takes fewer bytes, as by -fshort-enums, refuses this header. */
+typedef char linkd_enums_have_4_bytes[sizeof(linkd_status) == 4 && sizeof(linkd_answer_kind) == 4 &&
+                                      sizeof(linkd_link_kind) == 4 ? 1 : -1];
 
 /* A site with the link that it is to have. */
 typedef struct linkd_link_row {
@@ -231,11 +236,11 @@ typedef struct linkd_link_row {
     linkd_link link;
 } linkd_link_row;
 
-enum linkd_target_kind {
+typedef enum linkd_target_kind {
     LINKD_METHOD_TARGET = 0, /* the method `value` of the class `number` */
     LINKD_GUARD_TARGET = 1,  /* the first while the switch point `number` is valid, and then the fallback */
     LINKD_INVOKER_TARGET = 2 /* whatever the call site `number` runs (CallSite.dynamicInvoker) */
-};
+} linkd_target_kind;
 
 /* A part of a target (java.lang.invoke). Behind a guard stand its first part and then its fallback, each with all that belongs to it. */
 typedef struct linkd_target_part {
@@ -302,11 +307,12 @@ void linkd_blank(linkd *at);
 
 /* Opens the linker, without classes; at most max_sites sites may be requested, 1 to LINKD_MOST_OF_A_KIND (else LINKD_MALFORMED). It may have
  * LINKD_MOST_OF_A_KIND loaders, classes, call sites and switch points. LINKD_OPEN_ALREADY, LINKD_MEMORY. */
-uint32_t linkd_open(linkd *at, uint32_t max_sites);
+linkd_status linkd_open(linkd *at, uint32_t max_sites);
 /* As linkd_open, but it may have as many of each kind as is said here: so many numbers of the kind it ever gives, those of what is retired
  * among them. sites: 1 to LINKD_MOST_OF_A_KIND; each of the others: 1 to LINKD_MOST_OF_A_KIND, or 0, which stands for that. Loader 0 counts
  * as one. LINKD_OPEN_ALREADY; LINKD_MALFORMED, where sites is 0 or one of them is above LINKD_MOST_OF_A_KIND; LINKD_MEMORY. */
-uint32_t linkd_open_with(linkd *at, uint32_t sites, uint32_t loaders, uint32_t classes, uint32_t call_sites, uint32_t switches);
+linkd_status linkd_open_with(linkd *at, uint32_t sites, uint32_t loaders, uint32_t classes, uint32_t call_sites,
+                             uint32_t switches);
 /* Lets all go that the linker has; it isn't open then. */
 void linkd_close(linkd *at);
 
@@ -314,126 +320,134 @@ void linkd_close(linkd *at);
  * other statuses stand at each. Where nothing is said of place, it is 0. */
 
 /* number is the loader. LINKD_LOADERS_FULL: there are as many as the linker may have. */
-uint32_t linkd_new_loader(linkd *at, linkd_told *told);
+linkd_status linkd_new_loader(linkd *at, linkd_told *told);
 /* Defines the class of a class file. Its major version is 45 to 61, those of SE 17. number is the class. LINKD_NO_CLASS_FILE, of which
  * linkd_class_fault says the place; LINKD_DEFINE. */
-uint32_t linkd_define(linkd *at, uint32_t loader, const uint8_t *bytes, size_t length, linkd_told *told);
+linkd_status linkd_define(linkd *at, uint32_t loader, const uint8_t *bytes, size_t length, linkd_told *told);
 /* As linkd_define, but the major version is 45 to `newest`. A file of a version above 61 is read as one of 61.0 is, and linked as SE 17 says.
  * Up to LINKD_NEWEST_KNOWN the editions of the specification say the same of all that is read. Of later versions nothing is known. It isn't
  * claimed that a JVM of SE 17 would take such a file. */
-uint32_t linkd_define_up_to(linkd *at, uint32_t loader, uint16_t newest, const uint8_t *bytes, size_t length, linkd_told *told);
+linkd_status linkd_define_up_to(linkd *at, uint32_t loader, uint16_t newest, const uint8_t *bytes, size_t length,
+                                linkd_told *told);
 /* The loader finds under the name the class that the loader `to` finds. LINKD_DELEGATE. */
-uint32_t linkd_delegate(linkd *at, uint32_t loader, const uint8_t *name, size_t name_length, uint32_t to, linkd_told *told);
+linkd_status linkd_delegate(linkd *at, uint32_t loader, const uint8_t *name, size_t name_length, uint32_t to,
+                            linkd_told *told);
 /* The invocation at the pc of the class's method, by its place among those that the class declares. number is the site; a place that was
  * requested keeps its number. In this order: LINKD_MALFORMED, a method above 65,535; LINKD_UNKNOWN_CLASS; LINKD_NO_SUCH_PLACE;
  * LINKD_NOT_LINKABLE; LINKD_SITES_FULL. */
-uint32_t linkd_request(linkd *at, uint32_t class_number, uint32_t method, uint32_t pc, linkd_told *told);
+linkd_status linkd_request(linkd *at, uint32_t class_number, uint32_t method, uint32_t pc, linkd_told *told);
 /* kind 1: constant, 2: mutable, 3: volatile; type: a method descriptor; target: {"method":[class,index]},
  * {"guard":switch,"target":..,"fallback":..} or {"invoker":call_site}, as JSON. number is the call site. LINKD_MALFORMED, where one of
  * the three is none; LINKD_CALL_SITE, whose place is said at LINKD_INVOKER_ORDER. */
-uint32_t linkd_new_call_site(linkd *at, uint32_t kind, const uint8_t *type, size_t type_length, const uint8_t *target,
-                             size_t target_length, linkd_told *told);
+linkd_status linkd_new_call_site(linkd *at, uint32_t kind, const uint8_t *type, size_t type_length,
+                                 const uint8_t *target, size_t target_length, linkd_told *told);
 /* As linkd_new_call_site, with the target as its parts, which are one target and no more. LINKD_MALFORMED, also where a part lacks or is
  * left over, where a kind is none, where a method is above 65,535, or where guards stand deeper in one another than JSON may, which has at
  * most 127 objects and arrays in one another; LINKD_CALL_SITE as above. */
-uint32_t linkd_new_call_site_of(linkd *at, uint32_t kind, const uint8_t *type, size_t type_length, const linkd_target_part *parts,
-                                size_t count, linkd_told *told);
+linkd_status linkd_new_call_site_of(linkd *at, uint32_t kind, const uint8_t *type, size_t type_length,
+                                    const linkd_target_part *parts, size_t count, linkd_told *told);
 /* LINKD_MALFORMED, where the target is none; LINKD_CALL_SITE as above. */
-uint32_t linkd_set_target(linkd *at, uint32_t call_site, const uint8_t *target, size_t target_length, linkd_told *told);
+linkd_status linkd_set_target(linkd *at, uint32_t call_site, const uint8_t *target, size_t target_length,
+                              linkd_told *told);
 /* LINKD_MALFORMED, where the parts are none, as above; LINKD_CALL_SITE as above. */
-uint32_t linkd_set_target_of(linkd *at, uint32_t call_site, const linkd_target_part *parts, size_t count, linkd_told *told);
+linkd_status linkd_set_target_of(linkd *at, uint32_t call_site, const linkd_target_part *parts, size_t count,
+                                 linkd_told *told);
 /* number is the switch point. LINKD_CALL_SITE with LINKD_CALL_SITES_FULL: there are as many as the linker may have. */
-uint32_t linkd_new_switch(linkd *at, linkd_told *told);
+linkd_status linkd_new_switch(linkd *at, linkd_told *told);
 /* LINKD_CALL_SITE with LINKD_UNKNOWN_SWITCH: one of them is none, and none is invalidated. */
-uint32_t linkd_invalidate(linkd *at, const uint32_t *switches, size_t count, linkd_told *told);
+linkd_status linkd_invalidate(linkd *at, const uint32_t *switches, size_t count, linkd_told *told);
 /* In this order: LINKD_UNKNOWN_SITE, whose place is the site; LINKD_NOT_DYNAMIC; LINKD_ALREADY_BOUND, whose place is the call site that it
  * is bound to; LINKD_CALL_SITE with LINKD_UNKNOWN_CALL_SITE; LINKD_TYPE_MISMATCH. */
-uint32_t linkd_bind(linkd *at, uint32_t site, uint32_t call_site, linkd_told *told);
+linkd_status linkd_bind(linkd *at, uint32_t site, uint32_t call_site, linkd_told *told);
 /* The loader goes, with the classes that it has defined and the sites in them: they are LINKD_GONE. No number is given again. LINKD_RETIRE,
  * of which linkd_retire_fault says the place. */
-uint32_t linkd_retire(linkd *at, uint32_t loader, linkd_told *told);
+linkd_status linkd_retire(linkd *at, uint32_t loader, linkd_told *told);
 /* The loaders go at once, each as by linkd_retire: all of them or none. Only what stays holds one: loaders that record each other go, and so
  * do a loader and one whose classes extend its own, in whatever order they stand. One that comes twice goes once; where there are none
  * nothing changes. LINKD_RETIRE, of which number is the first loader in the array that can't go, and linkd_retire_fault says why and the place.
  * However many loaders go, it takes one look at each class that there ever was, at what each loader records, at each call site's target, and
  * at each link that rests on a class which loses a receiver. Where it is refused it looks no link up, but looks at the classes, the records and
  * the targets once more for each loader up to the one that is told. */
-uint32_t linkd_retire_all(linkd *at, const uint32_t *loaders, size_t count, linkd_told *told);
+linkd_status linkd_retire_all(linkd *at, const uint32_t *loaders, size_t count, linkd_told *told);
 /* The call sites and the switch points go at once: all of them or none. What the target of a call site names is its own no more, so that
  * holds no loader. A site that is bound to a call site that went is LINKD_GONE; after a renewal it is LINKD_UNBOUND. No number is given again.
  * Only what stays holds one: call sites that invoke each other go, and so does a switch point with the call sites that guard by it. One that
  * comes twice goes once; where there are none nothing changes. LINKD_RELEASE, of which linkd_release_fault says the place.
  * It takes one look at each call site's target that there is, and one evaluation for each site that was bound to a call site that went. */
-uint32_t linkd_release(linkd *at, const uint32_t *call_sites, size_t call_site_count, const uint32_t *switches, size_t switch_count,
-                       linkd_told *told);
+linkd_status linkd_release(linkd *at, const uint32_t *call_sites, size_t call_site_count, const uint32_t *switches,
+                           size_t switch_count, linkd_told *told);
 /* Links the sites from scratch, 1 to 256 of them, and installs their links: all of them or none. In this order: LINKD_BATCH_SIZE;
  * LINKD_UNKNOWN_SITE or LINKD_REPEATED, whose place is the first site that wasn't requested or comes a second time; LINKD_NOT_READY,
  * whose place is the first site that has no link now: a linkd_call there is LINKD_UNLINKED. */
-uint32_t linkd_install(linkd *at, const uint32_t *sites, size_t count, linkd_told *told);
+linkd_status linkd_install(linkd *at, const uint32_t *sites, size_t count, linkd_told *told);
 
 /* Installs these links, of 1 to 256 sites, all of them or none; each has to be its site's link from scratch now, wherever and whenever it
  * was looked up. LINKD_MALFORMED, where a link is none by its kind, its count or one of its rows, as of a method above 65,535; what it
  * doesn't say isn't looked at. Then LINKD_BATCH_SIZE, LINKD_UNKNOWN_SITE and LINKD_REPEATED as above; then, of the first site of which
  * one is so, LINKD_NOT_READY, which has no link now, or LINKD_STALE, whose link is another one, also where the given one names a class or
  * a method that isn't there: the one that it has is written to present. No other status writes present. */
-uint32_t linkd_install_links(linkd *at, const linkd_link_row *rows, size_t count, linkd_told *told, linkd_link *present);
+linkd_status linkd_install_links(linkd *at, const linkd_link_row *rows, size_t count, linkd_told *told,
+                                 linkd_link *present);
 
 /* What follows is no event: it leaves the linker as it is, takes no memory, and is LINKD_DONE or LINKD_CLOSED, or what stands there.
  * Where it isn't done nothing is written but a length, with LINKD_TOO_SHORT. */
 
 /* The sites, rising, whose links the last accepted event removed, whichever event that was: they are pending now. As many as may be
  * requested are always room enough. LINKD_TOO_SHORT. */
-uint32_t linkd_dropped(linkd *at, uint32_t *out, size_t capacity, size_t *length);
+linkd_status linkd_dropped(linkd *at, uint32_t *out, size_t capacity, size_t *length);
 
 /* What a call comes to now, linked or not. */
-uint32_t linkd_call(linkd *at, uint32_t site, uint32_t receiver, linkd_call_answer *answer);
+linkd_status linkd_call(linkd *at, uint32_t site, uint32_t receiver, linkd_call_answer *answer);
 /* The link that is installed at the site, or LINKD_NONE, also where nothing was requested. */
-uint32_t linkd_link_of(linkd *at, uint32_t site, linkd_link *link);
+linkd_status linkd_link_of(linkd *at, uint32_t site, linkd_link *link);
 
 /* The class that the loader finds under the name (5.3): one that it has defined or was delegated. LINKD_UNKNOWN_CLASS where it finds none,
  * or where there is no such loader, or a retired one. */
-uint32_t linkd_lookup(linkd *at, uint32_t loader, const uint8_t *name, size_t name_length, uint32_t *class_number);
+linkd_status linkd_lookup(linkd *at, uint32_t loader, const uint8_t *name, size_t name_length, uint32_t *class_number);
 /* The name of the class as its file has it (4.2.1), in modified UTF-8, be the class retired or not. LINKD_UNKNOWN_CLASS,
  * LINKD_TOO_SHORT. */
-uint32_t linkd_class_name(linkd *at, uint32_t class_number, uint8_t *out, size_t capacity, size_t *length);
+linkd_status linkd_class_name(linkd *at, uint32_t class_number, uint8_t *out, size_t capacity, size_t *length);
 /* The name (4.2.2) and the descriptor (4.3.3) of the method at a place among those that the class declares, as of a linkd_call_answer.
  * LINKD_NO_SUCH_PLACE where there is no such class or method, LINKD_TOO_SHORT. */
-uint32_t linkd_method_name(linkd *at, uint32_t class_number, uint32_t method, uint8_t *out, size_t capacity, size_t *length);
-uint32_t linkd_method_type(linkd *at, uint32_t class_number, uint32_t method, uint8_t *out, size_t capacity, size_t *length);
+linkd_status linkd_method_name(linkd *at, uint32_t class_number, uint32_t method, uint8_t *out, size_t capacity,
+                               size_t *length);
+linkd_status linkd_method_type(linkd *at, uint32_t class_number, uint32_t method, uint8_t *out, size_t capacity,
+                               size_t *length);
 /* The invocations in that method's code, by rising pc; some of them may be LINKD_NOT_LINKABLE. The methods of a class are those from 0 on
  * up to the first one that is LINKD_NO_SUCH_PLACE. LINKD_TOO_SHORT. */
-uint32_t linkd_invocations(linkd *at, uint32_t class_number, uint32_t method, linkd_invocation *out, size_t capacity, size_t *length);
+linkd_status linkd_invocations(linkd *at, uint32_t class_number, uint32_t method, linkd_invocation *out,
+                               size_t capacity, size_t *length);
 
 /* The name of the class that the refusal of the last event told of: LINKD_MISSING_PARENT, LINKD_NOT_AN_INTERFACE or
  * LINKD_INACCESSIBLE_PARENT of a linkd_define. An event that isn't asked for, as what is LINKD_NO_CLASS_FILE or LINKD_MALFORMED, leaves it,
  * and so does linkd_answer. LINKD_UNKNOWN_CLASS where the last event named none, LINKD_TOO_SHORT. */
-uint32_t linkd_named(linkd *at, uint8_t *out, size_t capacity, size_t *length);
+linkd_status linkd_named(linkd *at, uint8_t *out, size_t capacity, size_t *length);
 /* The name of the class for which the requested site waits, where a linkd_call there is LINKD_WANTS_NAMED, LINKD_WANTS_CALLER_HOST or
  * LINKD_WANTS_METHOD_HOST; so what the place of LINKD_NOT_READY waits for. LINKD_UNKNOWN_CLASS where it waits for none, LINKD_TOO_SHORT. */
-uint32_t linkd_awaited(linkd *at, uint32_t site, uint8_t *out, size_t capacity, size_t *length);
+linkd_status linkd_awaited(linkd *at, uint32_t site, uint8_t *out, size_t capacity, size_t *length);
 
 /* How many selections, special searches and evaluations of call sites the last accepted event took: what it cost beside the sites that
  * it dropped. */
-uint32_t linkd_last_work(linkd *at, uint64_t *work);
+linkd_status linkd_last_work(linkd *at, uint64_t *work);
 /* A linker has two instances of all that it keeps. An event is made in the second one, in which the event before it is done first, so that it
  * pays for that one, too. This call does that beforehand, where it isn't done: a host makes it when it waits, above all after a retirement.
  * No later call is answered otherwise. This call takes memory, as the next event would. LINKD_MEMORY: the next event copies all that the
  * linker keeps. */
-uint32_t linkd_catch_up(linkd *at);
+linkd_status linkd_catch_up(linkd *at);
 
 /* How many loaders, classes, sites, call sites and switch points there ever were, retired and released ones among them. Where it is
  * LINKD_CLOSED each count is written as 0. */
-uint32_t linkd_counts(linkd *at, linkd_count *counts);
+linkd_status linkd_counts(linkd *at, linkd_count *counts);
 /* How many of these are present: those that a renewal would take over now, if nothing were handed to it as released. So a host knows whether a
  * renewal is worth it. This call takes memory, and looks at each that there ever was. Where it isn't done each count is written as 0.
  * LINKD_MEMORY. */
-uint32_t linkd_counts_present(linkd *at, linkd_count *counts);
+linkd_status linkd_counts_present(linkd *at, linkd_count *counts);
 
 /* Any command of docs/FORMATS.md, as text. The answer is kept until the next one, and its length written; linkd_take copies it.
  * LINKD_CLOSED; LINKD_MEMORY: the command was obeyed, or nothing has changed. What the command prepare prepares is kept until the linker
  * is closed. linkd_take may be LINKD_TOO_SHORT, too. */
-uint32_t linkd_answer(linkd *at, const uint8_t *line, size_t line_length, size_t *length);
-uint32_t linkd_take(linkd *at, uint8_t *out, size_t capacity, size_t *length);
+linkd_status linkd_answer(linkd *at, const uint8_t *line, size_t line_length, size_t *length);
+linkd_status linkd_take(linkd *at, uint8_t *out, size_t capacity, size_t *length);
 
 /* ---- a renewal */
 
@@ -452,13 +466,16 @@ uint32_t linkd_take(linkd *at, uint8_t *out, size_t capacity, size_t *length);
  * In this order: LINKD_CLOSED, where `at` isn't open; LINKD_OPEN_ALREADY, where `fresh` is; LINKD_MALFORMED, as linkd_open;
  * LINKD_TOO_SHORT, where an array is shorter than there are numbers for it; LINKD_SITES_FULL, where more than max_sites sites stay;
  * LINKD_MEMORY, maybe in the place of LINKD_SITES_FULL. Where it isn't done, `fresh` and the arrays are as before. */
-uint32_t linkd_renew_into(linkd *at, linkd *fresh, uint32_t max_sites, const uint32_t *released_call_sites, size_t released_call_site_count,
-                          const uint32_t *released_switches, size_t released_switch_count, uint32_t *loaders, size_t loader_capacity,
-                          uint32_t *classes, size_t class_capacity, uint32_t *sites, size_t site_capacity, uint32_t *call_sites,
-                          size_t call_site_capacity, uint32_t *switches, size_t switch_capacity);
+linkd_status linkd_renew_into(linkd *at, linkd *fresh, uint32_t max_sites, const uint32_t *released_call_sites,
+                              size_t released_call_site_count, const uint32_t *released_switches,
+                              size_t released_switch_count, uint32_t *loaders, size_t loader_capacity,
+                              uint32_t *classes, size_t class_capacity, uint32_t *sites, size_t site_capacity,
+                              uint32_t *call_sites, size_t call_site_capacity, uint32_t *switches,
+                              size_t switch_capacity);
 
 /* The same, by structs. */
-static inline uint32_t linkd_renew(linkd *at, linkd *fresh, uint32_t max_sites, const linkd_released *released, linkd_numbers *numbers) {
+static inline linkd_status linkd_renew(linkd *at, linkd *fresh, uint32_t max_sites, const linkd_released *released,
+                                       linkd_numbers *numbers) {
     return linkd_renew_into(at, fresh, max_sites, released->call_sites, released->call_site_count, released->switches,
                             released->switch_count, numbers->loaders, numbers->loader_capacity, numbers->classes, numbers->class_capacity,
                             numbers->sites, numbers->site_capacity, numbers->call_sites, numbers->call_site_capacity, numbers->switches,
@@ -499,11 +516,13 @@ void linkd_renewal_blank(linkd_renewal *at);
  * Counts as a call on the renewal and on the linker.
  * In this order: LINKD_CLOSED, where the linker isn't open; LINKD_OPEN_ALREADY, where the renewal has begun and wasn't left;
  * LINKD_MALFORMED, where max_sites is 0 or above LINKD_MOST_OF_A_KIND; LINKD_MEMORY. Where it isn't done the renewal is as before. */
-uint32_t linkd_renewal_begin_with(linkd_renewal *at, linkd *from, uint32_t max_sites, const uint32_t *released_call_sites,
-                                  size_t released_call_site_count, const uint32_t *released_switches, size_t released_switch_count);
+linkd_status linkd_renewal_begin_with(linkd_renewal *at, linkd *from, uint32_t max_sites,
+                                      const uint32_t *released_call_sites, size_t released_call_site_count,
+                                      const uint32_t *released_switches, size_t released_switch_count);
 
 /* The same, by a struct. */
-static inline uint32_t linkd_renewal_begin(linkd_renewal *at, linkd *from, uint32_t max_sites, const linkd_released *released) {
+static inline linkd_status linkd_renewal_begin(linkd_renewal *at, linkd *from, uint32_t max_sites,
+                                               const linkd_released *released) {
     return linkd_renewal_begin_with(at, from, max_sites, released->call_sites, released->call_site_count, released->switches,
                                     released->switch_count);
 }
@@ -514,7 +533,7 @@ static inline uint32_t linkd_renewal_begin(linkd_renewal *at, linkd *from, uint3
  * LINKD_CLOSED, where the renewal has not begun or the linker isn't open: *left is not written. In what follows none of these events was
  * taken, and *left tells how many are left. LINKD_MEMORY: the call may be made again. LINKD_MALFORMED, where the linker isn't the one of the
  * begin, as far as that shows: it has accepted fewer events than were taken, or has forgotten the next of them. */
-uint32_t linkd_renewal_take(linkd_renewal *at, linkd *from, size_t most, size_t *left);
+linkd_status linkd_renewal_take(linkd_renewal *at, linkd *from, size_t most, size_t *left);
 
 /* Makes the fresh linker. The first call defines the classes that stay of those that there were at the begin, requests their sites, makes the
  * call sites and switch points, and installs the links of the begin: for as many classes as a JDK has that takes seconds. Then, and in each
@@ -525,7 +544,7 @@ uint32_t linkd_renewal_take(linkd_renewal *at, linkd *from, size_t most, size_t 
  * LINKD_RELEASED, where an event since the begin names a call site or a switch point that was released and is gone: place is its number, and
  * number is how many of the linker's events the fresh one has. After either of these two the renewal is good for nothing but
  * linkd_renewal_leave. LINKD_MEMORY, maybe in the place of another refusal: what was carried over stays so, and the call may be made again. */
-uint32_t linkd_renewal_fill(linkd_renewal *at, linkd_told *told);
+linkd_status linkd_renewal_fill(linkd_renewal *at, linkd_told *told);
 
 /* Takes what is left and carries it over, as the two calls above do. Then it opens the linker `fresh`, which isn't open, over what was made,
  * and writes the new numbers to the arrays as linkd_renew_into does. A loader that was retired since the begin has a new number, too, and is
@@ -536,12 +555,15 @@ uint32_t linkd_renewal_fill(linkd_renewal *at, linkd_told *told);
  * LINKD_TOO_SHORT, where an array is shorter than linkd_counts says that there are numbers for it: nothing was taken then; LINKD_MEMORY and
  * LINKD_MALFORMED, as linkd_renewal_take; then as linkd_renewal_fill. Where it isn't done `fresh` and the arrays are as before, and the
  * renewal has not ended: after LINKD_OPEN_ALREADY, LINKD_TOO_SHORT, LINKD_MALFORMED and LINKD_MEMORY it may be finished later. */
-uint32_t linkd_renewal_finish_into(linkd_renewal *at, linkd *from, linkd *fresh, linkd_told *told, uint32_t *loaders, size_t loader_capacity,
-                                   uint32_t *classes, size_t class_capacity, uint32_t *sites, size_t site_capacity, uint32_t *call_sites,
-                                   size_t call_site_capacity, uint32_t *switches, size_t switch_capacity);
+linkd_status linkd_renewal_finish_into(linkd_renewal *at, linkd *from, linkd *fresh, linkd_told *told,
+                                       uint32_t *loaders, size_t loader_capacity, uint32_t *classes,
+                                       size_t class_capacity, uint32_t *sites, size_t site_capacity,
+                                       uint32_t *call_sites, size_t call_site_capacity, uint32_t *switches,
+                                       size_t switch_capacity);
 
 /* The same, by a struct. */
-static inline uint32_t linkd_renewal_finish(linkd_renewal *at, linkd *from, linkd *fresh, linkd_told *told, linkd_numbers *numbers) {
+static inline linkd_status linkd_renewal_finish(linkd_renewal *at, linkd *from, linkd *fresh, linkd_told *told,
+                                                linkd_numbers *numbers) {
     return linkd_renewal_finish_into(at, from, fresh, told, numbers->loaders, numbers->loader_capacity, numbers->classes,
                                      numbers->class_capacity, numbers->sites, numbers->site_capacity, numbers->call_sites,
                                      numbers->call_site_capacity, numbers->switches, numbers->switch_capacity);
@@ -558,22 +580,23 @@ size_t linkd_seat_align(void);
 void linkd_seat_blank(linkd_seat *at);
 /* Gives the seat the linker's links and count of classes as they are now. Counts as a call on the seat and on the linker. LINKD_CLOSED
  * where the linker isn't open; LINKD_MEMORY, and the seat has what it had. */
-uint32_t linkd_seat_refresh(linkd_seat *at, linkd *from);
+linkd_status linkd_seat_refresh(linkd_seat *at, linkd *from);
 /* What a call comes to by the links of the last refresh, at once: of null, and of each object that may stand there. LINKD_MISS where
  * the site had no link or a megamorphic one, or its link looks at the receiver, whose class is newer. LINKD_CLOSED where the seat was
  * never refreshed. Takes no lock and no memory, and counts as a call on the seat alone, which may outlive the linker. */
-uint32_t linkd_seat_call(linkd_seat *at, uint32_t site, uint32_t receiver, linkd_call_answer *answer);
+linkd_status linkd_seat_call(linkd_seat *at, uint32_t site, uint32_t receiver, linkd_call_answer *answer);
 /* The same answer in 64 bits, which come back in a register; a seat that was never refreshed, or was left, is LINKD_MISS. The class number
  * begins at bit 0, the value at bit 32 and the kind at bit 56: the three functions below take them apart. */
 uint64_t linkd_seat_answer(linkd_seat *at, uint32_t site, uint32_t receiver);
-static inline uint32_t linkd_kind_of(uint64_t answer) { return (uint32_t)(answer >> 56); }
+static inline linkd_answer_kind linkd_kind_of(uint64_t answer) { return (linkd_answer_kind)(answer >> 56); }
 static inline uint32_t linkd_class_of(uint64_t answer) { return (uint32_t)answer; }
 static inline uint32_t linkd_value_of(uint64_t answer) { return (uint32_t)(answer >> 32) & UINT32_C(0xffffff); }
 /* As linkd_seat_call, but at a megamorphic link what the memo remembers of such calls, and LINKD_MISS where it remembers none; null throws there at
  * once. The memo was asked of the linker that the seat was refreshed from, and of no other one. LINKD_CLOSED also where the memo isn't
  * open. A site of a retired loader is LINKD_MISS once the seat was refreshed; of a class of a retired loader there is no object, and such
  * a number gets what is remembered. Counts as a call on both. */
-uint32_t linkd_seat_call_with(linkd_seat *at, linkd_memo *with, uint32_t site, uint32_t receiver, linkd_call_answer *answer);
+linkd_status linkd_seat_call_with(linkd_seat *at, linkd_memo *with, uint32_t site, uint32_t receiver,
+                                  linkd_call_answer *answer);
 /* Lets the seat's links go: it is as if it was never refreshed. Counts as a call on the seat alone. */
 void linkd_seat_leave(linkd_seat *at);
 
@@ -586,16 +609,16 @@ void linkd_memo_blank(linkd_memo *at);
  * Calls of which three have one set push each other out, so a memo wants several times as many sets as there are calls that are made over
  * and over: of 9,000 calls in turn, 1,000 sites on 9 classes each, 75 of a hundred are remembered in 9,000 sets, 97 in 18,000, all in
  * 36,000. One of no sets remembers nothing. LINKD_OPEN_ALREADY, LINKD_MEMORY. */
-uint32_t linkd_memo_open(linkd_memo *at, uint32_t sets);
+linkd_status linkd_memo_open(linkd_memo *at, uint32_t sets);
 /* As linkd_call, on the linker: what a call comes to now. It is remembered where the site's link is megamorphic and the answer runs a
  * method or throws, in the place of another one where its set is full. Such an answer stays right, whatever is defined later, while the
  * site's class and the receiver's are present. Takes no memory, and counts as a call on the memo and on the linker. Receivers that are
  * known beforehand can be asked for once their site is installed. */
-uint32_t linkd_memo_ask(linkd_memo *at, linkd *from, uint32_t site, uint32_t receiver, linkd_call_answer *answer);
+linkd_status linkd_memo_ask(linkd_memo *at, linkd *from, uint32_t site, uint32_t receiver, linkd_call_answer *answer);
 /* What the memo remembers that a call comes to, by itself: LINKD_MISS where it remembers none, and for null. So a host that knows that a
  * site is megamorphic needs no seat for it, but has to know, too, when the site's loader is retired: the memo still has what it remembered.
  * Takes no lock and no memory, and counts as a call on the memo alone. */
-uint32_t linkd_memo_call(linkd_memo *at, uint32_t site, uint32_t receiver, linkd_call_answer *answer);
+linkd_status linkd_memo_call(linkd_memo *at, uint32_t site, uint32_t receiver, linkd_call_answer *answer);
 /* Lets go what the memo remembers: it isn't open then. A memo that is to be asked of another linker, or of one that was closed and opened
  * again, is closed and opened first. Counts as a call on the memo alone. */
 void linkd_memo_close(linkd_memo *at);
@@ -608,17 +631,18 @@ void linkd_view_blank(linkd_view *at);
 /* Gives the view what there is to link now, classes, sites and call sites, in the place of what it had. Nothing is copied here, but by
  * a later event where the view still has it then: so leave a view once it isn't needed. Counts as a call on the view and on the linker.
  * LINKD_CLOSED where the linker isn't open, LINKD_MEMORY where memory lacks: the view has what it had. */
-uint32_t linkd_view_take(linkd_view *at, linkd *from);
+linkd_status linkd_view_take(linkd_view *at, linkd *from);
 /* After how many accepted events it was taken. Counts as a call on the view alone, as each that follows; it may outlive the linker. */
-uint32_t linkd_view_serial(linkd_view *at, uint64_t *serial);
+linkd_status linkd_view_serial(linkd_view *at, uint64_t *serial);
 /* As linkd_call, when the view was taken. Takes no lock and no memory. */
-uint32_t linkd_view_call(linkd_view *at, uint32_t site, uint32_t receiver, linkd_call_answer *answer);
+linkd_status linkd_view_call(linkd_view *at, uint32_t site, uint32_t receiver, linkd_call_answer *answer);
 /* The links of these sites from scratch, 1 to 256 of them, as they were when the view was taken, in the order of the sites: all are
  * written or none. Nothing is installed, and no lock taken. capacity is that of links: LINKD_TOO_SHORT where it is less than count.
  * Then, in this order: LINKD_BATCH_SIZE; LINKD_UNKNOWN_SITE or LINKD_REPEATED, whose place is the first site that wasn't requested or
  * comes a second time; LINKD_NOT_READY, whose place is the first site that had no link; LINKD_MEMORY where there is none of these, or
  * where memory lacks for the list of the sites. */
-uint32_t linkd_view_prepare(linkd_view *at, const uint32_t *sites, size_t count, linkd_link *links, size_t capacity, linkd_told *told);
+linkd_status linkd_view_prepare(linkd_view *at, const uint32_t *sites, size_t count, linkd_link *links, size_t capacity,
+                                linkd_told *told);
 /* Lets go what the view has: it is as if it was never taken. */
 void linkd_view_leave(linkd_view *at);
 

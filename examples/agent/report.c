@@ -60,7 +60,7 @@ static void count_sites(struct counts *counts) {
         if (calls.sites[number] == NULL || linkd_link_of(world.linker, number, &link) != LINKD_DONE) continue;
         counts->requested++;
         counts->by_instruction[calls.sites[number]->named.opcode - 182]++;
-        if (link.kind >= KINDS) continue;
+        if ((size_t)link.kind >= KINDS) continue;
         counts->by_kind[link.kind]++;
         if (link.kind == LINKD_VIRTUAL_TABLE || link.kind == LINKD_INTERFACE_TABLE) counts->by_length[link.count]++;
     }
@@ -141,7 +141,7 @@ static void tell_retirements(FILE *to, const struct counts *counts) {
 static bool told_alone(uint32_t number, const char *prefix, linkd_link *link) {
     const struct site *site = calls.sites[number];
     if (prefix == NULL || site == NULL || strncmp(site->of->name, prefix, strlen(prefix)) != 0) return false;
-    return linkd_link_of(world.linker, number, link) == LINKD_DONE && link->kind < KINDS;
+    return linkd_link_of(world.linker, number, link) == LINKD_DONE && (size_t)link->kind < KINDS;
 }
 
 static void tell_each_site(FILE *to, const char *prefix) {
