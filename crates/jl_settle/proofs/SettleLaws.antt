@@ -261,27 +261,6 @@ module _ (world : World) (keys : List Key) (links : ℕ → Option Link) (index 
         ∙ second (is_some (links s)) (touches changed.before changed.event s) (is_touched world keys (Some x) links index changed rising s inside))
         (changed.scratch s l is)
 
-    -- each site that looks at the new class is told by it
-    told_at : (s : ℕ) (o : Option Link) → links s ≡ o → has s (touched_by index keys) ≡ true → IsTold world x links s
-    told_at s None is inside =
-        absurd (no_link (ap (λ (o : Option Link). is_some o && touches changed.before changed.event s) (sym is)
-        ∙ is_touched world keys (Some x) links index changed rising s inside))
-      where
-        no_link : false ≡ true → ⊥
-        no_link e = cc e
-    told_at s (Some l) is inside =
-        let here = more s l is inside in
-        record {
-          link = l;
-          is = is;
-          told = λ stays tells.
-              tells here.invocation (ap (λ (w : World). stage w s) after ∙ here.selects) here.selector
-              ∙ (λ i. stays_with l (outcome (after i).classes here.invocation (is_definition.class i)))
-              ∙ sym here.link
-              ∙ ap (λ (w : World). is_link (scratch w s) l) (sym after)
-              ∙ told_kept l (scratch world s);
-        }
-
     -- and what its link rests on stays
     pub footprint_stays : (s : ℕ) → has s (touched_by index keys) ≡ true → rests_at index s ≡ rests_if world s (links s)
     footprint_stays s inside = by_link (links s) refl
@@ -294,14 +273,36 @@ module _ (world : World) (keys : List Key) (links : ℕ → Option Link) (index 
             ∙ ap Some (sym (same_rests changed.before world s (ap (λ (w : World). stage w s) after ∙ one.selects ∙ sym one.before)
             (ap (λ (w : World). footprint w s) after ∙ one.rests_on)))
 
+    -- each site that looks at the new class is told by it
+    told_at : (s : ℕ) (o : Option Link) → links s ≡ o → has s (touched_by index keys) ≡ true → IsTold world x links index s
+    told_at s None is inside =
+        absurd (no_link (ap (λ (o : Option Link). is_some o && touches changed.before changed.event s) (sym is)
+        ∙ is_touched world keys (Some x) links index changed rising s inside))
+      where
+        no_link : false ≡ true → ⊥
+        no_link e = cc e
+    told_at s (Some l) is inside =
+        let here = more s l is inside in
+        record {
+          link = l;
+          is = is;
+          rests_on = footprint_stays s inside ∙ ap (rests_if world s) is;
+          told = λ stays tells.
+              tells here.invocation (ap (λ (w : World). stage w s) after ∙ here.selects) here.selector
+              ∙ (λ i. stays_with l (outcome (after i).classes here.invocation (is_definition.class i)))
+              ∙ sym here.link
+              ∙ ap (λ (w : World). is_link (scratch w s) l) (sym after)
+              ∙ told_kept l (scratch world s);
+        }
+
 -- each asked site may be
 pub each_asked : (world : World) (keys : List Key) (defined : Option ℕ) (links : ℕ → Option Link) (index : List (ℕ × Rests))
     → HasChanged world keys defined links index → AreRising index → (sites : List ℕ) → AreAsked index keys sites
-    → AllByRecursion (MayBeAsked world defined links) sites
+    → AllByRecursion (MayBeAsked world defined links index) sites
 each_asked world keys None links index changed rising sites asked =
-    all_of (MayBeAsked world None links) sites (λ s inside. tt)
+    all_of (MayBeAsked world None links index) sites (λ s inside. tt)
 each_asked world keys (Some x) links index changed rising sites asked =
-    all_of (MayBeAsked world (Some x) links) sites
+    all_of (MayBeAsked world (Some x) links index) sites
     (λ s inside. told_at world keys links index rising x changed s (links s) refl (asked.touched s inside))
 
 pub is_there : (world : World) (keys : List Key) (defined : Option ℕ) (links : ℕ → Option Link) (index : List (ℕ × Rests))
@@ -516,9 +517,9 @@ module _ (world : World) (keys : List Key) (defined : Option ℕ) (links : ℕ �
 
 -- ---- what is told of one site
 
-pub told_gone : (w : World) (x : ℕ) (links : ℕ → Option Link) (s : ℕ) (l : Link) (stays : Bool) → IsTold w x links s → links s ≡ Some l
+pub told_gone : (w : World) (x : ℕ) (links : ℕ → Option Link) (s : ℕ) (index : List (ℕ × Rests)) (l : Link) (stays : Bool) → IsTold w x links index s → links s ≡ Some l
     → TellsStay w s l x stays → not stays ≡ goes w links s
-told_gone w x links s l stays told is tells = sym (ap (λ (o : Option Link). is_some o && is_none (kept false o (scratch w s))) is
+told_gone w x links s index l stays told is tells = sym (ap (λ (o : Option Link). is_some o && is_none (kept false o (scratch w s))) is
     ∙ by_kept (kept false (Some l) (scratch w s)) said)
   where
     said : stays ≡ is_some (kept false (Some l) (scratch w s))

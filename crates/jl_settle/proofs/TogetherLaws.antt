@@ -3,6 +3,7 @@ use Rattle.std.specs.Prelude.{◌≡◌, ◌≢◌, ℕ, ◌==◌, ◌&&◌, ◌
 use Rattle.std.proofs.Common.{refl, ap, sym, ◌∙◌}
 use Rattle.std.proofs.lemmas.Bool.{both_ways}
 use Rattle.std.proofs.lemmas.Bool.Decides.{Decides-eqb}
+use Rattle.jl_types.specs.declared.ids.MethodId.{MethodId}
 use Rattle.jl_types.specs.declared.link.Link.{Link}
 use Rattle.jl_types.specs.declared.link.Link.TheVariants.{Direct}
 use Rattle.jl_types.specs.declared.link.TableKind.TheVariants as table
@@ -14,7 +15,7 @@ use Rattle.jl_types.specs.Values.Members.{is_private}
 use Rattle.jl_types.specs.Values.Ancestry.{receivers}
 use Rattle.jl_types.specs.Linkage.Selection.{virtual_outcome, interface_outcome}
 use Rattle.jl_types.specs.Linkage.Stages.{Selector, ByVirtual, ByInterface, BySpecial, ResolvedCall, Stage, Waits, Fails, Calls, Selects, stage}
-use Rattle.jl_types.specs.Linkage.Links.{outcome_by, table_rows, table_or_mega, virtual_link, link_by}
+use Rattle.jl_types.specs.Linkage.Links.{outcome, outcome_by, table_rows, table_or_mega, virtual_link, link_by}
 use Rattle.jl_types.specs.Events.Event.{Event}
 use Rattle.jl_types.specs.Events.Footprints.{same_key, has_key, meets, of_selector, footprint, still_valid, keys}
 use Rattle.jl_relink.specs.Laws.{changes_receivers}
@@ -123,3 +124,18 @@ key_met c ks h = alone (has_key ks (key.Receivers c)) h
     alone : (b : Bool) → (b || false) ≡ true → b ≡ true
     alone true h = refl
     alone false h = h
+
+-- what an invokevirtual comes to for a receiver, by the method that its form tells
+pub virtual_by : (cs : Classes) (i : ResolvedCall) (m : MethodId) (x : ℕ) → form.Virtual m ≡ form_of cs (Selects i) → outcome cs i x ≡ virtual_outcome cs x m
+virtual_by cs i m x e = by_selector i.selector refl e
+  where
+    by_private : i.selector ≡ ByVirtual → (b : Bool) → form.Virtual m ≡ (if b then form.Other else form.Virtual i.method) → outcome cs i x ≡ virtual_outcome cs x m
+    by_private is true e = cc
+    by_private is false e =
+        let same : m ≡ i.method = cc in
+        ap (λ selector. outcome_by cs i selector x) is ∙ ap (virtual_outcome cs x) (sym same)
+
+    by_selector : (selector : Selector) → i.selector ≡ selector → form.Virtual m ≡ form_by cs i selector → outcome cs i x ≡ virtual_outcome cs x m
+    by_selector ByVirtual is e = by_private is (is_private cs i.method) e
+    by_selector ByInterface is e = cc
+    by_selector BySpecial is e = cc

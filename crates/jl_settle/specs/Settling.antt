@@ -15,7 +15,8 @@ use Rattle.jl_types.specs.Events.Footprints.{most_for}
 use Rattle.jl_relink.specs.Laws.{IsInOrder}
 use Rattle.jl_relink.specs.Receivers.{TellsStay}
 use Rattle.jl_deps.specs.declared.form.Rests.{Rests}
-use Rattle.jl_deps.specs.Indexes.{IsIndex}
+use Rattle.jl_deps.specs.Forms.{rests}
+use Rattle.jl_deps.specs.Indexes.{rests_at, IsIndex}
 
 -- the site's link, where it is the one from scratch
 abbrev pub kept_at : World → (ℕ → Option Link) → ℕ → Option Link
@@ -53,16 +54,17 @@ pub record AreUpToDate (world : World) (installs : ℕ → Bool) (before after :
 
 -- ---- a touched site
 
--- The site has a link, and the receiver x tells whether it stays.
-pub record IsTold (w : World) (x : ℕ) (links : ℕ → Option Link) (s : ℕ) : Type 0 where
+-- The site has a link, and the receiver x tells whether it stays. The index has what it rests on.
+pub record IsTold (w : World) (x : ℕ) (links : ℕ → Option Link) (index : List (ℕ × Rests)) (s : ℕ) : Type 0 where
   pub link : Link
   pub is : links s ≡ Some link
+  pub rests_on : rests_at index s ≡ Some (rests w s)
   pub told : (stays : Bool) → TellsStay w s link x stays → stays ≡ is_some (kept false (Some link) (scratch w s))
 
 -- whether its link stays is known: by the class that was defined, or by the link from scratch
-abbrev pub MayBeAsked : World → Option ℕ → (ℕ → Option Link) → ℕ → Type 0
-MayBeAsked w (Some x) links s = IsTold w x links s
-MayBeAsked w None links s = ⊤
+abbrev pub MayBeAsked : World → Option ℕ → (ℕ → Option Link) → List (ℕ × Rests) → ℕ → Type 0
+MayBeAsked w (Some x) links index s = IsTold w x links index s
+MayBeAsked w None links index s = ⊤
 
 -- how many evaluations that takes
 abbrev pub most_asked : World → Option ℕ → ℕ → ℕ

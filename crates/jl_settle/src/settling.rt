@@ -36,7 +36,7 @@ pub fn settle(
     ensures up_to_date { IfOk result (λ lost. AreUpToDate world.now (λ s. false) (link_at links.old) (link_at links.new) index.new lost.items) }
 {
     let asked = index.asked(alloc, keys)?;
-    let gone = lost_among(alloc, world, links, asked.as_slice(), &defined, work)?;
+    let gone = lost_among(alloc, world, links, index, asked.as_slice(), &defined, work)?;
     let lost = index.together(alloc, gone.as_slice())?;
     links.drop_changed(lost.as_slice());
     reindex(

@@ -8,7 +8,7 @@ use Rattle.jl_settle.proofs.lost.lost_among.Given as goal
 abbrev pub invariant-loop-site : goal.invariant-loop-site
 invariant-loop-site l = record {
   ticks : l.work ≤ l.fn.work + sum_by (most_asked l.world l.defined) (take l.site-index l.sites);
-  left : AllByRecursion (MayBeAsked l.world l.defined (link_at l.links)) (drop l.site-index l.sites);
+  left : AllByRecursion (MayBeAsked l.world l.defined (link_at l.links) l.index) (drop l.site-index l.sites);
   lost : (s : ℕ) → list_any (λ t. t == s) l.lost.items
       ≡ (list_any (λ t. t == s) (take l.site-index l.sites) && goes l.world (link_at l.links) s);
 }
