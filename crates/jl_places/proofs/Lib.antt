@@ -1,1 +1,2 @@
+pub mod PartLaws
 pub mod PlaceLaws

@@ -12,7 +12,7 @@ use Rattle.std.specs.Cmp.{IsEquivalence}
 use Rattle.jl_types.specs.declared.ids.Place.{Place}
 use Rattle.jl_types.specs.Events.Verdict.{same_place}
 use Rattle.jl_types.proofs.Bools.{first_test, second_test}
-use Rattle.jl_places.specs.ForProofs.Parts.{part_of, number_in, number_at, AreFound}
+use Rattle.jl_places.specs.ForProofs.Parts.{ByClass, part_of, number_in, number_at, AreFound}
 
 -- ---- one place
 
@@ -116,16 +116,16 @@ found_of_none : (n : ℕ) → n ≡ 1024 → AreFound (replicate n []) []
 unfolding IsDistinct
 found_of_none n is = record {
   many = length-replicate n [] ∙ is;
-  numbers = λ p. ap (λ (part : List (Place × ℕ)). number_in part p) (in_copies n (part_of p) []);
+  numbers = λ p. ap (λ (part : ByClass). number_in part p) (in_copies n (part_of p) []);
   apart = tt;
 }
 
-pub found_first : (n : ℕ) (parts : List (List (Place × ℕ))) (part : List (Place × ℕ)) (listed : List Place) → n ≡ 1024 → parts ≡ replicate n part
+pub found_first : (n : ℕ) (parts : List ByClass) (part : ByClass) (listed : List Place) → n ≡ 1024 → parts ≡ replicate n part
     → part ≡ [] → listed ≡ [] → AreFound parts listed
 found_first n parts part listed is made empty none =
     subst (λ xs. AreFound xs listed) (sym (made ∙ ap (replicate n) empty)) (subst (AreFound (replicate n [])) (sym none) (found_of_none n is))
 
-pub found_of_more : (parts new : List (List (Place × ℕ))) (listed : List Place) (p : Place) → AreFound parts listed → length new ≡ 1024
+pub found_of_more : (parts new : List ByClass) (listed : List Place) (p : Place) → AreFound parts listed → length new ≡ 1024
     → position (same_place p) listed ≡ None → ((q : Place) → number_at new q ≡ (if same_place p q then Some (length listed) else number_at parts q))
     → AreFound new (listed ++ p ∷ [])
 found_of_more parts new listed p found many fresh is = record {

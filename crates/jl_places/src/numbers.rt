@@ -1,13 +1,16 @@
 //! One of the parts in which places are looked up.
 
-ghost use Rattle.std.specs.Prelude.{◌≡◌, [], Some, if◌then◌else◌, IfOk, OnOk, OnErr};
+ghost use Rattle.std.specs.Prelude.{◌≡◌, [], Some, None, if◌then◌else◌, IfOk, OnOk, OnErr};
+ghost use Rattle.std.specs.BTreeMap.{is_at};
 ghost use Rattle.jl_types.specs.declared.ids.Place.{Place};
 ghost use Rattle.jl_types.specs.Events.Verdict.{same_place};
-ghost use Rattle.jl_places.specs.ForProofs.Parts.{number_in};
+ghost use Rattle.jl_places.specs.declared.numbers.Called as within;
+ghost use Rattle.jl_places.specs.ForProofs.Parts.{called, called_cmp, number_within, number_in};
 
 use indexmap::IndexMap;
-use jl_types::Place;
+use jl_types::{ClassId, Place};
 use std::alloc::{AllocError, Global};
+use std::collections::BTreeMap;
 use std::marker::Model;
 use std::sync::Arc;
 
@@ -24,10 +27,9 @@ impl Drop for Part {
 }
 
 impl Model for Part {
-    ghost use Rattle.std.specs.Prelude.{List, ℕ};
-    ghost use Rattle.jl_types.specs.declared.ids.Place.{Place};
+    ghost use Rattle.jl_places.specs.ForProofs.Parts.{ByClass};
 
-    ghost Value = { List (Place × ℕ) };
+    ghost Value = { ByClass };
 
     ghost view = { λ p. p.shared.value };
 }
@@ -54,12 +56,17 @@ impl Part {
     /// # Errors
     ///
     /// Want of memory. Nothing has changed then.
-    pub(crate) fn insert(&mut self, place: &Place, number: u32) -> Result<(), AllocError>
+    pub(crate) fn insert(
+        &mut self,
+        alloc: Global,
+        place: &Place,
+        number: u32,
+    ) -> Result<(), AllocError>
         ensures ok { OnOk result ((q : Place) → number_in self.new q ≡ (if same_place place.now q then Some number else number_in self.old q)) }
         ensures err { OnErr result (self.new ≡ self.old) }
     {
         let numbers = Arc::make_mut(&mut self.shared)?;
-        numbers.insert(place, number)
+        numbers.insert(alloc, place, number)
     }
 
     /// The same part once more, which both share. Too many copies are an error.
@@ -72,25 +79,24 @@ impl Part {
     }
 }
 
-/// Places with their numbers. A clause sees them.
+/// Places with their numbers, by class. A clause sees them.
 struct Numbers {
-    numbers: IndexMap<Place, u32>,
+    classes: IndexMap<ClassId, ClassNumbers>,
 }
 
 /// Written out, so that what drops one makes one call of it and doesn't take apart what it holds.
 impl Drop for Numbers {
     fn drop(self) {
-        let Numbers { numbers: _numbers } = self;
+        let Numbers { classes: _classes } = self;
     }
 }
 
 impl Model for Numbers {
-    ghost use Rattle.std.specs.Prelude.{List, ℕ};
-    ghost use Rattle.jl_types.specs.declared.ids.Place.{Place};
+    ghost use Rattle.jl_places.specs.ForProofs.Parts.{ByClass};
 
-    ghost Value = { List (Place × ℕ) };
+    ghost Value = { ByClass };
 
-    ghost view = { λ n. n.numbers.entries };
+    ghost view = { λ n. n.classes.entries };
 }
 
 impl Clone for Numbers {
@@ -98,7 +104,7 @@ impl Clone for Numbers {
 
     fn clone(&self) -> Result<Numbers, AllocError> {
         Ok(Numbers {
-            numbers: self.numbers.clone()?,
+            classes: self.classes.clone()?,
         })
     }
 }
@@ -109,7 +115,7 @@ impl Numbers {
         ensures { result ≡ [] }
     {
         Numbers {
-            numbers: IndexMap::new(alloc),
+            classes: IndexMap::new(alloc),
         }
     }
 
@@ -117,7 +123,7 @@ impl Numbers {
     fn get(&self, place: &Place) -> Option<u32>
         ensures { result ≡ number_in self.now place.now }
     {
-        self.numbers.get(place).copied()
+        self.classes.get(&place.class)?.get(Called::of(place))
     }
 
     /// The place has this number.
@@ -125,11 +131,98 @@ impl Numbers {
     /// # Errors
     ///
     /// Want of memory. Nothing has changed then.
-    fn insert(&mut self, place: &Place, number: u32) -> Result<(), AllocError>
+    fn insert(&mut self, alloc: Global, place: &Place, number: u32) -> Result<(), AllocError>
         ensures ok { OnOk result ((q : Place) → number_in self.new q ≡ (if same_place place.now q then Some number else number_in self.old q)) }
         ensures err { OnErr result (self.new ≡ self.old) }
     {
-        self.numbers.insert(*place, number)?;
+        match self.classes.get_mut(&place.class) {
+            Some(numbers) => numbers.insert(Called::of(place), number),
+            None => {
+                let numbers = ClassNumbers::one(alloc, Called::of(place), number)?;
+                self.classes.insert(place.class, numbers)?;
+                Ok(())
+            }
+        }
+    }
+}
+
+/// A place within its class.
+#[derive(Clone, Copy, PartialEq, Eq, PartialOrd, Ord)]
+struct Called {
+    method: u16,
+    pc: u32,
+}
+
+impl Called {
+    /// The place within its class.
+    fn of(place: &Place) -> Self
+        ensures { result ≡ called place.now }
+    {
+        Called {
+            method: place.method,
+            pc: place.pc,
+        }
+    }
+}
+
+/// The places of a class with their numbers. A clause sees them.
+struct ClassNumbers {
+    numbers: BTreeMap<Called, u32>,
+}
+
+/// Written out, so that what drops one makes one call of it and doesn't take apart what it holds.
+impl Drop for ClassNumbers {
+    fn drop(self) {
+        let ClassNumbers { numbers: _numbers } = self;
+    }
+}
+
+impl Model for ClassNumbers {
+    ghost use Rattle.jl_places.specs.ForProofs.Parts.{OfClass};
+
+    ghost Value = { OfClass };
+
+    ghost view = { λ n. n.numbers.entries };
+}
+
+impl Clone for ClassNumbers {
+    ghost is_clone = { λ numbers copy. copy ≡ numbers };
+
+    fn clone(&self) -> Result<ClassNumbers, AllocError> {
+        Ok(ClassNumbers {
+            numbers: self.numbers.clone()?,
+        })
+    }
+}
+
+impl ClassNumbers {
+    /// One place with its number. Want of memory is an error.
+    fn one(alloc: Global, called: Called, number: u32) -> Result<ClassNumbers, AllocError>
+        ensures { IfOk result (λ numbers. (c : within.Called) → number_within numbers c ≡ (if is_at (called_cmp called) c then Some number else None)) }
+    {
+        let mut numbers = BTreeMap::new(alloc);
+        numbers.insert(called, number)?;
+        Ok(ClassNumbers { numbers })
+    }
+
+    /// The number of the place.
+    fn get(&self, called: Called) -> Option<u32>
+        ensures { result ≡ number_within self.now called }
+    {
+        self.numbers.get(&called).copied()
+    }
+
+    /// The place has this number.
+    ///
+    /// # Errors
+    ///
+    /// Want of memory. Nothing has changed then.
+    fn insert(&mut self, called: Called, number: u32) -> Result<(), AllocError>
+        ensures ok { OnOk result ((c : within.Called) → number_within self.new c
+            ≡ (if is_at (called_cmp called) c then Some number else number_within self.old c)) }
+        ensures err { OnErr result (self.new ≡ self.old) }
+    {
+        self.numbers.insert(called, number)?;
         Ok(())
     }
 }

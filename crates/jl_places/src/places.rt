@@ -107,7 +107,7 @@ impl Places {
     {
         self.listed.reserve(alloc)?;
         let number = self.listed.len() as u32;
-        put_in(&mut self.parts, &place, number)?;
+        put_in(&mut self.parts, alloc, &place, number)?;
         self.listed.push_reserved(Listed { place });
         Ok(())
     }
@@ -148,7 +148,7 @@ fn part_of(place: &Place) -> usize
     ensures part { result ≡ parting.part_of place.now }
     ensures within { result < 1024 }
 {
-    (place.class.number() as usize * 31 + place.method as usize * 7 + place.pc as usize) % PARTS
+    place.class.number() as usize % PARTS
 }
 
 /// The number that the place's part has of it.
@@ -164,13 +164,18 @@ fn number_of(parts: &[Part], place: &Place) -> Option<u32>
 /// # Errors
 ///
 /// Want of memory. Nothing has changed then.
-fn put_in(parts: &mut Vec<Part>, place: &Place, number: u32) -> Result<(), AllocError>
+fn put_in(
+    parts: &mut Vec<Part>,
+    alloc: Global,
+    place: &Place,
+    number: u32,
+) -> Result<(), AllocError>
     requires { length parts.old.items ≡ 1024 }
     ensures many { length parts.new.items ≡ 1024 }
     ensures ok { OnOk result ((q : ids.Place) → number_at parts.new.items q ≡ (if same_place place.now q then Some number else number_at parts.old.items q)) }
     ensures err { OnErr result (parts.new.items ≡ parts.old.items) }
 {
-    parts[part_of(place)].insert(place, number)
+    parts[part_of(place)].insert(alloc, place, number)
 }
 
 /// So many copies of the part, which all share. Want of memory is an error.
