@@ -1,6 +1,6 @@
 -- What is left once the accepted event was performed.
 use Rattle.std.specs.Prelude.{◌≡◌, ℕ, ◌+◌, ◌<◌, ◌≤◌, ◌^◌, ◌==◌, ◌&&◌, not, Bool, true, false, cond, List, [], ◌∷◌, length, map}
-use Rattle.std.specs.Prelude.{filter, sum_by, slice_get, Option, Some, None, option_map, is_some, is_none, Ok}
+use Rattle.std.specs.Prelude.{filter, sum_by, slice_get, Option, Some, None, option_map, is_some, is_none}
 use Rattle.std.specs.List.{list_any, range_with_len}
 use Rattle.std.proofs.Common.{refl, ap, sym, subst, ◌∙◌, arith}
 use Rattle.std.proofs.lemmas.Option.{same_Some}
@@ -25,7 +25,7 @@ use Rattle.jl_deps.proofs.IndexLaws.{touched_of}
 use Rattle.jl_deps.proofs.TouchLaws.{sites_rise}
 use Rattle.jl_deps.proofs.PointLaws.{in_range}
 use Rattle.jl_settle.specs.Settling.{AreUpToDate, HasChanged, defined_by, most_asked}
-use Rattle.jl_settle.proofs.SettleLaws.{is_retirement, kept_scratch, most_are}
+use Rattle.jl_settle.proofs.SettleLaws.{is_retirement, most_are}
 use Rattle.jl_events.specs.Accepted.{Accepted, event_of}
 use Rattle.jl_events.specs.Changes.{IsAcceptable, class_of}
 use Rattle.jl_events.specs.Changes as changes
@@ -291,12 +291,6 @@ module _ (w : World) (ks : List Key) (told : Accepted) (links : List (ℕ × Lin
 
     pub was_index : IsIndex w (link_at links) index
     was_index = subst (λ (v : World). IsIndex v (link_at links) index) (sym same_world) led.sound.indexed
-
-    pub rows_scratch : (s : ℕ) (l : Link) → link_with rows (link_at links s) s ≡ Some l → scratch w s ≡ Ok l
-    rows_scratch s l at =
-        ap (λ (v : World). scratch v s) same_world
-        ∙ kept_scratch (list_any (λ row. row.0 == s) rows) (link_at links s) (scratch led.before s) l
-        (sym (install_keeps led.before s links rows free led.sound.scratch) ∙ at)
 
     module _ (left : List (ℕ × Link)) (linked : (s : ℕ) → link_at left s ≡ link_with rows (link_at links s) s) where
       by_rows : (s : ℕ) → link_at left s ≡ kept (list_any (λ row. row.0 == s) rows) (link_at links s) (scratch led.before s)

@@ -1,5 +1,6 @@
 -- Sites that are asked, and those that are together with them.
-use Rattle.std.specs.Prelude.{◌≡◌, ℕ, zero, suc, ◌+◌, ◌==◌, ◌&&◌, ◌||◌, Bool, true, false, cond, List, [], ◌∷◌, ◌++◌, take, drop, slice_get, get_or, length, ◌≤◌, Option, Some, None}
+use Rattle.std.specs.Prelude.{◌≡◌, ℕ, zero, suc, ◌+◌, ◌==◌, ◌&&◌, ◌||◌, Bool, true, false, cond, List, [], ◌∷◌, ◌++◌, take, drop}
+use Rattle.std.specs.Prelude.{slice_get, get_or, length, ◌≤◌, Option, Some, None}
 use Rattle.std.specs.List.{list_any}
 use Rattle.std.specs.Option.{option_map_or}
 use Rattle.std.specs.Map.{lookup}
@@ -198,7 +199,8 @@ module _ {S T : Type 0} (sites : List (ℕ × Rests)) (lists : IndexMap Key (Ind
       listed_so : (f : Form) (t : ℕ) → listed_in groups f t ≡ rests sites t k f
       listed_so f t = ap (λ o. option_map_or (λ groups. listed_in groups f t) o false) (sym at) ∙ are t k f
 
-      weaker : (f : Form) → rests sites s k f ≡ true → (t : ℕ) → ((t == s) || (selects f && listed_in groups f t)) ≡ true → ((t == s) || are_together sites s t) ≡ true
+      weaker : (f : Form) → rests sites s k f ≡ true → (t : ℕ) → ((t == s) || (selects f && listed_in groups f t)) ≡ true
+          → ((t == s) || are_together sites s t) ≡ true
       weaker f at_s t p = elim (or_cases (t == s) (selects f && listed_in groups f t) p) [
         | inl same ↦ or_left (t == s) (are_together sites s t) same
         | inr alike ↦ (let r = both (selects f) (listed_in groups f t) alike in

@@ -100,7 +100,8 @@ one_group p s f h (e ∷ entries) unique at =
 
 -- ---- the groups of a key
 
-module _ {S T : Type 0} (p : Form → Bool) (sites : List (ℕ × Rests)) (rising : Rises sites) (lists : IndexMap Key (IndexMap Form (List ℕ) S) T) (are : AreListed sites lists) where
+module _ {S T : Type 0} (p : Form → Bool) (sites : List (ℕ × Rests)) (rising : Rises sites)
+    (lists : IndexMap Key (IndexMap Form (List ℕ) S) T) (are : AreListed sites lists) where
   in_one : (k : Key) (s : ℕ) (found : Option (IndexMap Form (List ℕ) S)) → get key_eq lists k ≡ found → IfSome found (IsUnique form_eq)
       → option_map_or (λ (groups : IndexMap Form (List ℕ) S). list_any (λ e. p e.0 && has s e.1) groups.entries) found false
       ≡ option_map_or (λ (r : Rests). p r.form && has_key r.footprint k) (rests_at sites s) false

@@ -175,7 +175,10 @@ listed_anew true e g other h all next now before was same listed less =
     by_form false is = nowhere (g && all)
 
 method_is : (m n : MethodId) → ((m.class == n.class) && (m.index == n.index)) ≡ true → m ≡ n
-method_is m n e = λ k. record { class = (Decides-eqb m.class n.class).0 (first (m.class == n.class) (m.index == n.index) e) k; index = (Decides-eqb m.index n.index).0 (second (m.class == n.class) (m.index == n.index) e) k }
+method_is m n e = λ k. record {
+  class = (Decides-eqb m.class n.class).0 (first (m.class == n.class) (m.index == n.index) e) k;
+  index = (Decides-eqb m.index n.index).0 (second (m.class == n.class) (m.index == n.index) e) k;
+}
   where
     first : (a b : Bool) → (a && b) ≡ true → a ≡ true
     first true b h = refl

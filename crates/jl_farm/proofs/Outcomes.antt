@@ -222,7 +222,8 @@ unprepared_seen {K = K} list now f o is same = subst (λ (x : JobOutcome K). Has
     by_fault fault.Memory = tt
 
 -- rows that were prepared after the list would have been accepted after it
-pub accepted_prepared : (n : Limits) (list before : List Entry) (of : List ℕ) (rows : List (ℕ × Link)) → list ≡ before → prepare_fault (world_of before) of ≡ None
+pub accepted_prepared : (n : Limits) (list before : List Entry) (of : List ℕ) (rows : List (ℕ × Link)) → list ≡ before
+    → prepare_fault (world_of before) of ≡ None
     → ArePrepared (world_of before) of rows → IsOk (verdict n (world_of list) (Install rows))
 accepted_prepared n list before of rows is none prepared =
     subst (λ (xs : List Entry). IsOk (verdict n (world_of xs) (Install rows))) (sym is)

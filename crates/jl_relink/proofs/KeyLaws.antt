@@ -131,7 +131,8 @@ module _ (w : World) (order : IsInOrder w) where
         → SiteStays w after s l
     of_rows after later same = stays_by after later (λ c h. same c)
 
-    untouched : (m : Limits) (e : Event) → IsOk (verdict m w e) → retires w e s ≡ false → touches w e s ≡ false → scratch w s ≡ Ok l → SiteStays w (step w e) s l
+    untouched : (m : Limits) (e : Event) → IsOk (verdict m w e) → retires w e s ≡ false → touches w e s ≡ false → scratch w s ≡ Ok l
+        → SiteStays w (step w e) s l
     untouched m event.NewLoader accepted left none =
         of_rows (step w event.NewLoader) (record {
           good = good;

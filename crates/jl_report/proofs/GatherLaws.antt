@@ -192,7 +192,8 @@ one_told cs before waiting one refused r so place is = record {
       );
 }
 
-pub is_stuck : (cs : Classes) (waiting : List Waiting) (one : Waiting) → AreStuck cs (waiting ++ one ∷ []) → is_some (define_fault most_classes cs 0 one.file) ≡ true
+pub is_stuck : (cs : Classes) (waiting : List Waiting) (one : Waiting) → AreStuck cs (waiting ++ one ∷ [])
+    → is_some (define_fault most_classes cs 0 one.file) ≡ true
 is_stuck cs waiting one all = (All-back (λ (w : Waiting). is_some (define_fault most_classes cs 0 w.file) ≡ true) waiting (one ∷ []) all).0
 
 pub all_told : (cs : Classes) (before : List Waiting) (refused : List Refused) → AreToldOf cs before [] refused → numbers refused ≡ reverse (places before)

@@ -106,7 +106,8 @@ pub classes_logged : (n : Limits) (entries : List Entry) (core : State) → core
 classes_logged n entries core is = ap (λ (w : World). length w.classes.rows) (world_logged n entries core is)
 
 -- what is accepted in a world is accepted by a core that has this world
-pub accepted_logged : (n : Limits) (entries : List Entry) (core : State) (e : Event) (w : World) → core ≡ core_of n entries → world_after (events_of entries) ≡ w
+pub accepted_logged : (n : Limits) (entries : List Entry) (core : State) (e : Event) (w : World) → core ≡ core_of n entries
+    → world_after (events_of entries) ≡ w
     → IsOk (verdict n w e) → IsOk (verdict core.limits (world_of core) e)
 accepted_logged n entries core e w is same accepted =
     subst (λ (v : World). IsOk (verdict core.limits v e)) (sym (world_logged n entries core is ∙ same))

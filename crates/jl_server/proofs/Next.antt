@@ -49,7 +49,8 @@ module _ (y : Table) where
   pub same_book : (v : Option Tag) (b : Book) (n : Limits) → server_of v ≡ Some (b, n) → Knows (content y) v → y.list.reached.book ≡ b
   same_book v b n is knows = (found_by (content y) b n v is knows).0
 
-  pub legal_shown : (v : Option Tag) (b : Book) (n : Limits) → server_of v ≡ Some (b, n) → Knows (content y) v → IsShown (content y) → IsLegal n y.list.reached.log
+  pub legal_shown : (v : Option Tag) (b : Book) (n : Limits) → server_of v ≡ Some (b, n) → Knows (content y) v → IsShown (content y)
+      → IsLegal n y.list.reached.log
   legal_shown v b n is knows shown = subst (λ (k : Limits). IsLegal k y.list.reached.log) (found_by (content y) b n v is knows).1 shown.legal
 
   -- a call there gives the fast answer of what is installed

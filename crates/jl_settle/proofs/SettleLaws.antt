@@ -25,7 +25,7 @@ use Rattle.jl_types.specs.declared.key.Key.{Key}
 use Rattle.jl_types.specs.Linkage.Links.{outcome, link_of, scratch}
 use Rattle.jl_types.specs.Linkage.Stages.{Selects, stage}
 use Rattle.jl_types.specs.Events.Verdict.{step}
-use Rattle.jl_types.specs.Events.History.{has_link, is_link, kept}
+use Rattle.jl_types.specs.Events.History.{is_link, kept}
 use Rattle.jl_types.specs.Events.Footprints as events
 use Rattle.jl_types.specs.Events.Footprints.{footprint, meets, most_for, stays_with, touches}
 use Rattle.jl_hierarchy.proofs.Rising.{has}
@@ -100,15 +100,6 @@ kept_or (Some l) (Ok now) = by_test (same_link l now) refl
 some_none : (o : Option Link) → (is_some o && is_none o) ≡ false
 some_none None = refl
 some_none (Some l) = refl
-
--- what is kept is the link from scratch
-pub kept_scratch : (installs_it : Bool) (o : Option Link) (r : Result Link Unlinked) (l : Link) → kept installs_it o r ≡ Some l → r ≡ Ok l
-kept_scratch installs_it o (Err reason) l e = cc
-kept_scratch installs_it o (Ok now) l e = by_test (installs_it || has_link o now) e
-  where
-    by_test : (b : Bool) → (if b then Some now else None) ≡ Some l → ◌≡◌ {A = Result Link Unlinked} (Ok now) (Ok l)
-    by_test true e = ap Ok (same_Some now l e)
-    by_test false e = cc
 
 -- ---- the sites that aren't touched, and those that are
 
@@ -517,7 +508,8 @@ module _ (world : World) (keys : List Key) (defined : Option ℕ) (links : ℕ �
 
 -- ---- what is told of one site
 
-pub told_gone : (w : World) (x : ℕ) (links : ℕ → Option Link) (s : ℕ) (index : List (ℕ × Rests)) (l : Link) (stays : Bool) → IsTold w x links index s → links s ≡ Some l
+pub told_gone : (w : World) (x : ℕ) (links : ℕ → Option Link) (s : ℕ) (index : List (ℕ × Rests)) (l : Link) (stays : Bool)
+    → IsTold w x links index s → links s ≡ Some l
     → TellsStay w s l x stays → not stays ≡ goes w links s
 told_gone w x links s index l stays told is tells = sym (ap (λ (o : Option Link). is_some o && is_none (kept false o (scratch w s))) is
     ∙ by_kept (kept false (Some l) (scratch w s)) said)

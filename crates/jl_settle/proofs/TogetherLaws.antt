@@ -129,7 +129,8 @@ key_met c ks h = alone (has_key ks (key.Receivers c)) h
 pub virtual_by : (cs : Classes) (i : ResolvedCall) (m : MethodId) (x : ℕ) → form.Virtual m ≡ form_of cs (Selects i) → outcome cs i x ≡ virtual_outcome cs x m
 virtual_by cs i m x e = by_selector i.selector refl e
   where
-    by_private : i.selector ≡ ByVirtual → (b : Bool) → form.Virtual m ≡ (if b then form.Other else form.Virtual i.method) → outcome cs i x ≡ virtual_outcome cs x m
+    by_private : i.selector ≡ ByVirtual → (b : Bool) → form.Virtual m ≡ (if b then form.Other else form.Virtual i.method)
+        → outcome cs i x ≡ virtual_outcome cs x m
     by_private is true e = cc
     by_private is false e =
         let same : m ≡ i.method = cc in

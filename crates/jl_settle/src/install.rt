@@ -1,8 +1,6 @@
 //! Installed links, and what they rest on.
 
-ghost use Rattle.std.specs.Prelude.{◌≡◌, ◌++◌, ◌==◌, ℕ, map, Some, Ok, IfOk, OnOk};
-ghost use Rattle.jl_types.specs.declared.link.Link.{Link};
-ghost use Rattle.jl_types.specs.Linkage.Links.{scratch};
+ghost use Rattle.std.specs.Prelude.{◌≡◌, ◌++◌, ◌==◌, ℕ, map, IfOk, OnOk};
 ghost use Rattle.jl_cache.specs.Links.{link_at, link_with};
 ghost use Rattle.jl_deps.specs.Indexes.{IsIndex};
 
@@ -14,7 +12,6 @@ use jl_types::SiteNo;
 use std::alloc::{AllocError, Global};
 
 /// Installs these links, in place of those that the sites have and with the same tables, and keeps in the index what they rest on.
-/// They and all others are those from scratch.
 ///
 /// # Errors
 ///
@@ -26,8 +23,7 @@ pub fn install_rows(
     index: &mut Index,
     rows: &[(SiteNo, KeptLink)],
 ) -> Result<(), AllocError>
-    requires indexed { IsIndex world.now (link_at links.old) index.old }
-    requires scratch { (s : ℕ) (l : Link) → link_with rows.now (link_at links.old s) s ≡ Some l → scratch world.now s ≡ Ok l }
+    requires { IsIndex world.now (link_at links.old) index.old }
     ensures links { OnOk result ((s : ℕ) → link_at links.new s ≡ link_with rows.now (link_at links.old s) s) }
     ensures index { OnOk result (IsIndex world.now (link_at links.new) index.new) }
 {

@@ -3,16 +3,12 @@ use Rattle.jl_types.specs.declared.event.EventOf.TheVariants as events
 use Rattle.jl_cache.specs.Links.{link_at}
 use Rattle.jl_settle.specs.Settling.{AreUpToDate}
 use Rattle.jl_core.specs.ForProofs.Changes.{installs_at}
-use Rattle.jl_core.proofs.StepLaws.{was_index, rows_scratch, up_to_date_installed}
+use Rattle.jl_core.proofs.StepLaws.{was_index, up_to_date_installed}
 use Rattle.jl_core.proofs.perform.install_links.Goals as goal
 
-pub install_rows-requires-clause-indexed : goal.install_rows-requires-clause-indexed
-install_rows-requires-clause-indexed c =
+pub install_rows-requires : goal.install_rows-requires
+install_rows-requires c =
     was_index c.args.world.now c.requires.0 (events.Install c.args.rows.now) c.args.links.now c.args.index.now c.requires.1 c.args.rows.now refl
-
-pub install_rows-requires-clause-scratch : goal.install_rows-requires-clause-scratch
-install_rows-requires-clause-scratch c =
-    rows_scratch c.args.world.now c.requires.0 (events.Install c.args.rows.now) c.args.links.now c.args.index.now c.requires.1 c.args.rows.now refl
 
 pub returns : goal.returns
 returns c =

@@ -11,7 +11,11 @@ pub loop-listed-preserved : goal.loop-listed-preserved
 loop-listed-preserved c =
     let entries = c.args.groups.now.entries in
     record {
-      within = (let lt = slice_get_within entries c.loop-listed.place (c.in-Some.field-0-0.now, c.in-Some.listed.now) (sym c.in-Some.ensures.entry) in omega arith);
+      within = (
+          let lt =
+          slice_get_within entries c.loop-listed.place (c.in-Some.field-0-0.now, c.in-Some.listed.now) (sym c.in-Some.ensures.entry)
+          in omega arith
+          );
       added = λ s.
           any_next (λ group. list_any (λ t. t == s) group.1) entries c.loop-listed.place
           (c.in-Some.field-0-0.now, c.in-Some.listed.now) (has s c.extend_from_slice.new.self.items) (has s c.loop-listed.sites.items)

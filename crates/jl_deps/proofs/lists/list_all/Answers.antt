@@ -11,7 +11,8 @@ use Rattle.jl_deps.proofs.lists.list_all.Goals as goal
 pub returns-in_err-list-clause-others : goal.returns-in_err-list-clause-others
 returns-in_err-list-clause-others c = λ k f s h.
     c.in_err-list.ensures.err k f s
-    ∙ others_listed c.args.keys.now c.loop-key.key-index k ((c.args.site == s) && form_eq c.args.form.now f) (listed c.loop-key.lists k f s) (listed c.args.lists.now k f s)
+    ∙ others_listed c.args.keys.now c.loop-key.key-index k ((c.args.site == s) && form_eq c.args.form.now f)
+    (listed c.loop-key.lists k f s) (listed c.args.lists.now k f s)
     (c.loop-key.invariant k f s) h
 
 pub loop-key-preserved : goal.loop-key-preserved

@@ -21,10 +21,12 @@ loop-key-preserved c = λ k f s.
     elim c.if-not-is_among.branch [
       | then-not-is_among w ↦
           ap (λ ls. listed ls k f s) w.lists-is
-          ∙ gone_more kept front key k ((c.args.site == s) && form_eq c.args.form.now f) (listed w.unlist.new.lists k f s) now old (sym c.is_among.ensures ∙ w.if-not-is_among.true)
+          ∙ gone_more kept front key k ((c.args.site == s) && form_eq c.args.form.now f) (listed w.unlist.new.lists k f s) now old
+          (sym c.is_among.ensures ∙ w.if-not-is_among.true)
           (w.unlist.ensures k f s) (c.loop-key.invariant k f s)
       | else-not-is_among w ↦
           ap (λ ls. listed ls k f s) w.lists-is
-          ∙ stays_more kept front key k ((c.args.site == s) && form_eq c.args.form.now f) now old (sym c.is_among.ensures ∙ w.if-not-is_among.false) (c.loop-key.invariant k f s)
+          ∙ stays_more kept front key k ((c.args.site == s) && form_eq c.args.form.now f) now old
+          (sym c.is_among.ensures ∙ w.if-not-is_among.false) (c.loop-key.invariant k f s)
     ]
     ∙ ap (λ (ks : List Key). not (((c.args.site == s) && form_eq c.args.form.now f) && (has_key ks k && not (has_key kept k))) && old) more

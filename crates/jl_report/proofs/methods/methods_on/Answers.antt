@@ -29,7 +29,8 @@ pub returns-then-len-most : goal.returns-then-len-most
 returns-then-len-most c =
     let count : c.len.result ≡ length c.loop-receiver.found.items = search rules in
     let many = c.if-len-most.true in
-    enough (run_on (asking c.args.world.now.classes c.args.asked.now.place)) c.args.receivers.now c.args.most c.loop-receiver.receiver-index c.loop-receiver.found.items
+    enough (run_on (asking c.args.world.now.classes c.args.asked.now.place)) c.args.receivers.now c.args.most c.loop-receiver.receiver-index
+    c.loop-receiver.found.items
     c.loop-receiver.invariant (omega (arith, count, many))
 
 pub returns : goal.returns

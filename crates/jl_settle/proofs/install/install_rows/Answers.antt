@@ -14,6 +14,6 @@ returns-clause-index c =
     let sites : c.as_slice.result.now ≡ map (λ (row : ℕ × Link). row.0) c.args.rows.now = c.as_slice.ensures.value ∙ c.in_ok-sites.ensures in
     on_ok c.refresh.result
     (λ looked.
-    installed_index w c.args.rows.now (link_at c.args.links.now) links c.args.index.now c.refresh.new.index c.requires.indexed c.in_ok-install_kept.ensures
+    installed_index w c.args.rows.now (link_at c.args.links.now) links c.args.index.now c.refresh.new.index c.requires c.in_ok-install_kept.ensures
     (λ s. looked s ∙ ap (λ (ts : List ℕ). if has s ts then rests_if w s (links s) else rests_at c.args.index.now s) sites))
     c.refresh.ensures

@@ -31,7 +31,9 @@ loop-site-preserved c =
           let sum = sum_more (most_asked c.args.world.now c.args.defined.now) c.args.sites.now c.loop-site.site-index site c.loop-site-test.true c.site-item.is
           in
           omega (arith, before, step, sum));
-      left = all_rest (MayBeAsked c.args.world.now c.args.defined.now links c.args.index.now) c.args.sites.now c.loop-site.site-index c.loop-site.invariant.left;
+      left =
+          all_rest (MayBeAsked c.args.world.now c.args.defined.now links c.args.index.now) c.args.sites.now c.loop-site.site-index
+          c.loop-site.invariant.left;
       lost = λ s.
           listed_more (goes c.args.world.now links) (has s c.push_if.new.sites.items) (has s c.loop-site.lost.items) false front site s
           (c.in_ok-push_if.ensures s ∙ ap (λ b. has s c.loop-site.lost.items || ((site == s) && b)) c.is_lost-goes.ensures.lost)
