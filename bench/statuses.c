@@ -19,6 +19,7 @@ static linkd_link link, present;
 static linkd_link_row row;
 static linkd_invocation invocations[4];
 static linkd_call_answer answer;
+static linkd_resolution resolution;
 static uint32_t sites[257];
 static size_t length;
 
@@ -108,6 +109,12 @@ static void closed(linkd_seat *seat) {
     MUST(linkd_release(at, sites, 0, sites, 0, &told) == LINKD_CLOSED);
     MUST(linkd_install(at, sites, 1, &told) == LINKD_CLOSED);
     MUST(linkd_install_links(at, &row, 1, &told, &present) == LINKD_CLOSED);
+    MUST(linkd_link_place(at, 0, 0, 0, &link, &told) == LINKD_CLOSED);
+    TELLS(linkd_install_ready(at, sites, 1, &link, 1, &told), LINKD_CLOSED, 0, 0, 0);
+    MUST(linkd_check(at, LINKD_NEWEST_KNOWN, bytes(object), sizeof object - 1, &told) == LINKD_CLOSED);
+    MUST(linkd_select(at, 0, 0, LINKD_NULL, &answer) == LINKD_CLOSED);
+    MUST(linkd_resolve(at, 0, 0, bytes("f"), 1, bytes("()V"), 3, &resolution) == LINKD_CLOSED);
+    MUST(linkd_class_accessible(at, 0, 0, sites) == LINKD_CLOSED);
     MUST(linkd_lookup(at, 0, bytes("A"), 1, sites) == LINKD_CLOSED);
     MUST(linkd_class_name(at, 0, (uint8_t *)sites, sizeof sites, &length) == LINKD_CLOSED);
     MUST(linkd_method_name(at, 0, 0, (uint8_t *)sites, sizeof sites, &length) == LINKD_CLOSED);
@@ -160,6 +167,112 @@ static void named(void) {
     MUST(strcmp(linkd_fault_name(LINKD_DEFINE, 4), "LINKD_MISSING_PARENT") == 0);
     MUST(strcmp(linkd_fault_name(LINKD_RELEASE, 3), "LINKD_INVOKED") == 0 && linkd_fault_name(LINKD_RELEASE, 5) == NULL);
     MUST(linkd_fault_name(LINKD_NOT_LINKABLE, 3) == NULL && linkd_fault_name(LINKD_DONE, 1) == NULL);
+}
+
+static int resolves(const char *name, uint32_t kind, uint32_t value, uint32_t class_number, uint32_t method) {
+    MUST(linkd_resolve(at, 2, 5, bytes(name), strlen(name), bytes("()V"), 3, &resolution) == LINKD_DONE);
+    return resolution.kind == kind && resolution.value == value && resolution.class_number == class_number && resolution.method == method;
+}
+
+/* Calls that no code makes, references, access, bytes that aren't defined, and links in one call. B, which is 5, overrides A's f. */
+static void uncalled(void) {
+    static const uint8_t no_magic[] = {1, 2, 3, 4, 0, 0, 0, 61};
+    uint32_t accessible = 9;
+    answer.kind = LINKD_MISS;
+    MUST(linkd_select(at, 1, 1, 1, &answer) == LINKD_NO_SUCH_PLACE && linkd_select(at, 1, 65536, 1, &answer) == LINKD_NO_SUCH_PLACE);
+    MUST(linkd_select(at, 99, 0, 1, &answer) == LINKD_NO_SUCH_PLACE && answer.kind == LINKD_MISS);
+    MUST(comes_to(linkd_select(at, 1, 0, 1, &answer), LINKD_RUN, 1, 0));
+    MUST(comes_to(linkd_select(at, 1, 0, 5, &answer), LINKD_RUN, 5, 0));
+    MUST(comes_to(linkd_select(at, 1, 0, LINKD_NULL, &answer), LINKD_THROWS, 0, LINKD_NULL_POINTER_EXCEPTION));
+    MUST(comes_to(linkd_select(at, 5, 0, 1, &answer), LINKD_BAD_RECEIVER, 0, 0));
+    MUST(comes_to(linkd_select(at, 1, 0, 99, &answer), LINKD_BAD_RECEIVER, 0, 0));
+    MUST(comes_to(linkd_select(at, 3, 1, 99, &answer), LINKD_RUN, 3, 1)); /* it is static */
+
+    resolution.kind = LINKD_MISS;
+    MUST(linkd_resolve(at, 99, 1, bytes("f"), 1, bytes("()V"), 3, &resolution) == LINKD_UNKNOWN_CLASS);
+    MUST(linkd_resolve(at, 1, 99, bytes("f"), 1, bytes("()V"), 3, &resolution) == LINKD_UNKNOWN_CLASS && resolution.kind == LINKD_MISS);
+    MUST(resolves("f", LINKD_RUN, 0, 5, 0));
+    MUST(resolves("g", LINKD_THROWS, LINKD_NO_SUCH_METHOD_ERROR, LINKD_NO_NUMBER, LINKD_NO_NUMBER));
+    MUST(linkd_class_accessible(at, 99, 1, &accessible) == LINKD_UNKNOWN_CLASS);
+    MUST(linkd_class_accessible(at, 1, 99, &accessible) == LINKD_UNKNOWN_CLASS && accessible == 9);
+    MUST(linkd_class_accessible(at, 2, 1, &accessible) == LINKD_DONE && accessible == 1);
+
+    TELLS(linkd_check(at, 64, bytes(object), sizeof object - 1, &told), LINKD_NO_CLASS_FILE, 0, LINKD_BAD_VERSION, 0);
+    TELLS(linkd_check(at, 65, bytes(object), sizeof object - 1, &told), LINKD_DONE, 0, 0, 0);
+    TELLS(linkd_check(at, 65, no_magic, 8, &told), LINKD_NO_CLASS_FILE, 0, LINKD_BAD_MAGIC, 0);
+
+    link.kind = LINKD_MEGA;
+    TELLS(linkd_link_place(at, 2, 65536, 0, &link, &told), LINKD_MALFORMED, 0, 0, 0);
+    TELLS(linkd_link_place(at, 99, 0, 0, &link, &told), LINKD_UNKNOWN_CLASS, 0, 0, 0);
+    TELLS(linkd_link_place(at, 2, 0, 1, &link, &told), LINKD_NO_SUCH_PLACE, 0, 0, 0);
+    TELLS(linkd_link_place(at, 2, 0, 6, &link, &told), LINKD_NOT_LINKABLE, 0, LINKD_ARRAY_RECEIVER, 0);
+    TELLS(linkd_link_place(at, 4, 0, 0, &link, &told), LINKD_SITES_FULL, 0, 0, 0);
+    MUST(link.kind == LINKD_MEGA);
+    TELLS(linkd_link_place(at, 3, 2, 0, &link, &told), LINKD_DONE, 2, 0, 0);
+    MUST(link.kind == LINKD_PLAIN && link.count == 1 && row_is(&link.rows[0], 0, LINKD_RUN, 3, 0));
+    TELLS(linkd_link_place(at, 2, 0, 0, &link, &told), LINKD_NOT_READY, 0, 0, 0);
+    MUST(link.kind == LINKD_NONE && link.count == 0);
+    TELLS(linkd_link_place(at, 2, 0, 3, &link, &told), LINKD_DONE, 1, 0, 0);
+    MUST(link.kind == LINKD_VIRTUAL_TABLE && link.count == 2 && row_is(&link.rows[1], 5, LINKD_RUN, 5, 0));
+}
+
+/* After how many accepted events the linker is. */
+static uint64_t serial_now(void) {
+    linkd_view *view = block(linkd_view_size(), linkd_view_align());
+    uint64_t serial = 0;
+    linkd_view_blank(view);
+    MUST(linkd_view_take(view, at) == LINKD_DONE && linkd_view_serial(view, &serial) == LINKD_DONE);
+    linkd_view_leave(view);
+    free(view);
+    return serial;
+}
+
+static uint64_t work_of_last(void) {
+    uint64_t work = 0;
+    MUST(linkd_last_work(at, &work) == LINKD_DONE);
+    return work;
+}
+
+/* Links of those of several sites that have one. Site 0 waits for Z, 1 calls f of A and B, and 2 runs what call site 1 does. */
+static void readied(void) {
+    static linkd_link links[257];
+    TELLS(set_target(1, "{\"method\":[3,1]}"), LINKD_DONE, 0, 0, 0);
+    MUST(told.dropped == 1 && linkd_link_of(at, 2, &link) == LINKD_DONE && link.kind == LINKD_NONE);
+    for (int i = 0; i < 257; i++) links[i] = (linkd_link){.kind = LINKD_MEGA};
+    memcpy(sites, (uint32_t[]){2, 0, 1, 9}, 4 * sizeof *sites);
+    TELLS(linkd_install_ready(at, sites, 4, links, 3, &told), LINKD_TOO_SHORT, 0, 0, 0);
+    MUST(links[0].kind == LINKD_MEGA && linkd_link_of(at, 2, &link) == LINKD_DONE && link.kind == LINKD_NONE);
+    TELLS(linkd_install_ready(at, sites, 4, links, 5, &told), LINKD_DONE, 0, 0, 0);
+    MUST(told.dropped == 0 && linkd_dropped(at, sites, 257, &length) == LINKD_DONE && length == 0);
+    MUST(links[0].kind == LINKD_PLAIN && links[0].count == 1 && row_is(&links[0].rows[0], 0, LINKD_RUN, 3, 1));
+    MUST(links[1].kind == LINKD_NONE && links[1].count == 0 && row_is(&links[1].rows[0], 0, 0, 0, 0));
+    MUST(links[2].kind == LINKD_VIRTUAL_TABLE && links[2].count == 2 && row_is(&links[2].rows[0], 1, LINKD_RUN, 1, 0));
+    MUST(row_is(&links[2].rows[1], 5, LINKD_RUN, 5, 0) && links[3].kind == LINKD_NONE && links[4].kind == LINKD_MEGA);
+    MUST(linkd_link_of(at, 2, &link) == LINKD_DONE && link.kind == LINKD_PLAIN && row_is(&link.rows[0], 0, LINKD_RUN, 3, 1));
+
+    /* Without one that has a link there is no event. Of site 1 a method was selected for A and for B. */
+    sites[0] = 1;
+    TELLS(linkd_install_ready(at, sites, 1, links, 1, &told), LINKD_DONE, 0, 0, 0);
+    uint64_t serial = serial_now();
+    MUST(work_of_last() == 2);
+    TELLS(linkd_install_ready(at, sites, 0, links, 0, &told), LINKD_DONE, 0, 0, 0);
+    MUST(links[0].kind == LINKD_VIRTUAL_TABLE);
+    for (int i = 0; i < 257; i++) sites[i] = i % 2 ? 9 : 0;
+    TELLS(linkd_install_ready(at, sites, 257, links, 257, &told), LINKD_DONE, 0, 0, 0);
+    for (int i = 0; i < 257; i++) MUST(links[i].kind == LINKD_NONE);
+    MUST(work_of_last() == 2 && serial_now() == serial);
+
+    TELLS(set_target(1, "{\"method\":[3,0]}"), LINKD_DONE, 0, 0, 0);
+    MUST(told.dropped == 1);
+    links[0].kind = LINKD_MEGA;
+    memcpy(sites, (uint32_t[]){0, 2, 1, 0, 1}, 5 * sizeof *sites);
+    TELLS(linkd_install_ready(at, sites, 5, links, 5, &told), LINKD_REPEATED, 0, 0, 1);
+    for (int i = 0; i < 257; i++) sites[i] = 2;
+    TELLS(linkd_install_ready(at, sites, 257, links, 257, &told), LINKD_BATCH_SIZE, 0, 0, 0);
+    TELLS(linkd_install_ready(at, sites, 256, links, 256, &told), LINKD_REPEATED, 0, 0, 2);
+    MUST(links[0].kind == LINKD_MEGA && linkd_link_of(at, 2, &link) == LINKD_DONE && link.kind == LINKD_NONE);
+    TELLS(linkd_install_ready(at, sites, 1, links, 1, &told), LINKD_DONE, 0, 0, 0);
+    MUST(links[0].kind == LINKD_PLAIN && row_is(&links[0].rows[0], 0, LINKD_RUN, 3, 0));
 }
 
 /* A view, in which the invokedynamic's link is prepared before its target is another one. */
@@ -378,7 +491,7 @@ int main(void) {
     TELLS(linkd_define(at, 0, truncated, 3, &told), LINKD_NO_CLASS_FILE, 0, LINKD_TRUNCATED, 0);
     TELLS(linkd_define(at, 0, no_magic, 8, &told), LINKD_NO_CLASS_FILE, 0, LINKD_BAD_MAGIC, 0);
     TELLS(linkd_define(at, 0, newer, 8, &told), LINKD_NO_CLASS_FILE, 0, LINKD_BAD_VERSION, 0);
-    TELLS(define_object(61), LINKD_NO_CLASS_FILE, 0, LINKD_BAD_VERSION, 0);
+    TELLS(define_object(LINKD_NEWEST_OF_17), LINKD_NO_CLASS_FILE, 0, LINKD_BAD_VERSION, 0);
     TELLS(define_object(64), LINKD_NO_CLASS_FILE, 0, LINKD_BAD_VERSION, 0);
     TELLS(define_object(LINKD_NEWEST_KNOWN), LINKD_DONE, 0, 0, 0);
     TELLS(define_object(65), LINKD_DEFINE, 0, LINKD_ALREADY_RECORDED, 0);
@@ -460,6 +573,9 @@ int main(void) {
     MUST(linkd_call(at, 2, LINKD_NULL, &answer) == LINKD_DONE && answer.kind == LINKD_UNLINKED && answer.value == LINKD_UNBOUND);
     sites[0] = 2;
     TELLS(linkd_install(at, sites, 1, &told), LINKD_NOT_READY, 0, 0, 2);
+    link.kind = LINKD_MEGA;
+    TELLS(linkd_install_ready(at, sites, 1, &link, 1, &told), LINKD_DONE, 0, 0, 0);
+    MUST(link.kind == LINKD_NONE);
     TELLS(linkd_bind(at, 2, 1, &told), LINKD_DONE, 0, 0, 0);
     TELLS(linkd_bind(at, 2, 1, &told), LINKD_ALREADY_BOUND, 0, 0, 1);
     TELLS(linkd_install(at, sites, 0, &told), LINKD_BATCH_SIZE, 0, 0, 0);
@@ -491,6 +607,7 @@ int main(void) {
     MUST(is_in_bits(linkd_seat_answer(seat, 1, LINKD_NULL), LINKD_THROWS, 0, LINKD_NULL_POINTER_EXCEPTION));
     sites[0] = 1;
     TELLS(linkd_invalidate(at, sites, 1, &told), LINKD_DONE, 0, 0, 0);
+    MUST(told.dropped == 1);
     sites[0] = 7;
     MUST(linkd_dropped(at, sites, 0, &length) == LINKD_TOO_SHORT && length == 1 && sites[0] == 7);
     MUST(linkd_dropped(at, sites, 1, &length) == LINKD_DONE && length == 1 && sites[0] == 2);
@@ -499,7 +616,9 @@ int main(void) {
     MUST(linkd_seat_refresh(seat, at) == LINKD_DONE);
     MUST(linkd_seat_call(seat, 2, LINKD_NULL, &answer) == LINKD_DONE && answer.kind == LINKD_MISS);
     TELLS(linkd_install(at, sites, 1, &told), LINKD_DONE, 0, 0, 0);
+    MUST(told.dropped == 0);
     TELLS(set_target(1, "{\"method\":[3,0]}"), LINKD_DONE, 0, 0, 0);
+    MUST(told.dropped == 1);
     MUST(linkd_dropped(at, sites, 1, &length) == LINKD_DONE && length == 1 && sites[0] == 2);
 
     /* A class that overrides, as 5. */
@@ -520,6 +639,8 @@ int main(void) {
     TELLS(delegate(1, "A", 0), LINKD_DONE, 0, 0, 0);
     TELLS(delegate(1, "A", 0), LINKD_DELEGATE, 0, LINKD_DELEGATE_ALREADY_RECORDED, 0);
     named();
+    uncalled();
+    readied();
 
     /* Eight more classes below A, as 6 to 13, so that its call is megamorphic. */
     for (int i = 6; i < 14; i++) {

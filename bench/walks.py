@@ -45,7 +45,7 @@ CRATE = Path(__file__).resolve().parent.parent / 'crates/linkd_c'
 LIBRARY = 'jl_host'
 MODULES = {
     'Linker': 'linker', 'Seat': 'seat', 'Memo': 'memo', 'View': 'view', 'Renewal': 'renewal',
-    'Told': 'told', 'CallAnswer': 'shown', 'LinkShown': 'shown', 'LinkRow': 'reading', 'TargetPart': 'targets',
+    'Told': 'told', 'CallAnswer': 'shown', 'LinkShown': 'shown', 'ResolutionShown': 'shown', 'LinkRow': 'reading', 'TargetPart': 'targets',
     'Invocation': 'invocations', 'Counts': 'renew',
 }
 # ----

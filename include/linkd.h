@@ -32,7 +32,7 @@ extern "C" {
 #endif
 
 /* Grows with each change of this header that a library has to follow; linkd_version() tells it of the library. */
-#define LINKD_VERSION 10
+#define LINKD_VERSION 11
 
 typedef struct linkd linkd;
 typedef struct linkd_seat linkd_seat;
@@ -75,11 +75,12 @@ typedef enum linkd_status {
 
 /* What an event made, or why it was refused; each number that says nothing is 0. It is written whatever the status is. */
 typedef struct linkd_told {
-    uint32_t number; /* of the loader, class, site, call site or switch point that the event made or found; see at linkd_retire_all */
-    uint32_t fault;  /* why, more closely, by the status */
-    uint32_t place;  /* where, by the status or the fault */
-    uint32_t cause;  /* why, still more closely: of a class file's pool or code */
-    uint32_t at;     /* the pc of a fault of a code */
+    uint32_t number;  /* of the loader, class, site, call site or switch point that the event made or found; see at linkd_retire_all */
+    uint32_t fault;   /* why, more closely, by the status */
+    uint32_t place;   /* where, by the status or the fault */
+    uint32_t cause;   /* why, still more closely: of a class file's pool or code */
+    uint32_t at;      /* the pc of a fault of a code */
+    uint32_t dropped; /* how many links the event removed: linkd_dropped has the sites */
 } linkd_told;
 
 typedef enum linkd_define_fault {
@@ -203,6 +204,14 @@ typedef struct linkd_call_answer {
     uint32_t value;        /* 0 for LINKD_BAD_RECEIVER and LINKD_MISS */
 } linkd_call_answer;
 
+/* What a reference to a method resolves to. */
+typedef struct linkd_resolution {
+    linkd_answer_kind kind; /* LINKD_RUN: to the method that was found; LINKD_THROWS; LINKD_UNLINKED: a nest host isn't recorded */
+    uint32_t value;         /* of LINKD_THROWS a linkd_throwable, of LINKD_UNLINKED a linkd_unlinked, else 0 */
+    uint32_t class_number;  /* of the method that was found, accessible or not; where none was, this and `method` are LINKD_NO_NUMBER */
+    uint32_t method;
+} linkd_resolution;
+
 typedef enum linkd_link_kind {
     LINKD_NONE = 0,            /* none is installed */
     LINKD_FAULT = 1,           /* each call throws: row 0 has it */
@@ -288,6 +297,8 @@ typedef struct linkd_numbers {
     size_t switch_capacity;
 } linkd_numbers;
 
+/* The newest major version of class files of SE 17 (4.1), and so the newest one that linkd_define takes. */
+#define LINKD_NEWEST_OF_17 61
 /* The newest major version of class files of which it is known how they are read: that of Java 25. */
 #define LINKD_NEWEST_KNOWN 69
 /* The null reference, as a receiver. */
@@ -321,12 +332,12 @@ void linkd_close(linkd *at);
 
 /* number is the loader. LINKD_LOADERS_FULL: there are as many as the linker may have. */
 linkd_status linkd_new_loader(linkd *at, linkd_told *told);
-/* Defines the class of a class file. Its major version is 45 to 61, those of SE 17. number is the class. LINKD_NO_CLASS_FILE, of which
+/* Defines the class of a class file. Its major version is 45 to LINKD_NEWEST_OF_17. number is the class. LINKD_NO_CLASS_FILE, of which
  * linkd_class_fault says the place; LINKD_DEFINE. */
 linkd_status linkd_define(linkd *at, uint32_t loader, const uint8_t *bytes, size_t length, linkd_told *told);
-/* As linkd_define, but the major version is 45 to `newest`. A file of a version above 61 is read as one of 61.0 is, and linked as SE 17 says.
- * Up to LINKD_NEWEST_KNOWN the editions of the specification say the same of all that is read. Of later versions nothing is known. It isn't
- * claimed that a JVM of SE 17 would take such a file. */
+/* As linkd_define, but the major version is 45 to `newest`. A file of a version above LINKD_NEWEST_OF_17 is read as one of 61.0 is, and linked
+ * as SE 17 says. Up to LINKD_NEWEST_KNOWN the editions of the specification say the same of all that is read. Of later versions nothing is
+ * known. It isn't claimed that a JVM of SE 17 would take such a file. */
 linkd_status linkd_define_up_to(linkd *at, uint32_t loader, uint16_t newest, const uint8_t *bytes, size_t length,
                                 linkd_told *told);
 /* The loader finds under the name the class that the loader `to` finds. LINKD_DELEGATE. */
@@ -389,6 +400,27 @@ linkd_status linkd_install(linkd *at, const uint32_t *sites, size_t count, linkd
 linkd_status linkd_install_links(linkd *at, const linkd_link_row *rows, size_t count, linkd_told *told,
                                  linkd_link *present);
 
+/* As linkd_request of the place, and then as linkd_install of its site, unless it has a link: of an invocation that is met this one call gives
+ * the link. The statuses are those of the two. Where the request is refused, *link is as before. Else number is the site, whatever the status
+ * is, and *link is what is installed there: LINKD_NONE with LINKD_NOT_READY, where linkd_awaited names the class for which the site waits, and
+ * with LINKD_MEMORY. These are two events at most. Neither removes a link, and the second is the one of linkd_last_work. */
+linkd_status linkd_link_place(linkd *at, uint32_t class_number, uint32_t method, uint32_t pc, linkd_link *link,
+                              linkd_told *told);
+
+/* Links from scratch those of the sites that have a link now, and installs these links, as one event: all of them or none. The others are passed
+ * over: sites that have no link now, and numbers under which nothing was requested. They may come more than once. Where all are passed over it
+ * is LINKD_DONE, too, and there is no event. Where it is done links[i] is what is installed at sites[i] then, LINKD_NONE where that was passed
+ * over. Else links is as before. No link is removed. Each link that is installed is looked up twice. capacity is that of links.
+ * In this order: LINKD_TOO_SHORT, where capacity is less than count; LINKD_BATCH_SIZE, where more than 256 of the sites have a link;
+ * LINKD_REPEATED, whose place is the first site that has a link and comes a second time. */
+linkd_status linkd_install_ready(linkd *at, const uint32_t *sites, size_t count, linkd_link *links, size_t capacity,
+                                 linkd_told *told);
+
+/* LINKD_DONE where the bytes are a class file whose major version is 45 to `newest`, as linkd_define_up_to reads them. A definition asks for more,
+ * as for the parents. A host that reads a class itself before it defines it calls this first. It is no event, and takes memory while it reads.
+ * LINKD_NO_CLASS_FILE, of which linkd_class_fault says the place; LINKD_MEMORY. */
+linkd_status linkd_check(linkd *at, uint16_t newest, const uint8_t *bytes, size_t length, linkd_told *told);
+
 /* What follows is no event: it leaves the linker as it is, takes no memory, and is LINKD_DONE or LINKD_CLOSED, or what stands there.
  * Where it isn't done nothing is written but a length, with LINKD_TOO_SHORT. */
 
@@ -400,6 +432,26 @@ linkd_status linkd_dropped(linkd *at, uint32_t *out, size_t capacity, size_t *le
 linkd_status linkd_call(linkd *at, uint32_t site, uint32_t receiver, linkd_call_answer *answer);
 /* The link that is installed at the site, or LINKD_NONE, also where nothing was requested. */
 linkd_status linkd_link_of(linkd *at, uint32_t site, linkd_link *link);
+
+/* What a call of the method comes to on the receiver, where no code makes it, as by reflection, a method handle or native code. A static method
+ * runs itself, whatever the receiver is. Else null throws NullPointerException, and it is LINKD_BAD_RECEIVER where no object is of the receiver's
+ * class, or where that is neither the method's class nor below it. Else an instance initialization method runs itself, and of another
+ * method the call comes to what an invokevirtual of it does, or where its class is an interface an invokeinterface that names this one (5.4.6,
+ * 6.5). No caller's access is looked at. The answer stays as long as there may be objects of the receiver's class, whatever is defined later.
+ * LINKD_NO_SUCH_PLACE where the class was never defined or is retired, or has no such method. */
+linkd_status linkd_select(linkd *at, uint32_t class_number, uint32_t method, uint32_t receiver,
+                          linkd_call_answer *answer);
+/* What a reference to the method of this name and descriptor in the class `named` resolves to for the class `from` (5.4.3.3, where `named` is
+ * an interface 5.4.3.4; access: 5.4.4). It looks at no instruction: the host has to see whether the method is static, and whether an instance
+ * initialization method is one of `named` (6.5). Of java/lang/invoke/MethodHandle and VarHandle methods are found as of any class; their
+ * signature polymorphism (2.9.3) is the host's. Of LINKD_UNLINKED the value is LINKD_WANTS_CALLER_HOST or LINKD_WANTS_METHOD_HOST: the NestHost
+ * (4.7.28) of `from`, or of the method's class, names the class that is to be defined. LINKD_UNKNOWN_CLASS where one of the two was never
+ * defined or is retired. */
+linkd_status linkd_resolve(linkd *at, uint32_t from, uint32_t named, const uint8_t *name, size_t name_length,
+                           const uint8_t *type, size_t type_length, linkd_resolution *resolution);
+/* *accessible is 1 where the class is accessible to the class `from`, as for new, checkcast and fields, else 0 (5.4.4). Of an array class ask for
+ * the class of its elements (5.3.3). LINKD_UNKNOWN_CLASS as above. */
+linkd_status linkd_class_accessible(linkd *at, uint32_t from, uint32_t class_number, uint32_t *accessible);
 
 /* The class that the loader finds under the name (5.3): one that it has defined or was delegated. LINKD_UNKNOWN_CLASS where it finds none,
  * or where there is no such loader, or a retired one. */

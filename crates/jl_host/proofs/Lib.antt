@@ -17,6 +17,7 @@ pub mod EndLaws
 pub mod BehindLaws
 pub mod CaughtUp
 pub mod SeatLaws
+pub mod SelectionLaws
 -- a renewal in steps, beside its linker
 pub mod UnderWayLists
 pub mod UnderWayLinks

@@ -18,16 +18,16 @@ use Rattle.jl_host.specs.Awaiting.{awaited}
 
 -- ---- a class by its name
 
--- none is found, and nothing was written; or its number is
-abbrev pub IsFound : Option ℕ → ℕ → ℕ → ℕ → Type 0
-IsFound None before status after = (status ≡ unknown_class) × (after ≡ before)
-IsFound (Some c) before status after = (status ≡ done) × (after ≡ c)
+-- there is none, for this reason, and nothing was written; or it was written
+abbrev pub IsWrittenIf : {A : Type 0} → ℕ → Option A → A → ℕ → A → Type 0
+IsWrittenIf reason None before status after = (status ≡ reason) × (after ≡ before)
+IsWrittenIf reason (Some value) before status after = (status ≡ done) × (after ≡ value)
 
 -- the linker isn't open, and nothing was written; or this is what the loader finds under the name (JVMS 5.3)
 abbrev pub IsLookup : ℕ → List ℕ → Option Opened → ℕ → ℕ → ℕ → Option Opened → Type 0
 IsLookup loader name None before status after new = (status ≡ closed) × (after ≡ before) × (new ≡ None)
 IsLookup loader name (Some old) before status after new =
-    IsFound (lookup (world_of old.session.core).classes loader name) before status after × (new ≡ Some old)
+    IsWrittenIf unknown_class (lookup (world_of old.session.core).classes loader name) before status after × (new ≡ Some old)
 
 -- ---- lists of a class or a method
 

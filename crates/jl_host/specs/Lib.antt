@@ -1,5 +1,5 @@
--- `Numbers`, `Telling`, `Showing`, `Copies`, `Linkers`, `Seats`, `Memos`, `Reading`, `Targets`, `Views`, `Awaiting`, `Asking`, `Renewals`,
--- `Renewing` and `UnderWay` are what contracts cite; `Behind` and `Starts` are means of proof.
+-- `Numbers`, `Telling`, `Showing`, `Copies`, `Linkers`, `Seats`, `Memos`, `Reading`, `Targets`, `Views`, `Awaiting`, `Asking`, `Calling`, `Linking`,
+-- `Renewals`, `Renewing` and `UnderWay` are what contracts cite; what stands in `ForProofs` is a means of proof.
 pub mod Numbers
 pub mod Telling
 pub mod Showing
@@ -12,6 +12,8 @@ pub mod Targets
 pub mod Views
 pub mod Awaiting
 pub mod Asking
+pub mod Calling
+pub mod Linking
 pub mod Renewals
 pub mod Renewing
 pub mod UnderWay

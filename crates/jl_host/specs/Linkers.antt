@@ -152,6 +152,14 @@ IsDefine loader bytes = IsDefineUpTo newest_of_17 loader bytes
 abbrev pub IsDelegate : ℕ → List ℕ → ℕ → Option Opened → ℕ → Told → Option Opened → Type 0
 IsDelegate loader name to = IfOpenWithMemory (IsAsked (event.Delegate loader name to))
 
+-- whether the bytes are a class file of a version up to the newest one; no event is asked for
+abbrev pub IsCheckedUpTo : ℕ → List ℕ → Opened → ℕ → Told → Opened → Type 0
+IsCheckedUpTo newest bytes old status told new =
+    ((p : Parts) × IsClassUpTo newest bytes p × IsUnasked done old status told new) ⊎ IsUnreadUpTo newest bytes old status told new
+
+abbrev pub IsCheckUpTo : ℕ → List ℕ → Option Opened → ℕ → Told → Option Opened → Type 0
+IsCheckUpTo newest bytes = IfOpen (IsCheckedUpTo newest bytes)
+
 -- a method is among the first 2^16 of its class
 abbrev pub request_at : ℕ → ℕ → ℕ → Option Event
 request_at class method pc =

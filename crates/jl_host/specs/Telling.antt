@@ -1,5 +1,5 @@
 -- What is told of an event, or of bytes that are no class file.
-use Rattle.std.specs.Prelude.{ℕ, min, List, Option, Some, None, Result, Ok, Err}
+use Rattle.std.specs.Prelude.{ℕ, min, length, List, Option, Some, None, Result, Ok, Err}
 use Rattle.jl_pool.specs.declared.pool_fault.PoolFault.{PoolFault}
 use Rattle.jl_pool.specs.declared.pool_fault.PoolFault.TheVariants as pool
 use Rattle.jl_code.specs.declared.code_fault.CodeFault.{CodeFault}
@@ -21,27 +21,35 @@ use Rattle.jl_host.specs.declared.told.Told.{Told}
 use Rattle.jl_host.specs.Numbers.{done, status_of_refusal, define_number, call_site_number, invoked_in, delegate_number, not_linkable_number, number_of}
 
 abbrev pub nothing : Told
-nothing = record { number = 0; fault = 0; place = 0; cause = 0; at = 0 }
+nothing = record { number = 0; fault = 0; place = 0; cause = 0; at = 0; dropped = 0 }
 
 abbrev pub with_fault : ℕ → Told
-with_fault fault = record { number = 0; fault = fault; place = 0; cause = 0; at = 0 }
+with_fault fault = record { number = 0; fault = fault; place = 0; cause = 0; at = 0; dropped = 0 }
 
 abbrev pub with_place : ℕ → Told
-with_place place = record { number = 0; fault = 0; place = place; cause = 0; at = 0 }
+with_place place = record { number = 0; fault = 0; place = place; cause = 0; at = 0; dropped = 0 }
 
 abbrev pub at_place : ℕ → ℕ → Told
-at_place fault place = record { number = 0; fault = fault; place = place; cause = 0; at = 0 }
+at_place fault place = record { number = 0; fault = fault; place = place; cause = 0; at = 0; dropped = 0 }
 
 -- ---- renewals
 
 -- an event names what was released: this, after so many events
 abbrev pub told_of_released : ℕ → ℕ → Told
-told_of_released place before = record { number = min before 4294967295; fault = 0; place = place; cause = 0; at = 0 }
+told_of_released place before = record { number = min before 4294967295; fault = 0; place = place; cause = 0; at = 0; dropped = 0 }
 
 -- ---- events
 
+-- what was made, and how many links the event removed
 abbrev pub told_of_reply : Reply → Told
-told_of_reply reply = record { number = number_of reply.made; fault = 0; place = 0; cause = 0; at = 0 }
+told_of_reply reply = record {
+  number = number_of reply.made;
+  fault = 0;
+  place = 0;
+  cause = 0;
+  at = 0;
+  dropped = min (length reply.dropped) 4294967295;
+}
 
 abbrev pub told_of_retirement : RetireFault → Told
 told_of_retirement retirement.UnknownLoader = with_fault 1
@@ -110,7 +118,7 @@ told_of_unprepared preparation.Memory = nothing
 
 -- a fault of the constant pool, at an entry
 abbrev pub in_pool : ℕ → ℕ → Told
-in_pool cause entry = record { number = 0; fault = 5; place = entry; cause = cause; at = 0 }
+in_pool cause entry = record { number = 0; fault = 5; place = entry; cause = cause; at = 0; dropped = 0 }
 
 abbrev pub told_of_pool : PoolFault → Told
 told_of_pool pool.Truncated = in_pool 1 0
@@ -122,7 +130,7 @@ told_of_pool pool.Memory = in_pool 0 0
 
 -- a fault of a method's code, at a pc
 abbrev pub in_code : ℕ → ℕ → ℕ → Told
-in_code method cause pc = record { number = 0; fault = 10; place = method; cause = cause; at = pc }
+in_code method cause pc = record { number = 0; fault = 10; place = method; cause = cause; at = pc; dropped = 0 }
 
 abbrev pub told_of_code : ℕ → CodeFault → Told
 told_of_code method (code.BadOpcode pc) = in_code method 1 pc

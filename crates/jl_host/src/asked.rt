@@ -5,7 +5,7 @@ ghost use Rattle.jl_types.specs.Values.Members.{lookup};
 ghost use Rattle.jl_core.specs.State.{world_of};
 ghost use Rattle.jl_host.specs.Awaiting as awaiting;
 ghost use Rattle.jl_host.specs.Numbers.{unknown_class, no_such_place};
-ghost use Rattle.jl_host.specs.Asking.{IsFound, IsCopiedIf, class_name, method_in, invocation_shown};
+ghost use Rattle.jl_host.specs.Asking.{IsWrittenIf, IsCopiedIf, class_name, method_in, invocation_shown};
 
 use crate::arrays::copy_text;
 use crate::awaited::awaited;
@@ -19,7 +19,7 @@ use jl_types::{ClassId, LoaderId, SiteNo};
 
 /// Writes the number of the class that the loader finds under the name, if it finds one. Takes no memory.
 pub(crate) fn find_class(core: &Core, loader: u32, name: &[u8], class: &mut u32) -> u32
-    ensures { IsFound (lookup (world_of core.now).classes loader name.now) class.old result class.new }
+    ensures { IsWrittenIf unknown_class (lookup (world_of core.now).classes loader name.now) class.old result class.new }
 {
     match core.world().classes.lookup(LoaderId::new(loader), name) {
         Some(found) => {

@@ -1,6 +1,6 @@
 //! The class for which a site waits.
 
-ghost use Rattle.std.specs.Prelude.{◌≡◌, ◌<◌, length, option_copied};
+ghost use Rattle.std.specs.Prelude.{◌≡◌, option_copied};
 ghost use Rattle.jl_types.specs.Linkage.Resolution as resolution;
 ghost use Rattle.jl_host.specs.Awaiting as awaiting;
 
@@ -9,8 +9,8 @@ use jl_hierarchy::Classes;
 use jl_names::LentName;
 use jl_pool::Reference;
 use jl_relink::{World, invocation_at};
-use jl_resolve::{found_in_class, found_in_interface, named_class, resolve_reference};
-use jl_types::{ClassId, MethodId, Missing, ResolveAnswer, SiteNo};
+use jl_resolve::{found_in, named_class, resolve_reference};
+use jl_types::{ClassId, Missing, ResolveAnswer, SiteNo};
 
 /// The name of the class for which the site waits, if it waits for one. Takes no memory.
 pub(crate) fn awaited(world: &World, site: SiteNo) -> Option<&[u8]>
@@ -86,20 +86,8 @@ fn method_host_named<'a>(
     ensures { option_copied result ≡ awaiting.method_host_named classes.now caller reference.now }
 {
     let named = named_class(classes, caller, reference)?;
-    let method = found(classes, reference, named)?;
-    nest_host_named(classes, method.class)
-}
-
-/// The method that the reference finds in the class that it names.
-fn found(classes: &Classes, reference: &Reference<LentName<'_>>, named: ClassId) -> Option<MethodId>
-    requires { named < length classes.now.rows }
-    ensures { result ≡ resolution.found classes.now reference.now named }
-{
     let name = reference.name.as_slice();
     let ty = reference.ty.as_slice();
-    if reference.itf {
-        found_in_interface(classes, named, name, ty)
-    } else {
-        found_in_class(classes, named, name, ty)
-    }
+    let method = found_in(classes, named, reference.itf, name, ty)?;
+    nest_host_named(classes, method.class)
 }

@@ -1,6 +1,10 @@
 //! The laws of links and targets as numbers, and of a renewal in steps: each is the contract of a function that does nothing.
 
-ghost use Rattle.std.specs.Prelude.{◌≡◌, ◌==◌, ◌≤◌, ◌<◌, ◌^◌, ◌⊎◌, ℕ, true, length, List, Option, Some, Ok, Err, if◌then◌else◌};
+ghost use Rattle.std.specs.Prelude.{◌≡◌, ◌==◌, ◌≤◌, ◌<◌, ◌^◌, ◌⊎◌, ◌++◌, ℕ, true, length, List, Option, Some, Ok, Err, is_some, if◌then◌else◌};
+ghost use Rattle.jl_types.specs.declared.ids.MethodId.{MethodId};
+ghost use Rattle.jl_types.specs.declared.answer.Recv.TheVariants.{Of};
+ghost use Rattle.jl_types.specs.Values.Members.{method_at, is_concrete};
+ghost use Rattle.jl_host.specs.Calling.{called};
 ghost use Rattle.jl_types.specs.declared.answer.Missing.{Missing};
 ghost use Rattle.jl_types.specs.declared.answer.Unlinked.TheVariants.{NotReady};
 ghost use Rattle.jl_types.specs.declared.limits.Limits.{Limits};
@@ -49,6 +53,14 @@ pub fn seats_answer_what_calls_write()
     ensures { (site receiver status bits : ℕ) (had called answered : Option SeatView) (before after : CallAnswer)
         → IsSeatCall site receiver had before status after called → IsSeatAnswer site receiver had bits answered
         → HasBits (if status == done then after else otherwise 4 0) bits }
+{}
+
+/// What a call of a method comes to that no code makes stays on each object of a class that was there, whatever events come, as long as objects
+/// may be of that class: a host may keep it.
+pub fn selections_stay()
+    ensures { (h more : List Event) (m : MethodId) (x : ℕ) → is_some (method_at (world_after h).classes m) ≡ true
+        → x < length (world_after h).classes.rows → is_concrete (world_after (h ++ more)).classes x ≡ true
+        → called (world_after (h ++ more)).classes m (Of x) ≡ called (world_after h).classes m (Of x) }
 {}
 
 /// A target is read from its parts, unless it nests deeper than JSON may.

@@ -3,7 +3,7 @@
 //! that a call answers is a status and plain numbers.
 //!
 //! What each call leaves, by its status, stands in `specs/`, in reading order: `Numbers`, `Telling`, `Showing`, `Copies`, `Linkers`,
-//! `Seats`, `Memos`, `Reading`, `Targets`, `Views`, `Awaiting`, `Asking`, `Renewals`, `Renewing`, `UnderWay`.
+//! `Seats`, `Memos`, `Reading`, `Targets`, `Views`, `Awaiting`, `Asking`, `Calling`, `Linking`, `Renewals`, `Renewing`, `UnderWay`.
 #![tactic(auto)]
 
 // What is answered, as numbers.
@@ -20,14 +20,17 @@ mod targets;
 // Classes and methods by name and by number.
 mod asked;
 mod awaited;
+mod calling;
 
 // What stands behind a linker, and the linker.
 mod begun;
 mod behind;
 mod fresh;
 mod limits;
+mod link;
 mod linker;
 mod opened;
+mod ready;
 mod renew;
 mod renewal;
 
@@ -43,7 +46,8 @@ mod laws;
 pub use invocations::Invocation;
 pub use laws::{
     awaited_classes_are_named, given_links_are_from_scratch, renewals_in_steps_stay_beside,
-    shown_links_are_read_again, targets_are_read_from_parts,
+    seats_answer_what_calls_write, selections_stay, shown_links_are_read_again,
+    targets_are_read_from_parts,
 };
 pub use linker::Linker;
 pub use memo::Memo;
@@ -51,7 +55,7 @@ pub use reading::LinkRow;
 pub use renew::{Counts, GONE};
 pub use renewal::Renewal;
 pub use seat::Seat;
-pub use shown::{CallAnswer, LinkShown, MOST_ROWS, NULL, Row};
+pub use shown::{CallAnswer, LinkShown, MOST_ROWS, NO_METHOD, NULL, ResolutionShown, Row};
 pub use targets::TargetPart;
 pub use told::{
     CLOSED, DONE, MALFORMED, MEMORY, NO_CLASS_FILE, NO_SUCH_PLACE, OPEN_ALREADY, RELEASED,

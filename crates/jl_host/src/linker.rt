@@ -17,6 +17,8 @@ ghost use Rattle.jl_host.specs.Renewals.{IsCounts, IsCountsPresent, IsRenew, arr
 ghost use Rattle.jl_host.specs.Renewing.{IsBegunOf};
 ghost use Rattle.jl_host.specs.Linkers.{Opened as OpenedValue};
 
+mod calls;
+
 use crate::arrays::{call_sites_of, copy_sites, copy_text, loaders_of, sites_of, switches_of};
 use crate::asked::{
     copy_awaited, copy_class_name, copy_invocations_of, copy_method_name, copy_method_type,

@@ -7,8 +7,8 @@ ghost use Rattle.jl_core.specs.State.{State, events, world_of};
 ghost use Rattle.jl_types.specs.Events.Limits.{AreAllowed};
 ghost use Rattle.jl_renewal.specs.Renewal.{IsRenewal};
 ghost use Rattle.jl_host.specs.Numbers.{done, memory};
-ghost use Rattle.jl_host.specs.Linkers.{opened_over, newly_opened, IsAsked, IsAskedIf, IsUnasked, call_site_of, IsDefinedUpTo, IsInstalled, IsAnswered};
-ghost use Rattle.jl_host.specs.Linkers.{last_dropped};
+ghost use Rattle.jl_host.specs.Linkers.{opened_over, newly_opened, IsAsked, IsAskedIf, IsUnasked, call_site_of, IsDefinedUpTo, IsCheckedUpTo};
+ghost use Rattle.jl_host.specs.Linkers.{IsInstalled, IsAnswered, last_dropped};
 ghost use Rattle.jl_host.specs.Seats.{seen_of};
 ghost use Rattle.jl_host.specs.Views.{IsGiven, present_of};
 ghost use Rattle.jl_host.specs.Renewals.{counts_of, limits_for, released_of, IsShort};
@@ -236,6 +236,22 @@ impl Opened {
     {
         match read_class_up_to(alloc, newest, bytes) {
             Ok(file) => self.ask(alloc, Event::Define(loader, file), told),
+            Err(fault) => tell_file(fault, told),
+        }
+    }
+
+    /// Whether the bytes are a class file whose major version is at most `newest`.
+    pub(crate) fn check_up_to(
+        &mut self,
+        alloc: Global,
+        newest: u16,
+        bytes: &[u8],
+        told: &mut Told,
+    ) -> u32
+        ensures { IsCheckedUpTo newest bytes.now self.old result told.new self.new }
+    {
+        match read_class_up_to(alloc, newest, bytes) {
+            Ok(_file) => unasked(DONE, told),
             Err(fault) => tell_file(fault, told),
         }
     }

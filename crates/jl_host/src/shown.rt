@@ -3,14 +3,18 @@
 ghost use Rattle.std.specs.Prelude.{◌≡◌, ◌<◌, ◌^◌, ◌∷◌, [], map, get_or};
 ghost use Rattle.jl_host.specs.Showing as showing;
 ghost use Rattle.jl_host.specs.Showing.{HasBits};
+ghost use Rattle.jl_host.specs.Calling as calling;
 
 use jl_types::{
-    Answer, ClassId, Fast, Link, MethodId, Missing, Outcome, Recv, Table, TableKind, Throwable,
-    Unlinked,
+    Answer, ClassId, Fast, Link, MethodId, Missing, Outcome, Recv, ResolveAnswer, Table, TableKind,
+    Throwable, Unlinked,
 };
 
 /// The number that stands for the null reference.
 pub const NULL: u32 = 0xffff_ffff;
+
+/// The number that stands for no method, as its class and as its place.
+pub const NO_METHOD: u32 = 0xffff_ffff;
 
 /// The most rows that a link shows.
 pub const MOST_ROWS: usize = 8;
@@ -26,6 +30,20 @@ pub struct CallAnswer {
     pub class_number: u32,
     /// The place of that method among those of its class, or the number of what is thrown, or of why the site can't be linked.
     pub value: u32,
+}
+
+/// What a reference to a method resolves to.
+#[repr(C)]
+#[derive(Clone, Copy, Debug, PartialEq, Eq)]
+pub struct ResolutionShown {
+    /// 0: to the method that was found; 1: something is thrown; 3: it isn't known yet, since a nest host isn't recorded.
+    pub kind: u32,
+    /// The number of what is thrown, or of what isn't known, as in a [`CallAnswer`]; else 0.
+    pub value: u32,
+    /// The class of the method that was found, accessible or not. Where none was, this and the place are [`NO_METHOD`].
+    pub class_number: u32,
+    /// The place of that method among those of its class.
+    pub method: u32,
 }
 
 /// A row of a link: what a call comes to on an object of this class.
@@ -179,6 +197,42 @@ fn other_bits(kind: u8, value: u32) -> u64
     ensures { HasBits (showing.otherwise kind value) result }
 {
     u64::from(value) * 0x1_0000_0000 + u64::from(kind) * 0x100_0000_0000_0000
+}
+
+/// What a reference finds, accessible or not, and what it resolves to, as numbers.
+pub(crate) fn resolution_shown(
+    found: &Option<MethodId>,
+    resolved: Result<MethodId, ResolveAnswer>,
+) -> ResolutionShown
+    ensures { result ≡ calling.resolution_shown found.now resolved }
+{
+    match resolved {
+        Ok(_) => with_method(0, 0, found),
+        Err(ResolveAnswer::Fault(throwable)) => with_method(1, throwable_number(throwable), found),
+        Err(ResolveAnswer::NotReady(missing)) => {
+            with_method(3, unlinked_number(Unlinked::NotReady(missing)), found)
+        }
+    }
+}
+
+/// This of a reference that finds the method, or none.
+fn with_method(kind: u32, value: u32, found: &Option<MethodId>) -> ResolutionShown
+    ensures { result ≡ calling.with_method kind value found.now }
+{
+    match found {
+        Some(method) => ResolutionShown {
+            kind,
+            value,
+            class_number: method.class.number(),
+            method: u32::from(method.index),
+        },
+        None => ResolutionShown {
+            kind,
+            value,
+            class_number: NO_METHOD,
+            method: NO_METHOD,
+        },
+    }
 }
 
 /// A row that says nothing.

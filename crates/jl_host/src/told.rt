@@ -60,6 +60,8 @@ pub struct Told {
     pub cause: u32,
     /// The pc of a fault of a code.
     pub at: u32,
+    /// How many links the event removed, at most 2^32 - 1.
+    pub dropped: u32,
 }
 
 impl Told {
@@ -73,6 +75,7 @@ impl Told {
             place: 0,
             cause: 0,
             at: 0,
+            dropped: 0,
         }
     }
 
@@ -263,6 +266,7 @@ pub(crate) fn tell(outcome: &Result<Reply, Refusal>, told: &mut Told) -> u32
         Ok(reply) => {
             *told = Told {
                 number: number_of(&reply.made),
+                dropped: reply.dropped.as_slice().len().min(u32::MAX as usize) as u32,
                 ..Told::nothing()
             };
             DONE
@@ -338,7 +342,7 @@ fn pool(cause: u32, entry: u16) -> Told
         fault: 5,
         place: u32::from(entry),
         cause,
-        at: 0,
+        ..Told::nothing()
     }
 }
 
@@ -366,6 +370,7 @@ fn code(method: u16, cause: u32, pc: u16) -> Told
         place: u32::from(method),
         cause,
         at: u32::from(pc),
+        ..Told::nothing()
     }
 }
 

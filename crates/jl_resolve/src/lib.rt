@@ -11,4 +11,4 @@ mod resolution;
 pub use control::{Access, access_to_method, is_accessible_class};
 pub use finding::{found_in_class, found_in_interface};
 pub use laws::what_was_resolved_stays;
-pub use resolution::{Resolved, named_class, resolve, resolve_reference};
+pub use resolution::{Resolved, found_in, if_accessible, named_class, resolve, resolve_reference};

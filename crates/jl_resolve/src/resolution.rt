@@ -1,6 +1,6 @@
 //! Method resolution and interface method resolution (JVMS SE 17 §5.4.3.3, §5.4.3.4).
 
-ghost use Rattle.std.specs.Prelude.{◌≡◌, ◌<◌, IfSome, IfOk, OnOk, Some, length};
+ghost use Rattle.std.specs.Prelude.{◌≡◌, ◌<◌, IfSome, IfOk, OnOk, Some, length, if◌then◌else◌};
 ghost use Rattle.jl_types.specs.Linkage.Resolution as resolution;
 ghost use Rattle.jl_resolve.specs.Answers.{method_of};
 
@@ -113,26 +113,58 @@ fn resolve_in(
     if reference.itf != classes.is_interface(named) {
         return Err(ResolveAnswer::Fault(Throwable::IncompatibleClassChangeError));
     }
-    let Some(method) = found(classes, reference, named) else {
+    let found = found_in(
+        classes,
+        named,
+        reference.itf,
+        reference.name.as_slice(),
+        reference.ty.as_slice(),
+    );
+    if_accessible(classes, caller, named, found)
+}
+
+/// What a reference of this kind finds in the class that it names, accessible or not.
+pub fn found_in(
+    classes: &Classes,
+    named: ClassId,
+    itf: bool,
+    name: &[u8],
+    ty: &[u8],
+) -> Option<MethodId>
+    requires { named < length classes.now.rows }
+    ensures { result ≡ (if itf then resolution.found_in_interface classes.now name.now ty.now named
+        else resolution.found_in_class classes.now name.now ty.now named) }
+{
+    if itf {
+        found_in_interface(classes, named, name, ty)
+    } else {
+        found_in_class(classes, named, name, ty)
+    }
+}
+
+/// The method that was found, if it is accessible to the caller, where the reference names this class (JVMS SE 17 §5.4.4).
+///
+/// # Errors
+///
+/// - `Fault(NoSuchMethodError)`: none was found.
+/// - `Fault(IllegalAccessError)`: it isn't accessible.
+/// - `NotReady(CallerHost)`, `NotReady(MethodHost)`: that depends on a nest host that isn't recorded.
+pub fn if_accessible(
+    classes: &Classes,
+    caller: ClassId,
+    named: ClassId,
+    found: Option<MethodId>,
+) -> Result<MethodId, ResolveAnswer>
+    requires caller { caller < length classes.now.rows }
+    requires named { named < length classes.now.rows }
+    ensures { result ≡ resolution.if_accessible classes.now caller named found }
+{
+    let Some(method) = found else {
         return Err(ResolveAnswer::Fault(Throwable::NoSuchMethodError));
     };
     match access_to_method(classes, caller, named, &method) {
         Access::Allowed => Ok(method),
         Access::Denied => Err(ResolveAnswer::Fault(Throwable::IllegalAccessError)),
         Access::NotKnown(missing) => Err(ResolveAnswer::NotReady(missing)),
-    }
-}
-
-/// What the reference finds in the class that it names, which is of its kind.
-fn found(classes: &Classes, reference: &Reference<LentName<'_>>, named: ClassId) -> Option<MethodId>
-    requires { named < length classes.now.rows }
-    ensures { result ≡ resolution.found classes.now reference.now named }
-{
-    let name = reference.name.as_slice();
-    let ty = reference.ty.as_slice();
-    if reference.itf {
-        found_in_interface(classes, named, name, ty)
-    } else {
-        found_in_class(classes, named, name, ty)
     }
 }

@@ -21,6 +21,7 @@ ghost use Rattle.linkd_c.specs.Handle.{seat_at, seat_left, both_left, seat_room,
 ghost use Rattle.linkd_c.specs.Handle.{memo_at, memo_left, asked_left, called_left, memo_room, memo_bytes, memo_multiple};
 ghost use Rattle.linkd_c.specs.Handle.{view_at, view_left, taken_left, view_room, view_bytes, view_multiple};
 
+mod calls;
 mod handles;
 mod renewals;
 mod retirements;
@@ -35,9 +36,9 @@ use std::alloc::Global;
 /// Which header the library is of: LINKD_VERSION there.
 #[unsafe(no_mangle)]
 pub extern "C" fn linkd_version() -> u32
-    ensures { result ≡ 10 }
+    ensures { result ≡ 11 }
 {
-    10
+    11
 }
 
 /// The bytes of a linker.
@@ -616,8 +617,7 @@ pub unsafe extern "C" fn linkd_seat_leave(at: *mut LinkdSeat)
     (*(at as *mut Seat)).leave();
 }
 
-/// What a call comes to by the links of the last refresh, at once, and at a megamorphic link by what the memo remembers. Takes no lock and
-/// no memory.
+/// What a call comes to by the links of the last refresh, at once, and at a megamorphic link by what the memo remembers. No lock, no memory.
 #[unsafe(no_mangle)]
 pub unsafe extern "C" fn linkd_seat_call_with(
     at: *mut LinkdSeat,

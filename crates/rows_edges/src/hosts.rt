@@ -13,7 +13,7 @@ pub(crate) const OBJECT: &[u8] =
     b"\xca\xfe\xba\xbe\x00\x00\x00\x3d\x00\x03\x01\x00\x10java/lang/Object\x07\x00\x01\x00\x21\x00\x02\x00\x00\x00\x00\x00\x00\x00\x00\x00\x00";
 
 /// java/lang/Object, without methods, in a file of version 65.0, Java 21's.
-const OBJECT_OF_21: &[u8] =
+pub(crate) const OBJECT_OF_21: &[u8] =
     b"\xca\xfe\xba\xbe\x00\x00\x00\x41\x00\x03\x01\x00\x10java/lang/Object\x07\x00\x01\x00\x21\x00\x02\x00\x00\x00\x00\x00\x00\x00\x00\x00\x00";
 
 /// A, below java/lang/Object, with a public f of the type ()V.
@@ -286,7 +286,7 @@ const CALL_SITES: &[StepRow] = &[
     (LinkOf(0), &[0, 2, 1, 0, 0, 1, 0]),
     (Refresh, &[0]),
     (SeatCall(0, 77), &[0, 0, 1, 0]),
-    (SetTarget(0, r#"{"method":[1,1]}"#), &[0]),
+    (SetTarget(0, r#"{"method":[1,1]}"#), &[0, 0, 0, 0, 0, 0, 1]),
     (Dropped(1), &[0, 1, 0, 9, 9, 9]),
     (SeatCall(0, 77), &[0, 0, 1, 0]),
     (Refresh, &[0]),
@@ -309,13 +309,13 @@ const CALL_SITES: &[StepRow] = &[
     (SetTargetOf(0, &[GUARD, N, GUARD, M, N]), &[0]),
     (Install(&[0]), &[0]),
     (LinkOf(0), &[0, 2, 1, 0, 0, 1, 1]),
-    (SetTargetOf(0, &[GUARD, M, N]), &[0]),
+    (SetTargetOf(0, &[GUARD, M, N]), &[0, 0, 0, 0, 0, 0, 1]),
     (Install(&[0]), &[0]),
     (LinkOf(0), &[0, 2, 1, 0, 0, 1, 0]),
     (Invalidate(&[1]), &[0]),
     (Dropped(1), &[0, 0, 9, 9, 9, 9]),
     (Invalidate(&[2]), &[6, 0, 6]),
-    (Invalidate(&[0, 1]), &[0]),
+    (Invalidate(&[0, 1]), &[0, 0, 0, 0, 0, 0, 1]),
     (Dropped(1), &[0, 1, 0, 9, 9, 9]),
     (Call(0, NULL), &[0, 0, 1, 1]),
     (NewLoader, &[0, 1]),
@@ -690,7 +690,7 @@ const RETIREMENT: &[StepRow] = &[
     (Request(2, 0, 0), &[0, 0]),
     (Install(&[0]), &[0]),
     (LinkOf(0), &[0, 3, 1, 0, 0, 1, 0]),
-    (Retire(1), &[0]),
+    (Retire(1), &[0, 0, 0, 0, 0, 0, 1]),
     (Dropped(1), &[0, 1, 0, 9, 9, 9]),
     (LinkOf(0), &[0, 0, 0, 9, 9, 9, 9]),
     (Call(0, 1), &[0, 3, 0, 5]),
@@ -762,7 +762,7 @@ const RENEWAL: &[StepRow] = &[
     (NewSwitch, &[0, 0]),
     (NewSwitch, &[0, 1]),
     (Invalidate(&[1]), &[0]),
-    (Retire(2), &[0]),
+    (Retire(2), &[0, 0, 0, 0, 0, 0, 1]),
     (Counts, &[0, 3, 4, 3, 2, 2]),
     (Renew(0, &[], 4), &[33, 9, 9, 9, 9, 9, 9, 9]),
     (Renew(1_048_577, &[], 4), &[33, 9, 9, 9, 9, 9, 9, 9]),

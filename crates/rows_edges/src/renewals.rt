@@ -45,7 +45,7 @@ const WORLD: &[StepRow] = &[
     (NewSwitch, &[0, 0]),
     (NewSwitch, &[0, 1]),
     (Invalidate(&[1]), &[0]),
-    (Retire(2), &[0]),
+    (Retire(2), &[0, 0, 0, 0, 0, 0, 1]),
     // Twenty-two events are there now.
     (Begin(0, &[0], &[0]), &[33]),
     (Begin(1_048_577, &[0], &[0]), &[33]),

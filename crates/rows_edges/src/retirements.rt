@@ -74,7 +74,7 @@ const RETIREMENTS: &[StepRow] = &[
     (Lookup(3, "W"), &[0, 3]),
     (Counts, &[0, 4, 5, 3, 0, 0]),
     // A loader that comes twice goes once.
-    (RetireAll(&[1, 3, 2, 1]), &[0]),
+    (RetireAll(&[1, 3, 2, 1]), &[0, 0, 0, 0, 0, 0, 3]),
     (Dropped(4), &[0, 3, 0, 1, 2, 9]),
     (LinkOf(0), &[0, 0, 0, 9, 9, 9, 9]),
     (LinkOf(1), &[0, 0, 0, 9, 9, 9, 9]),
@@ -191,7 +191,7 @@ const RELEASES: &[StepRow] = &[
     (LinkOf(0), &[0, 2, 1, 0, 0, 2, 0]),
     (CountsPresent, &[0, 2, 3, 4, 3, 2]),
     // One that comes twice goes once.
-    (Release(&[1, 0, 1], &[1]), &[0]),
+    (Release(&[1, 0, 1], &[1]), &[0, 0, 0, 0, 0, 0, 2]),
     (Dropped(4), &[0, 2, 0, 1, 9, 9]),
     (LinkOf(0), &[0, 0, 0, 9, 9, 9, 9]),
     (LinkOf(1), &[0, 0, 0, 9, 9, 9, 9]),
@@ -229,7 +229,7 @@ const RELEASES: &[StepRow] = &[
     (Retire(1), &[0]),
     (CountsPresent, &[0, 1, 2, 4, 2, 2]),
     // A constant call site goes with the switch point by which it guards.
-    (Release(&[2], &[0]), &[0]),
+    (Release(&[2], &[0]), &[0, 0, 0, 0, 0, 0, 1]),
     (Dropped(4), &[0, 1, 2, 9, 9, 9]),
     (Call(2, NULL), &[0, 3, 0, 5]),
     (Counts, &[0, 2, 3, 4, 4, 3]),

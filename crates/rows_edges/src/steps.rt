@@ -1,8 +1,8 @@
 //! Steps on a linker, a seat, a memo and a view, each with numbers for an answer.
 
 use jl_host::{
-    CallAnswer, Counts, Invocation, LinkRow, LinkShown, Linker, Memo, Renewal, Row, Seat,
-    TargetPart, Told, View,
+    CallAnswer, Counts, Invocation, LinkRow, LinkShown, Linker, Memo, Renewal, ResolutionShown,
+    Row, Seat, TargetPart, Told, View,
 };
 use std::alloc::Global;
 use std::mem;
@@ -84,6 +84,16 @@ pub enum Step {
     Named(&'static str),
     /// The class for which a site waits, which is to have this name.
     Awaited(u32, &'static str),
+    /// A call of a method on a receiver, where no code makes it.
+    Select(u32, u32, u32),
+    /// A reference of the first class to the method of this name and descriptor in the second.
+    Resolve(u32, u32, &'static str, &'static str),
+    /// Whether the second class is accessible to the first.
+    Accessible(u32, u32),
+    /// Whether the bytes are a class file up to this major version.
+    Check(u16, &'static [u8]),
+    /// An invocation is requested and linked.
+    Link(u32, u32, u32),
     /// How many there were of each.
     Counts,
     /// How many of each are present.
@@ -154,6 +164,7 @@ fn untold() -> Told {
         place: 9,
         cause: 9,
         at: 9,
+        dropped: 9,
     }
 }
 
@@ -166,6 +177,7 @@ fn told_numbers(status: u32, told: &Told) -> Numbers {
         told.place,
         told.cause,
         told.at,
+        told.dropped,
     ])
 }
 
@@ -261,6 +273,66 @@ fn invocation_numbers(linker: &mut Linker, class: u32, method: u32, room: usize)
         second.pc,
         second.opcode,
     ])
+}
+
+/// The status, and what the reference resolves to with the method that it finds.
+fn resolved_numbers(linker: &mut Linker, at: [u32; 2], name: &str, ty: &str) -> Numbers {
+    let mut found = ResolutionShown {
+        kind: 9,
+        value: 9,
+        class_number: 9,
+        method: 9,
+    };
+    let status = linker.resolve(at[0], at[1], name.as_bytes(), ty.as_bytes(), &mut found);
+    numbers(&[
+        status,
+        found.kind,
+        found.value,
+        found.class_number,
+        found.method,
+    ])
+}
+
+/// The status, the site and the place that are told, and the link's kind, its count, and its first row's class and value.
+fn linked_numbers(alloc: Global, linker: &mut Linker, at: [u32; 3]) -> Numbers {
+    let mut told = untold();
+    let mut link = unshown();
+    let status = linker.link(alloc, at[0], at[1], at[2], &mut link, &mut told);
+    let first = link.rows[0];
+    numbers(&[
+        status,
+        told.number,
+        told.place,
+        link.kind,
+        link.count,
+        first.class_number,
+        first.value,
+        told.dropped,
+    ])
+}
+
+/// What a question about calls that no code makes, about bytes, or for a link comes to.
+fn calling_numbers(alloc: Global, linker: &mut Linker, step: &Step) -> Numbers {
+    match step {
+        Step::Select(class, method, receiver) => {
+            let mut answer = unanswered();
+            let status = linker.select(*class, *method, *receiver, &mut answer);
+            call_numbers(status, &answer)
+        }
+        Step::Resolve(from, named, name, ty) => resolved_numbers(linker, [*from, *named], name, ty),
+        Step::Accessible(from, class) => {
+            let mut accessible = 9;
+            let status = linker.class_accessible(*from, *class, &mut accessible);
+            numbers(&[status, accessible])
+        }
+        Step::Check(newest, bytes) => {
+            let mut told = untold();
+            let status = linker.check_up_to(alloc, *newest, bytes, &mut told);
+            told_numbers(status, &told)
+        }
+        Step::Link(class, method, pc) => linked_numbers(alloc, linker, [*class, *method, *pc]),
+        _ => numbers(&[99]),
+    }
 }
 
 /// What a question about classes, methods and work comes to.
@@ -662,6 +734,11 @@ pub fn answer(
         | Step::LastWork
         | Step::Named(..)
         | Step::Awaited(..) => asked_numbers(linker, step),
+        Step::Select(..)
+        | Step::Resolve(..)
+        | Step::Accessible(..)
+        | Step::Check(..)
+        | Step::Link(..) => calling_numbers(alloc, linker, step),
         Step::Take
         | Step::Serial
         | Step::ViewCall(..)

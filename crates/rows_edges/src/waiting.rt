@@ -59,7 +59,7 @@ const CAUGHT_UP: &[StepRow] = &[
     (Request(4, 0, 0), &[0, 2]),
     (Install(&[2, 1]), &[0]),
     (CatchUp, &[0]),
-    (Retire(1), &[0]),
+    (Retire(1), &[0, 0, 0, 0, 0, 0, 1]),
     (CatchUp, &[0]),
     (Dropped(4), &[0, 1, 2, 9, 9, 9]),
     (Call(2, 1), &[0, 3, 0, 5]),

@@ -71,5 +71,5 @@ status : released ≡ 37
 status = refl
 
 told : map (told_of_released 7) (0 ∷ 17 ∷ 4294967295 ∷ 4294967296 ∷ [])
-    ≡ map (λ number. record { number = number; fault = 0; place = 7; cause = 0; at = 0 }) (0 ∷ 17 ∷ 4294967295 ∷ 4294967295 ∷ [])
+    ≡ map (λ number. record { number = number; fault = 0; place = 7; cause = 0; at = 0; dropped = 0 }) (0 ∷ 17 ∷ 4294967295 ∷ 4294967295 ∷ [])
 told = refl
