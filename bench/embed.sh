@@ -27,15 +27,8 @@ nm --defined-only -g "$work/liblinkd.a" | awk '$2 ~ /^[TW]$/ && $3 ~ /^linkd_/ {
 diff "$work/declared" "$work/exported"
 test -s "$work/declared"
 
-echo "== the header as C99, C11, C++98, C++11 and C++17"
-printf '#include "linkd.h"\n#include "linkd.h"\nint main(void) { return LINKD_DONE; }\n' > "$work/header.c"
-cp "$work/header.c" "$work/header.cpp"
-strict="-pedantic -Wall -Wextra -Werror -fsyntax-only"
-cc -std=c99 $strict -I"$top/include" "$work/header.c"
-cc -std=c11 $strict -I"$top/include" "$work/header.c" "$top/bench/layout.c"
-c++ -std=c++98 $strict -Wno-long-long -I"$top/include" "$work/header.cpp"
-c++ -std=c++11 $strict -I"$top/include" "$work/header.cpp" -x c++ "$top/bench/layout.c"
-c++ -std=c++17 $strict -I"$top/include" "$work/header.cpp" -x c++ "$top/bench/layout.c"
+echo "== the header as C99, C11, C++98, C++11 and C++17, beside the sources"
+"$top/bench/header.py"
 # A switch that leaves a status out gets a warning.
 printf '#include "linkd.h"\nint is_done(linkd_status is) { switch (is) { case LINKD_DONE: return 1; } return 0; }\n' > "$work/less.c"
 for compiler in "cc -std=c11" "c++ -std=c++11 -x c++"; do
@@ -97,6 +90,46 @@ Adder as its file is: IllegalAccessError
 Adder with Adder$Twice$$Made$0 in its NestMembers: Adder$Twice.lambda$two$0 runs
 Doubler as its file is: IllegalAccessError
 Doubler with Doubler$$Made$0 in its NestMembers: Doubler.lambda$doubler$0 runs
+TOLD
+
+echo "== calls that no code makes"
+mkdir "$work/calls"
+javac --release 17 -Xlint:all -d "$work/calls" "$host"/calls/*.java "$host"/calls/other/*.java
+cp "$work/classes/Object.class" "$work/calls"
+build_c "$work/calls_c" "$host/calls.c"
+valgrind -q --leak-check=full --error-exitcode=99 "$work/calls_c" "$work/calls" | tee "$work/told.txt"
+# Worked out by hand: 5.4.3.3, 5.4.3.4, 5.4.4, 5.4.5, 5.4.6 and 6.5 of the Java Virtual Machine Specification, SE 17.
+diff "$work/told.txt" - <<'TOLD'
+no bytes: LINKD_TRUNCATED
+Caller without its last byte: LINKD_TRUNCATED
+Caller with another first byte: LINKD_BAD_MAGIC
+Caller: a class file
+Caller.call waits for Animal
+Caller.call calls Animal.name
+links that the definition of Dog removes: 1
+Caller.call calls Animal -> Animal.name, Dog -> Dog.name
+Caller names Animal.name: Animal.name
+Caller names Dog.count: Animal.count
+Caller names Animal.secret: IllegalAccessError, Animal.secret
+Caller names Dog.kept: Animal.kept
+other/Stranger names Animal.kept: IllegalAccessError, Animal.kept
+other/Stranger names Dog.name: IllegalAccessError, Dog.name
+Caller names Speaker.speak: Speaker.speak
+Caller names Speaker.hashCode: java/lang/Object.hashCode
+Caller names Animal.name: NoSuchMethodError, none is found
+Animal.name on Animal: Animal.name
+Animal.name on Dog: Dog.name
+Animal.name on Caller: no such receiver
+Animal.name on null: NullPointerException
+Animal.secret on Dog: Animal.secret
+Animal.kept on Dog: Animal.kept
+Animal.count on null: Animal.count
+Animal.<init> on Dog: Animal.<init>
+Speaker.speak on Dog: Dog.speak
+Speaker.speak on Speaker: no such receiver
+Caller may name Dog
+other/Stranger may not name Dog
+other/Stranger may name java/lang/Object
 TOLD
 
 echo "== the hosts in C"
@@ -180,7 +213,7 @@ refused() {
         fi
     done
 }
-refused LINKD_NO_SUCH_PLACE "the class has no invocation there" 1 0 $files
+refused LINKD_NO_SUCH_PLACE "the class has no such method, or no invocation there" 1 0 $files
 refused "nowhere: can't be read" "nowhere: No such file" 1 1 "$work/nowhere"
 refused "No.class: LINKD_BAD_MAGIC" "No.class: no class file: it has no magic number" 1 1 "$work/No.class"
 refused "Square.class: LINKD_MISSING_PARENT" "Square.class: the class isn't defined: a parent is missing" 1 1 "$work/classes/Square.class"

@@ -5,7 +5,7 @@
 #
 # --quick takes about two minutes. Without it the longer programs run in each mode, javac compiles all programs on the machine, and their times
 # are told beside `java -Xint`. Also compared: a program that makes and drops 2,000 loaders, whose memory has to stay; runs of threads under
-# ThreadSanitizer and of all else under AddressSanitizer; and four planted mistakes, each of which has to be found. It wants a JDK 17, of
+# ThreadSanitizer and of all else under AddressSanitizer; and five planted mistakes, each of which has to be found. It wants a JDK 17, of
 # JAVA_HOME or else of the PATH. A status other than 0 says that something differs.
 set -eu
 here=$(cd "$(dirname "$0")" && pwd)
@@ -87,8 +87,8 @@ vm="$work/vm/vm"
 mkdir "$classes" "$work/expected"
 javac -proc:none -d "$classes" "$sources"/programs/*.java
 
-short="CallSites Containers Cycle Defining Formats HelloWorld Language Late LinkageErrors Loaders Parts Pools Proxies Reflective Streams Switching
-    Threads Unload Weak"
+short="CallSites Containers Cycle Defining Formats HelloWorld Language Late LinkageErrors Loaders Parts Pools Proxies Reflective Selecting Streams
+    Switching Threads Unload Weak"
 long="Calculator Calls Maps Sorting"
 if [ -n "$quick" ]; then
     programs="$short"
@@ -98,7 +98,7 @@ fi
 
 echo "== programs beside java"
 # shellcheck disable=SC2086
-for options in "" "--seat" "--check" "-Xmx64m --seat --check --collect-every 1000 --poison --renew-every 3"; do
+for options in "" "--seat" "--check" "--eager --check" "-Xmx64m --seat --check --collect-every 1000 --poison --renew-every 3"; do
     all_same "$vm" "$options" $programs
 done
 for how in "" throw exit; do
@@ -219,6 +219,7 @@ mistake() {
 mistake "dropped sites are kept" link 's/^        drop(site);$//' "" Late
 mistake "a memo outlives the classes of its loaders" unload '/linkd_memo_close/d; /must(linkd_memo_open/d' "--renew-every 1 --unload-every 20" Parts 300
 mistake "a seat isn't refreshed" link 's/reader->seen < ACQUIRE(must_see) || //' "--seat --patience 1" CallSites
+mistake "a method is selected by its own class" link 's/receiver ? receiver->cls->number : LINKD_NULL;/receiver ? method->cls->number : LINKD_NULL;/' "" Selecting
 mistake "the receiver's class is off by one" link 's/return args\[0\].a->cls->number;/return args[0].a->cls->number + 1;/' "" Late
 
 if [ -z "$quick" ]; then

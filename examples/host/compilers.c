@@ -51,12 +51,13 @@ static bool same_link(const linkd_link *one, const linkd_link *other) { return m
 
 /* ---- events: each under the lock */
 
-/* Behind an event: the code goes whose links it removed, before anything runs it again. */
-static void changed(uint32_t status, const char *what) {
+/* After an event: the code goes whose links it removed, before anything runs it again. */
+static void changed(uint32_t status, const linkd_told *told, const char *what) {
     static uint32_t dropped[MOST_SITES];
     size_t count = 0;
     done(status, what);
     done(linkd_dropped(linker, dropped, MOST_SITES, &count), "it isn't told what was dropped");
+    must(told->dropped == count, LOST_ANSWER, "another number of links is told than went", told->dropped);
     for (size_t i = 0; i < count; i++) {
         must(code[dropped[i]].kind != LINKD_NONE, LOST_ANSWER, "a link was dropped by which no code goes, of site", dropped[i]);
         code[dropped[i]].kind = LINKD_NONE;
@@ -66,7 +67,7 @@ static void changed(uint32_t status, const char *what) {
 
 static uint32_t define(uint32_t loader, const struct file *file) {
     linkd_told told;
-    changed(linkd_define_up_to(linker, loader, LINKD_NEWEST_KNOWN, file->bytes, file->length, &told), file->name);
+    changed(linkd_define_up_to(linker, loader, LINKD_NEWEST_KNOWN, file->bytes, file->length, &told), &told, file->name);
     if (told.number >= classes) classes = told.number + 1;
     return told.number;
 }
@@ -74,18 +75,18 @@ static uint32_t define(uint32_t loader, const struct file *file) {
 static void request(uint32_t class_number) {
     request_all(linker, class_number, &sites);
     must(sites <= MOST_SITES, REFUSED, "more sites than this host has room for", sites);
-    changed(LINKD_DONE, "requests");
+    atomic_fetch_add(&changes, 1); /* a request removes no link */
 }
 
 /* A loader with a Triangle, then its Main, whose calls are linkable only now. */
 static void add_loader(unsigned *seed) {
     linkd_told told;
     pthread_mutex_lock(&lock);
-    changed(linkd_new_loader(linker, &told), "no loader is made");
+    changed(linkd_new_loader(linker, &told), &told, "no loader is made");
     uint32_t loader = told.number;
     for (int i = 0; i < DELEGATED; i++) {
         const char *name = i == 0 ? "java/lang/Object" : NAMES[i];
-        changed(linkd_delegate(linker, loader, (const uint8_t *)name, strlen(name), 0, &told), "a loader doesn't delegate");
+        changed(linkd_delegate(linker, loader, (const uint8_t *)name, strlen(name), 0, &told), &told, "a loader doesn't delegate");
     }
     request(define(loader, &triangle));
     pthread_mutex_unlock(&lock);
@@ -100,7 +101,7 @@ static void add_loader(unsigned *seed) {
 static void let_loader_go(uint32_t place) {
     linkd_told told;
     pthread_mutex_lock(&lock);
-    changed(linkd_retire(linker, loaders[place], &told), "a loader isn't retired");
+    changed(linkd_retire(linker, loaders[place], &told), &told, "a loader isn't retired");
     loaders[place] = loaders[--loader_count];
     pthread_mutex_unlock(&lock);
 }
@@ -114,7 +115,7 @@ static void retarget(uint32_t number) {
     char target[64];
     size_t length = write_target(target, sizeof target, chosen_class, targets[number]);
     pthread_mutex_lock(&lock);
-    changed(linkd_set_target(linker, call_site, (const uint8_t *)target, length, &told), "no new target");
+    changed(linkd_set_target(linker, call_site, (const uint8_t *)target, length, &told), &told, "no new target");
     pthread_mutex_unlock(&lock);
 }
 
@@ -324,7 +325,7 @@ static void open_linker(void) {
         if (length != strlen(name) || memcmp(is, name, length) != 0) targets[found++] = method;
     }
     length = write_target(target, sizeof target, chosen_class, targets[0]);
-    changed(linkd_new_call_site(linker, 2, (const uint8_t *)type, strlen(type), (const uint8_t *)target, length, &told), "no call site");
+    changed(linkd_new_call_site(linker, 2, (const uint8_t *)type, strlen(type), (const uint8_t *)target, length, &told), &told, "no call site");
     call_site = told.number;
 }
 
@@ -335,7 +336,7 @@ static void bind_all(void) {
     for (uint32_t site = 0; site < sites; site++) {
         uint32_t status = linkd_bind(linker, site, call_site, &told);
         if (status == LINKD_NOT_DYNAMIC) continue;
-        changed(status, "a site isn't bound");
+        changed(status, &told, "a site isn't bound");
         bound++;
     }
     must(bound == 1, REFUSED, "Chosen has another number of invokedynamics than 1", bound);

@@ -89,28 +89,18 @@ static uint32_t link_kind(uint32_t site) {
     return link.kind;
 }
 
-/* Installs a batch without the sites that aren't ready. */
-static void install(uint32_t *batch, size_t count) {
-    while (count > 0) {
-        linkd_told told;
-        size_t at = 0;
-        uint32_t status = linkd_install(linker, batch, count, &told);
-        if (status == LINKD_DONE) return;
-        must(status == LINKD_NOT_READY, REFUSED, "a batch isn't installed", status);
-        while (at < count && batch[at] != told.place) at++;
-        must(at < count, REFUSED, "a site that isn't of the batch isn't ready", told.place);
-        batch[at] = batch[--count];
-    }
-}
-
 /* Installs all pending sites that are ready. */
 static void install_pending(void) {
     uint32_t batch[BATCH];
+    linkd_link links[BATCH];
+    linkd_told told;
     size_t count = 0;
     for (uint32_t site = 0; site < sites; site++) {
         if (link_kind(site) == LINKD_NONE) batch[count++] = site;
         if (count == BATCH || site + 1 == sites) {
-            install(batch, count);
+            done(linkd_install_ready(linker, batch, count, links, BATCH, &told), "a batch isn't installed");
+            for (size_t i = 0; i < count; i++)
+                must(links[i].kind == link_kind(batch[i]), WRONG_ANSWER, "a link is told that isn't installed, of site", batch[i]);
             count = 0;
         }
     }

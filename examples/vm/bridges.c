@@ -1,26 +1,22 @@
-/* What the machine writes since the linker has no call for it. All of it is here and in link_check (link.c).
- *
- * A lambda's class isn't in the nest of the class that it stands in, whose private methods it may have to call. So each class is handed to
- * the linker with a method more for each of its lambdas, a bridge, which calls from inside what the lambda is to run.
- *
- * A method is called by an invocation alone. So for what reflection, method handles and the machine itself call a class is written with one
- * invocation of it: that is resolved and selected as any other, but its access is that of the written class. */
+/* A lambda's class isn't in the nest of the class that it stands in, whose private methods it may have to call. So each class is handed to
+ * the linker with a method more for each of its lambdas, a bridge, which calls from inside what the lambda is to run. */
 #include "generate.h"
 
-/* ---- bridges */
-
-/* The descriptor of the static method that does what a handle does. */
-const char *bridge_type(Class *cls, const Constant *handle) {
-    Constant *method = &cls->constants[handle->b], *pair = &cls->constants[method->b];
-    const char *owner = class_name_at(cls, method->a), *type = constant_text(cls, pair->b);
-    if (handle->a == REF_invokeStatic) return type;
+/* The class that the handle names comes first; by a constructor it is what comes back. */
+const char *bridge_type(uint16_t reference_kind, const char *owner, const char *type) {
+    if (reference_kind == REF_invokeStatic) return type;
     size_t room = strlen(owner) + strlen(type) + 8;
     char *text = malloc(room);
-    if (handle->a == REF_newInvokeSpecial) snprintf(text, room, "%.*s)L%s;", (int)(strchr(type, ')') - type), type, owner);
+    if (reference_kind == REF_newInvokeSpecial) snprintf(text, room, "%.*s)L%s;", (int)(strchr(type, ')') - type), type, owner);
     else snprintf(text, room, *owner == '[' ? "(%s%s" : "(L%s;%s", owner, type + 1);
     type = intern(text);
     free(text);
     return type;
+}
+
+const char *bridge_type_of(Class *cls, const Constant *handle) {
+    Constant *method = &cls->constants[handle->b], *pair = &cls->constants[method->b];
+    return bridge_type(handle->a, class_name_at(cls, method->a), constant_text(cls, pair->b));
 }
 
 static uint8_t opcode_of(uint16_t reference_kind) {
@@ -34,7 +30,7 @@ static uint8_t opcode_of(uint16_t reference_kind) {
 
 static void write_bridge(Writer *w, Class *parsed, uint16_t number) {
     const Constant *handle = &parsed->constants[u2(parsed->bootstraps[number].args + 2)], *method = &parsed->constants[handle->b];
-    const char *type = bridge_type(parsed, handle);
+    const char *type = bridge_type_of(parsed, handle);
     char name[32];
     if (handle->a == REF_newInvokeSpecial) op2(w, OP_new, method->a), op(w, OP_dup);
     uint16_t locals = write_load_all(w, type, 0);
@@ -92,36 +88,4 @@ Bytes with_bridges(Bytes file, Class *parsed) {
     Bytes more = w->method_count ? insert(file, parsed->constant_count, w) : file;
     writer_gone(w);
     return more;
-}
-
-/* ---- invocations */
-
-/* A static method `call` that makes this invocation, or a new object by this constructor, in the package of the class. */
-Method *invocation_of(Class *cls, uint8_t opcode, const char *name, const char *type) {
-    Writer *w = new_writer(1);
-    char made[1024], its_type[4096], result = strchr(type, ')')[1];
-    const char *simple = strrchr(cls->name, '/') ? strrchr(cls->name, '/') + 1 : cls->name;
-    uint8_t tag = cls->flags & ACC_INTERFACE ? CONSTANT_InterfaceMethodref : CONSTANT_Methodref;
-    snprintf(made, sizeof made, "%.*slinkd$Invocation$%s$%u", (int)(simple - cls->name), cls->name, simple, next_made(cls));
-    if (opcode == OP_invokestatic) snprintf(its_type, sizeof its_type, "%s", type);
-    else if (opcode == OP_invokespecial) snprintf(its_type, sizeof its_type, "%.*s)L%s;", (int)(strchr(type, ')') - type), type, cls->name);
-    else snprintf(its_type, sizeof its_type, "(L%s;%s", cls->name, type + 1);
-    if (opcode == OP_invokespecial) op2(w, OP_new, class_constant(w, cls->name)), op(w, OP_dup);
-    uint16_t locals = write_load_all(w, its_type, 0);
-    write_call(w, opcode, tag, cls->name, name, type);
-    write_return(w, opcode == OP_invokespecial ? 'L' : result);
-    end_method(w, ACC_PUBLIC | ACC_STATIC, "call", its_type, locals);
-    Class *defined = define_written(w, made, NULL, 0, cls->loader);
-    return defined ? declared(defined, "call", its_type) : NULL;
-}
-
-/* A private or static method and a constructor are called as they are: there is nothing to select. */
-Method *invoker_of(Method *method) {
-    if ((method->flags & (ACC_PRIVATE | ACC_STATIC)) || *method->name == '<') return method;
-    Method *invoker = ACQUIRE(method->invoker);
-    if (invoker) return invoker;
-    uint8_t opcode = method->cls->flags & ACC_INTERFACE ? OP_invokeinterface : OP_invokevirtual;
-    invoker = invocation_of(method->cls, opcode, method->name, method->type);
-    if (invoker) RELEASE(method->invoker, invoker);
-    return invoker;
 }

@@ -117,7 +117,7 @@ static Class *make_lambda(Class *caller, uint16_t number, const char *name, cons
     const char *interfaces[32], *result = strchr(type, ')') + 1;
     int interface_count = 1;
     snprintf(made, sizeof made, "%s$$Lambda$%u", caller->name, next_made(caller));
-    Lambda lambda = {caller, number, made, type, bridge_type(caller, &caller->constants[u2(args + 2)]), name,
+    Lambda lambda = {caller, number, made, type, bridge_type_of(caller, &caller->constants[u2(args + 2)]), name,
                      constant_text(caller, caller->constants[u2(args + 4)].a)};
     interfaces[0] = intern_n(result + 1, strlen(result) - 2);
     lambda_method(w, &lambda, constant_text(caller, caller->constants[u2(args)].a));

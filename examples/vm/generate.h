@@ -11,8 +11,9 @@ bool is_primitive(char type);
 uint32_t next_made(Class *cls); /* a number for a class that is made for this one */
 bool is_method_of(Class *cls, const Bootstrap *bootstrap, const char *factory);
 
-/* bridges.c: the descriptor of the static method that does what a handle does */
-const char *bridge_type(Class *cls, const Constant *handle);
+/* bridges.c: the descriptor of a static method that does what a method handle of this kind does */
+const char *bridge_type(uint16_t reference_kind, const char *owner, const char *type);
+const char *bridge_type_of(Class *cls, const Constant *handle);
 
 /* strings */
 void new_builder(Writer *w);

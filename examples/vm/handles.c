@@ -1,8 +1,11 @@
 /* java.lang.invoke: MethodHandle, CallSite and bootstrap methods. See handles.h for what a handle is.
  *
- * A handle is called by its method. That of a guard or an invoker is a class that the machine writes, with one invokedynamic, which is bound
- * to a constant call site with the handle's target: so the linker says what it runs, now, and drops the link when a switch point becomes
- * invalid or a call site gets another target. */
+ * What a reference resolves to, and which method runs on a receiver, the linker says (link_resolve, link_select).
+ *
+ * A target of the linker's is a static method, a guard or an invoker. A guard and an invoker are called by a class that the machine writes, with
+ * one invokedynamic, which is bound to a constant call site with the handle's target: so the linker says what it runs, now, and drops the link
+ * when a switch point becomes invalid or a call site gets another target. Where a direct handle has to be a target a class is written, too,
+ * with one invocation. */
 #include "handles.h"
 
 #define HANDLE "java/lang/invoke/MethodHandle"
@@ -16,6 +19,7 @@ static bool is_handle(Object *object) { return !strcmp(object->cls->name, HANDLE
 void mark_handle(Object *object) {
     Handle *handle = handle_of(object);
     if (handle->method) mark_method_loader(handle->method);
+    if (handle->resolved) mark_method_loader(handle->resolved);
     mark(handle->first);
     mark(handle->fallback);
     mark(handle->of);
@@ -54,7 +58,7 @@ Object *method_type_of(const char *type, uint32_t loader) {
     return invoke(must_declare(cls, "methodType", "(Ljava/lang/Class;[Ljava/lang/Class;)Ljava/lang/invoke/MethodType;"), args, 2).a;
 }
 
-const char *handle_type(Object *handle) { return descriptor_of(get_field(handle, "type", NULL).a); }
+const char *handle_type(Object *handle) { return handle_of(handle)->type; }
 
 static Slot wrong_type(const char *type, const char *wanted) { return throw_new(WRONG_TYPE, "expected %s but found %s", wanted, type); }
 
@@ -65,6 +69,7 @@ Object *new_handle(Handle handle, const char *type, uint32_t loader) {
     Object *method_type = method_type_of(type, loader);
     if (!method_type) return NULL;
     Object *made = new_object(boot_class(HANDLE));
+    handle.type = intern(type);
     *handle_of(made) = handle;
     set_field(made, "type", NULL, of_ref(method_type));
     return made;
@@ -75,6 +80,7 @@ uint32_t handle_loader(Object *object) {
     Handle *handle = handle_of(object);
     switch (handle->kind) {
         case HANDLE_METHOD: return handle->method->cls->loader;
+        case HANDLE_DIRECT: return mirror_class(handle->of)->loader;
         case HANDLE_GUARD: {
             uint32_t loader = handle_loader(handle->first);
             return loader == BOOT_LOADER ? handle_loader(handle->fallback) : loader;
@@ -83,22 +89,23 @@ uint32_t handle_loader(Object *object) {
     }
 }
 
-static bool has_method(Class *cls, const char *name, const char *type) {
-    for (Class *at = cls; at; at = at->super)
-        if (declared(at, name, type)) return true;
-    for (uint32_t i = 0; i < cls->all_interface_count; i++)
-        if (declared(cls->all_interfaces[i], name, type)) return true;
-    return cls->element && declared(vm.object, name, type);
+/* An array has the methods of java/lang/Object (JLS 10.7). */
+static Method *resolve(Class *from, Class *named, const char *name, const char *type) {
+    Method *method = named->element ? declared(vm.object, name, type) : link_resolve(from, named, name, type);
+    if (!self->exception && (!method || (*name == '<' && method->cls != named)))
+        throw_new("java/lang/NoSuchMethodError", "%s.%s%s", dotted(named->name), name, type);
+    return self->exception ? NULL : method;
 }
 
-Object *make_direct(Class *cls, uint16_t reference_kind, const char *name, const char *type) {
-    uint8_t opcode = reference_kind == REF_invokeStatic ? OP_invokestatic : reference_kind == REF_newInvokeSpecial ? OP_invokespecial
-                   : cls->flags & ACC_INTERFACE ? OP_invokeinterface : OP_invokevirtual;
-    if (!has_method(cls, name, type)) return throw_new("java/lang/NoSuchMethodException", "no such method: %s.%s%s", dotted(cls->name), name, type).a;
-    Method *own = declared(cls, name, type), *method;
-    if (own && (own->flags & ACC_STATIC) && opcode == OP_invokestatic && !(cls->flags & ACC_INTERFACE)) method = own;
-    else method = invocation_of(cls, opcode, name, type);
-    return method ? new_handle((Handle){.kind = HANDLE_METHOD, .method = method}, method->type, method->cls->loader) : NULL;
+Object *make_direct(Class *from, Class *named, uint16_t reference_kind, const char *name, const char *type) {
+    Method *method = resolve(from, named, name, type);
+    if (!method) return NULL;
+    if ((reference_kind == REF_invokeStatic) != ((method->flags & ACC_STATIC) != 0))
+        return throw_new("java/lang/IncompatibleClassChangeError", "%s.%s%s", dotted(named->name), name, type).a;
+    if (reference_kind == REF_invokeStatic)
+        return new_handle((Handle){.kind = HANDLE_METHOD, .method = method}, method->type, method->cls->loader);
+    Handle handle = {.kind = HANDLE_DIRECT, .resolved = method, .of = named->mirror};
+    return new_handle(handle, bridge_type(reference_kind, named->name, type), named->loader);
 }
 
 Object *method_handle_of(Class *cls, uint16_t index) {
@@ -107,18 +114,21 @@ Object *method_handle_of(Class *cls, uint16_t index) {
     if (!named) return NULL;
     if (handle->a < REF_invokeVirtual || handle->a == REF_invokeSpecial)
         return throw_new("java/lang/UnsupportedOperationException", "a method handle of kind %d", handle->a).a;
-    return make_direct(named, handle->a, constant_text(cls, pair->a), constant_text(cls, pair->b));
+    return make_direct(cls, named, handle->a, constant_text(cls, pair->a), constant_text(cls, pair->b));
 }
 
 /* ---- targets */
 
 static CallSite *call_site_of(Object *object);
+static Method *method_of(Object *object);
 
 static size_t target_of(Object *object, Target *target, size_t room) {
     Handle *handle = handle_of(object);
     if (room == 0) return 0;
     switch (handle->kind) {
-        case HANDLE_METHOD: *target = (Target){.kind = TARGET_METHOD, .method = handle->method}; return 1;
+        case HANDLE_METHOD: case HANDLE_DIRECT:
+            *target = (Target){.kind = TARGET_METHOD, .method = method_of(object)};
+            return target->method ? 1 : 0;
         case HANDLE_INVOKER: *target = (Target){.kind = TARGET_INVOKER, .call_site = call_site_of(handle->of)}; return target->call_site ? 1 : 0;
         case HANDLE_GUARD: break;
     }
@@ -130,26 +140,42 @@ static size_t target_of(Object *object, Target *target, size_t room) {
 
 static Slot too_many(void) { return throw_new("java/lang/OutOfMemoryError", "call sites, or parts of a target"), NOTHING; }
 
-/* The method that does what the handle does. */
-static Method *method_of(Object *object) {
+/* The invocation of a direct handle. By a constructor it makes the object, too. */
+static void write_invocation(Writer *w, Class *named, const Method *method) {
+    bool interface = named->flags & ACC_INTERFACE;
+    uint8_t opcode = *method->name == '<' ? OP_invokespecial : interface ? OP_invokeinterface : OP_invokevirtual;
+    write_call(w, opcode, interface ? CONSTANT_InterfaceMethodref : CONSTANT_Methodref, named->name, method->name, method->type);
+}
+
+/* A static method of a class that is written for the handle; NULL with an exception. */
+static Method *write_method(Object *object) {
     static uint32_t made;
     Handle *handle = handle_of(object);
-    Method *method = ACQUIRE(handle->method);
-    if (method) return method;
-    char name[64];
-    const char *type = handle_type(object);
-    uint32_t loader = handle_loader(object);
+    Class *named = handle->kind == HANDLE_DIRECT ? mirror_class(handle->of) : NULL;
+    const char *type = handle_type(object), *slash = named && !named->element ? strrchr(named->name, '/') : NULL;
+    char name[1024];
     Writer *w = new_writer(1);
+    if (named && *handle->resolved->name == '<') op2(w, OP_new, class_constant(w, named->name)), op(w, OP_dup);
     uint16_t locals = write_load_all(w, type, 0);
-    write_dynamic(w, type);
+    if (named) write_invocation(w, named, handle->resolved);
+    else write_dynamic(w, type);
     write_return(w, strchr(type, ')')[1]);
     end_method(w, ACC_PUBLIC | ACC_STATIC, "call", type, locals);
-    snprintf(name, sizeof name, "linkd$Handle$%u", __atomic_add_fetch(&made, 1, __ATOMIC_RELAXED));
-    Class *cls = define_written(w, name, NULL, 0, loader);
-    if (!cls || !init_class(cls)) return NULL;
-    method = declared(cls, "call", type);
-    prepare_code(method);
-    if (!bind_handle(&method->sites[0], object, loader)) return NULL;
+    snprintf(name, sizeof name, "%.*slinkd$Handle$%u", slash ? (int)(slash + 1 - named->name) : 0, slash ? named->name : "",
+             __atomic_add_fetch(&made, 1, __ATOMIC_RELAXED));
+    Class *cls = define_written(w, name, NULL, 0, handle_loader(object));
+    return cls && init_class(cls) ? declared(cls, "call", type) : NULL;
+}
+
+/* A static method that does what the handle does. */
+static Method *method_of(Object *object) {
+    Handle *handle = handle_of(object);
+    Method *method = ACQUIRE(handle->method);
+    if (method || !(method = write_method(object))) return method;
+    if (handle->kind != HANDLE_DIRECT) {
+        prepare_code(method);
+        if (!bind_handle(&method->sites[0], object, method->cls->loader)) return NULL;
+    }
     RELEASE(handle->method, method);
     return method;
 }
@@ -157,6 +183,7 @@ static Method *method_of(Object *object) {
 bool bind_handle(Site *site, Object *handle, uint32_t loader) {
     Target target[MOST_PARTS];
     size_t count = target_of(handle, target, MOST_PARTS);
+    if (self->exception) return false;
     CallSite *call_site = count ? link_new_call_site(CONSTANT_SITE, handle_type(handle), target, count, loader, handle) : NULL;
     if (!call_site) return too_many(), false;
     return link_bind(site, call_site) || (too_many(), false);
@@ -240,27 +267,48 @@ static bool convert(Slot from, const char *from_type, const char *to_type, Slot 
     return false;
 }
 
-static Slot call_converted(Method *method, const char *type, Slot *args) {
+static Slot construct(Method *method, Slot *args, int count) {
+    Slot list[260];
+    if (!init_class(method->cls)) return NOTHING;
+    if (method->cls->flags & ACC_ABSTRACT) return throw_new("java/lang/InstantiationException", "%s", dotted(method->cls->name));
+    list[0] = of_ref(new_object(method->cls));
+    memcpy(list + 1, args, (size_t)count * sizeof *args);
+    invoke(method, list, count + 1);
+    return list[0];
+}
+
+/* With arguments of the handle's own descriptor. */
+static Slot run_handle(Object *object, Slot *args, int count) {
+    Handle *handle = handle_of(object);
+    if (handle->kind != HANDLE_DIRECT) {
+        Method *method = method_of(object);
+        return method && init_class(method->cls) ? invoke(method, args, count) : NOTHING;
+    }
+    Method *method = handle->resolved;
+    if (*method->name == '<') return construct(method, args, count);
+    if (is_polymorphic(method)) return args[0].a ? call_polymorphic(method->name, method->type, args) : throw_null();
+    method = link_select(method, args[0].a);
+    return method ? invoke(method, args, count) : NOTHING;
+}
+
+static Slot call_converted(Object *handle, const char *type, Slot *args) {
     Slot list[260], result;
     int count = 0;
-    const char *to = method->type + 1, *from = type + 1;
+    const char *own = handle_type(handle), *to = own + 1, *from = type + 1;
     for (; *from != ')' && *to != ')'; from = next_type(from), to = next_type(to)) {
         if (!convert(*args, from, to, &list[count])) return NOTHING;
         args += width_of(*from);
         count += width_of(*to);
     }
-    if (*from != *to) return wrong_type(type, method->type);
-    result = invoke(method, list, count);
+    if (*from != *to) return wrong_type(type, own);
+    result = run_handle(handle, list, count);
     if (!self->exception) convert(result, to + 1, from + 1, &result);
     return result;
 }
 
 /* With conversions from and to this descriptor. */
 static Slot call_handle(Object *handle, const char *type, Slot *args) {
-    Method *method = method_of(handle);
-    if (!method || !init_class(method->cls)) return NOTHING;
-    if (!strcmp(method->type, type)) return invoke(method, args, slots_of(type));
-    return call_converted(method, type, args);
+    return handle_type(handle) == type ? run_handle(handle, args, slots_of(type)) : call_converted(handle, type, args);
 }
 
 static Slot call_with_arguments(Object *handle, Object *list) {
@@ -282,7 +330,12 @@ static Slot call_with_arguments(Object *handle, Object *list) {
 
 /* ---- methods of VarHandle and MethodHandle, which no site of the linker names */
 
-static Slot handle_call(Site *site, const char *name, const char *type, Slot *args) {
+bool is_polymorphic(Method *method) {
+    return method->cls->loader == BOOT_LOADER && !(method->flags & ACC_STATIC)
+        && (!strcmp(method->cls->name, HANDLE) || !strcmp(method->cls->name, "java/lang/invoke/VarHandle"));
+}
+
+static Slot handle_call(const char *name, const char *type, Slot *args) {
     Object *handle = args[0].a;
     if (!strcmp(name, "invokeExact") && handle_type(handle) != type) return wrong_type(type, handle_type(handle));
     if (!strncmp(name, "invoke", 7) || !strcmp(name, "invokeExact")) return call_handle(handle, type, args + 1);
@@ -292,7 +345,11 @@ static Slot handle_call(Site *site, const char *name, const char *type, Slot *ar
     if (!strcmp(name, "isVarargsCollector")) return of_int(0);
     if (!strcmp(name, "asFixedArity")) return of_ref(handle);
     if (!strcmp(name, "invokeWithArguments") && !strncmp(type, "([", 2)) return call_with_arguments(handle, args[1].a);
-    return throw_new("java/lang/UnsupportedOperationException", "MethodHandle.%s at %s.%s", name, dotted(site->caller->cls->name), site->caller->name);
+    return throw_new("java/lang/UnsupportedOperationException", "MethodHandle.%s", name);
+}
+
+Slot call_polymorphic(const char *name, const char *type, Slot *args) {
+    return is_handle(args[0].a) ? handle_call(name, type, args) : variable_call(name, args[0].a, args);
 }
 
 Slot polymorphic_call(Site *site, Slot *args) {
@@ -300,9 +357,7 @@ Slot polymorphic_call(Site *site, Slot *args) {
     Constant *reference = site_reference(site), *pair = &cls->constants[reference->b];
     const char *name = constant_text(cls, pair->a), *type = constant_text(cls, pair->b);
     if (site->opcode == OP_invokestatic) return throw_new("java/lang/UnsupportedOperationException", "%s", name);
-    if (!args[0].a) return throw_null();
-    if (is_handle(args[0].a)) return handle_call(site, name, type, args);
-    return variable_call(name, args[0].a, args);
+    return args[0].a ? call_polymorphic(name, type, args) : throw_null();
 }
 
 /* ---- bootstrap methods (5.4.3.6) */

@@ -4,24 +4,27 @@
 
 #include "generate.h"
 
-/* A MethodHandle is a target of the linker's: a static method, a guard by a SwitchPoint, or the dynamic invoker of a CallSite. All other ones
- * are methods that adapters.c has written. It stands after the fields of the object. */
-enum handle_kind { HANDLE_METHOD, HANDLE_GUARD, HANDLE_INVOKER };
+/* A MethodHandle calls a static method, selects a method that was resolved, or makes an object by a constructor, is a guard by a SwitchPoint,
+ * or the dynamic invoker of a CallSite. All other ones are static methods that adapters.c has written. It stands after the fields of the
+ * object. */
+enum handle_kind { HANDLE_METHOD, HANDLE_DIRECT, HANDLE_GUARD, HANDLE_INVOKER };
 
 typedef struct Handle {
     enum handle_kind kind;
-    Method *method;          /* a static one that does what the handle does; of a guard and an invoker NULL until it is called */
+    Method *method;          /* a static one that does what the handle does; but for HANDLE_METHOD NULL until it is wanted */
+    Method *resolved;        /* of HANDLE_DIRECT: a constructor, or a method that isn't static */
     Object *first, *fallback; /* handles of a guard */
-    Object *of;              /* its SwitchPoint, or the CallSite of an invoker */
+    Object *of;              /* the class that a direct one names, the SwitchPoint of a guard, the CallSite of an invoker */
+    const char *type;        /* its descriptor, interned */
 } Handle;
 
 /* handles.c */
 Handle *handle_of(Object *object);
 Object *new_handle(Handle handle, const char *type, uint32_t loader); /* NULL with an exception */
-const char *handle_type(Object *handle); /* its descriptor */
+const char *handle_type(Object *handle);
 const char *descriptor_of(Object *method_type);
 uint32_t handle_loader(Object *handle);
-Object *make_direct(Class *cls, uint16_t reference_kind, const char *name, const char *type); /* NULL with an exception */
+Object *make_direct(Class *from, Class *named, uint16_t reference_kind, const char *name, const char *type); /* NULL with an exception */
 bool bind_handle(Site *site, Object *handle, uint32_t loader);
 bool set_call_site_target(Object *object, Object *handle);
 

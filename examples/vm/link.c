@@ -1,8 +1,9 @@
 /* What the machine asks of the linker as it runs. This file and unload.c, of what goes, are the only ones that know linkd.h.
  *
- * An invocation is requested and installed when it is first executed. What its link says is kept at the instruction (struct Link), where the
- * interpreter goes by it without a call into the library, and goes when linkd_dropped names it after an event. With --seat nothing is kept:
- * each call is one at the thread's own seat. With --check each call is one of linkd_call, too, and both have to run the same method.
+ * An invocation is linked when it is first executed. What its link says is kept at the instruction (struct Link), where the interpreter
+ * goes by it without a call into the library, and goes when linkd_dropped names it after an event. With --seat nothing is kept: each call
+ * is one at the thread's own seat. With --check each call is one of linkd_call, too, and both have to run the same method. Calls that no
+ * code makes, as those of reflection, are selected one by one (link_select).
  *
  * Numbers of the linker are kept in classes, loaders, sites, call sites and switch points alone, and read just before each call, since
  * a collection may go over to a fresh linker. Each call on the linker is made under the lock. */
@@ -19,8 +20,6 @@ CallSite **call_sites;
 SwitchPoint **switch_points;
 uint32_t call_site_count, switch_point_count;
 uint64_t events, must_see;
-static linkd *reader_of_files; /* it has no classes: see link_check */
-static uint32_t *dropped;
 static Link *dropped_links;
 static uint32_t dropped_count;
 static Link none = {.form = LINK_NONE, .kind = LINK_NONE}, array = {.form = LINK_ARRAY, .kind = LINK_ARRAY},
@@ -56,9 +55,7 @@ linkd *new_linker(void) {
 void link_open(void) {
     linkd_told told;
     linker = new_linker();
-    reader_of_files = new_linker();
     must(linkd_open_with(linker, vm.most_sites, vm.most_loaders, vm.most_classes, vm.most_call_sites, vm.most_switch_points), "open");
-    must(linkd_open_with(reader_of_files, 1, 1, 1, 1, 1), "open");
     must(linkd_new_loader(linker, &told), "the loader of the class path");
     loaders[BOOT_LOADER].used = loaders[CLASS_PATH_LOADER].used = true;
     loaders[CLASS_PATH_LOADER].number = told.number;
@@ -66,7 +63,6 @@ void link_open(void) {
     by_site = calloc(vm.most_sites, sizeof *by_site);
     call_sites = calloc(vm.most_call_sites, sizeof *call_sites);
     switch_points = calloc(vm.most_switch_points, sizeof *switch_points);
-    dropped = malloc(vm.most_sites * sizeof *dropped);
 }
 
 /* ---- events */
@@ -81,22 +77,29 @@ void drop(Site *site) {
     SET_RELAXED(dropped_count, dropped_count + 1);
 }
 
-/* After an accepted event: what is kept of dropped links goes. */
-static void after_event(void) {
-    size_t count;
-    events++;
-    must(linkd_dropped(linker, dropped, vm.most_sites, &count), "dropped");
-    vm.counts.dropped += count;
-    for (size_t i = 0; i < count; i++) {
-        Site *site = by_site[dropped[i]];
+/* What is kept of the links that the last event removed goes. */
+static void drop_all(uint32_t count) {
+    uint32_t *numbers = malloc(count * sizeof *numbers);
+    size_t length;
+    must(linkd_dropped(linker, numbers, count, &length), "dropped");
+    vm.counts.dropped += length;
+    for (size_t i = 0; i < length; i++) {
+        Site *site = by_site[numbers[i]];
         if (vm.trace) fprintf(stderr, "vm: dropped: %s.%s at %u\n", site->caller->cls->name, site->caller->name, site->pc);
         drop(site);
     }
+    free(numbers);
+}
+
+/* After an accepted event. */
+static void after_event(const linkd_told *told) {
+    events++;
+    if (told->dropped > 0) drop_all(told->dropped);
 }
 
 /* The same, where a stale seat would go on as before (docs/EMBEDDING.md). */
-void after_change(void) {
-    after_event();
+void after_change(const linkd_told *told) {
+    after_event(told);
     RELEASE(must_see, events);
 }
 
@@ -131,7 +134,7 @@ uint32_t link_new_loader(void) {
     while (made_room(status, &told, tries++));
     if (status == LINKD_LOADERS_FULL) return 0;
     must(status, "a loader");
-    after_event();
+    after_event(&told);
     return told.number;
 }
 
@@ -153,14 +156,13 @@ static const char *refusal(uint32_t status, const linkd_told *told, char *reason
     return define_error(status, told);
 }
 
-/* Whether the bytes are a class file, before anything here reads them: the class of an error, or NULL. It is asked of a linker that has no
- * classes, where a class that isn't java/lang/Object has no parent. */
+/* Whether the bytes are a class file, before anything here reads them: the class of an error, or NULL. */
 const char *link_check(Bytes file, char *reason, size_t room) {
     linkd_told told;
     lock();
-    uint32_t status = linkd_define(reader_of_files, 0, file.at, file.length, &told);
+    uint32_t status = linkd_check(linker, LINKD_NEWEST_OF_17, file.at, file.length, &told);
     unlock();
-    return status == LINKD_NO_CLASS_FILE ? refusal(status, &told, reason, room) : NULL;
+    return status == LINKD_DONE ? NULL : refusal(status, &told, reason, room);
 }
 
 /* The class of an error, or NULL: then it has its number. */
@@ -174,7 +176,7 @@ const char *link_define(uint32_t loader, Class *cls, char *reason, size_t room) 
     if (status != LINKD_DONE) return refusal(status, &told, reason, room);
     cls->number = told.number;
     by_number[told.number] = cls;
-    after_event();
+    after_event(&told);
     vm.counts.defined++;
     vm.counts.defined_since += loader >= FIRST_OWN_LOADER;
     vm.counts.define_ns += now_ns() - start;
@@ -186,7 +188,7 @@ void link_delegate(uint32_t loader, const char *name, uint32_t to) {
     uint32_t status = linkd_delegate(linker, loaders[loader].number, (const uint8_t *)name, strlen(name), loaders[to].number, &told);
     if (status == LINKD_DELEGATE) return; /* it was recorded before */
     must(status, "delegate");
-    after_event();
+    after_event(&told);
     vm.counts.delegations++;
 }
 
@@ -247,12 +249,10 @@ static Link *link_of_table(const linkd_link *from) {
     return link;
 }
 
-static void keep(Site *site) {
-    linkd_link from;
+static void keep(Site *site, const linkd_link *from) {
     Link *link;
-    must(linkd_link_of(linker, site->number, &from), "link");
-    if (from.kind == LINKD_VIRTUAL_TABLE || from.kind == LINKD_INTERFACE_TABLE) link = link_of_table(&from);
-    else if (from.kind != LINKD_MEGA) link = link_of_row(&from);
+    if (from->kind == LINKD_VIRTUAL_TABLE || from->kind == LINKD_INTERFACE_TABLE) link = link_of_table(from);
+    else if (from->kind != LINKD_MEGA) link = link_of_row(from);
     else {
         link = calloc(1, sizeof *link);
         link->kind = LINK_MEGA;
@@ -263,7 +263,24 @@ static void keep(Site *site) {
     RELEASE(site->link, link);
 }
 
-/* Whether it has a number at the linker, or never gets one; false where there are no more numbers. */
+/* After a request: it has a number at the linker, or never gets one; false where there are no more numbers. */
+static bool requested(Site *site, uint32_t status, const linkd_told *told) {
+    if (status == LINKD_SITES_FULL) return false;
+    if (site->requested) return true;
+    site->requested = true;
+    if (status == LINKD_NOT_LINKABLE) {
+        RELEASE(site->link, told->fault == LINKD_ARRAY_RECEIVER ? &array : &polymorphic);
+        return true;
+    }
+    if (status != LINKD_NOT_READY) must(status, "request");
+    site->number = told->number;
+    by_site[told->number] = site;
+    vm.counts.requests++;
+    events++;
+    return true;
+}
+
+/* Of an invokedynamic that is to be bound. */
 static bool request(Site *site) {
     linkd_told told;
     uint32_t status;
@@ -271,36 +288,56 @@ static bool request(Site *site) {
     if (site->requested) return true;
     do status = linkd_request(linker, site->caller->cls->number, site->caller->index, site->pc, &told);
     while (made_room(status, &told, tries++));
-    if (status == LINKD_SITES_FULL) return false;
-    site->requested = true;
-    if (status == LINKD_NOT_LINKABLE) {
-        RELEASE(site->link, told.fault == LINKD_ARRAY_RECEIVER ? &array : &polymorphic);
-        return true;
-    }
-    must(status, "request");
-    site->number = told.number;
-    by_site[told.number] = site;
-    vm.counts.requests++;
-    after_event();
-    return true;
+    return requested(site, status, &told);
 }
 
-/* NULL, or the name of a class for which the site waits. */
-static const char *try_install(Site *site) {
+/* It has its link then, or waits for a class of this name; false where there are no more numbers. */
+static bool try_link(Site *site, const char **awaited) {
     static uint8_t name[MOST_NAME];
+    linkd_link link;
     linkd_told told;
     size_t length;
-    uint32_t status = linkd_install(linker, &site->number, 1, &told);
+    uint32_t status;
+    int tries = 0;
+    do status = linkd_link_place(linker, site->caller->cls->number, site->caller->index, site->pc, &link, &told);
+    while (made_room(status, &told, tries++));
+    if (!requested(site, status, &told)) return false;
+    if (status == LINKD_NOT_LINKABLE) return true;
     if (status == LINKD_NOT_READY) {
         vm.counts.waits++;
         must(linkd_awaited(linker, site->number, name, sizeof name, &length), "awaited");
-        return intern_n((const char *)name, length);
+        *awaited = intern_n((const char *)name, length);
+        return true;
     }
-    must(status, "install");
+    must(status, "link");
     vm.counts.installs++;
-    after_event();
-    keep(site);
-    return NULL;
+    after_event(&told);
+    keep(site, &link);
+    return true;
+}
+
+/* With --eager: links the invocations of the method at once, but for those that wait for a class or are to be bound. Where there are no more
+ * numbers the rest is left to be linked one by one. */
+static void link_method(Method *method) {
+    enum { MOST_AT_ONCE = 256 };
+    static uint32_t numbers[MOST_AT_ONCE];
+    static linkd_link links[MOST_AT_ONCE];
+    linkd_told told;
+    uint32_t count = 0, installed = 0;
+    for (uint32_t i = 0; i < method->site_count && count < MOST_AT_ONCE; i++) {
+        Site *site = &method->sites[i];
+        if (site->link != &none || (site->opcode == OP_invokedynamic && !site->call_site)) continue;
+        if (!site->requested && !requested(site, linkd_request(linker, method->cls->number, method->index, site->pc, &told), &told)) break;
+        if (site->link == &none) numbers[count++] = site->number;
+    }
+    must(linkd_install_ready(linker, numbers, count, links, MOST_AT_ONCE, &told), "install");
+    for (uint32_t i = 0; i < count; i++) {
+        if (links[i].kind == LINKD_NONE) continue;
+        keep(by_site[numbers[i]], &links[i]);
+        installed++;
+    }
+    vm.counts.installs += installed;
+    if (installed > 0) after_event(&told);
 }
 
 /* Links the site, loading the classes for which it waits; false with an exception. */
@@ -311,10 +348,10 @@ static bool install(Site *site) {
         bool dynamic = false, full = false;
         uint64_t start = now_ns();
         lock();
-        if (site->link == &none) full = !request(site);
-        if (site->link == &none && !full) {
+        if (vm.eager && site->link == &none) link_method(site->caller);
+        if (site->link == &none) {
             dynamic = site->opcode == OP_invokedynamic && !site->call_site;
-            if (!dynamic) awaited = try_install(site);
+            full = !dynamic && !try_link(site, &awaited);
         }
         vm.counts.link_ns += now_ns() - start;
         unlock();
@@ -355,7 +392,7 @@ CallSite *link_new_call_site(enum call_site_kind kind, const char *type, const T
         made = calloc(1, sizeof *made);
         *made = (CallSite){.number = told.number, .loader = loader, .object = object};
         call_sites[call_site_count++] = made;
-        after_event();
+        after_event(&told);
     }
     unlock();
     return made;
@@ -371,7 +408,7 @@ bool link_bind(Site *site, CallSite *call_site) {
     if (status == LINKD_DONE && !site->call_site) {
         site->call_site = call_site;
         vm.counts.binds++;
-        after_change();
+        after_change(&told);
     }
     unlock();
     return status == LINKD_DONE;
@@ -387,7 +424,7 @@ bool link_set_target(CallSite *call_site, const Target *target, size_t count) {
     if (status != LINKD_CALL_SITE && status != LINKD_MALFORMED) must(status, "a target");
     if (status == LINKD_DONE) {
         vm.counts.targets++;
-        after_change();
+        after_change(&told);
     }
     unlock();
     return status == LINKD_DONE;
@@ -406,7 +443,7 @@ SwitchPoint *link_new_switch_point(Object *object) {
         made = calloc(1, sizeof *made);
         *made = (SwitchPoint){.number = told.number, .object = object};
         switch_points[switch_point_count++] = made;
-        after_event();
+        after_event(&told);
     }
     unlock();
     return made;
@@ -420,7 +457,7 @@ void link_invalidate(SwitchPoint *const *which, size_t count) {
     must(linkd_invalidate(linker, numbers, count, &told), "invalidate");
     for (size_t i = 0; i < count; i++) which[i]->invalid = true;
     vm.counts.invalidations += count;
-    after_change();
+    after_change(&told);
     unlock();
     free(numbers);
 }
@@ -530,13 +567,14 @@ static Choice checked(Site *site, const Link *link, Slot *args) {
     return choice;
 }
 
+static const char *const throwables[] = {NULL, "java/lang/NoSuchMethodError", "java/lang/IllegalAccessError",
+    "java/lang/IncompatibleClassChangeError", "java/lang/AbstractMethodError"};
+
 static void throw_linkage(uint32_t throwable, Site *site, Slot *args) {
-    static const char *const names[] = {NULL, "java/lang/NoSuchMethodError", "java/lang/IllegalAccessError",
-        "java/lang/IncompatibleClassChangeError", "java/lang/AbstractMethodError"};
     Class *cls = site->caller->cls;
     Constant *reference = site_reference(site), *pair = &cls->constants[reference->b];
     if (throwable == LINKD_NULL_POINTER_EXCEPTION) throw_null();
-    else throw_new(names[throwable], "%s.%s%s from %s on %s", dotted(class_name_at(cls, reference->a)), constant_text(cls, pair->a),
+    else throw_new(throwables[throwable], "%s.%s%s from %s on %s", dotted(class_name_at(cls, reference->a)), constant_text(cls, pair->a),
                    constant_text(cls, pair->b), dotted(cls->name), receiver_of(site, args) == LINKD_NULL ? "null" : dotted(args[0].a->cls->name));
 }
 
@@ -568,6 +606,51 @@ Method *link_call(Site *site, Slot *args) {
     if (vm.check) unlock();
     if (!choice.method) throw_linkage(choice.throws, site, args);
     return choice.method;
+}
+
+/* ---- what no code makes */
+
+Method *link_select(Method *method, Object *receiver) {
+    linkd_call_answer answer;
+    Method *selected = NULL;
+    lock();
+    uint32_t number = receiver ? receiver->cls->number : LINKD_NULL;
+    must(linkd_select(linker, method->cls->number, method->index, number, &answer), "select");
+    if (answer.kind == LINKD_RUN) selected = &by_number[answer.class_number]->methods[answer.value];
+    vm.counts.selections++;
+    unlock();
+    if (selected) return selected;
+    if (answer.kind == LINKD_BAD_RECEIVER) throw_cast(receiver, method->cls);
+    else if (answer.value == LINKD_NULL_POINTER_EXCEPTION) throw_null();
+    else throw_new(throwables[answer.value], "%s.%s%s on %s", dotted(method->cls->name), method->name, method->type, dotted(receiver->cls->name));
+    return NULL;
+}
+
+Method *link_resolve(Class *from, Class *named, const char *name, const char *type) {
+    linkd_resolution resolution;
+    for (;;) {
+        lock();
+        must(linkd_resolve(linker, from->number, named->number, (const uint8_t *)name, strlen(name), (const uint8_t *)type, strlen(type),
+                           &resolution), "resolve");
+        Method *found = resolution.class_number == LINKD_NO_NUMBER ? NULL : &by_number[resolution.class_number]->methods[resolution.method];
+        vm.counts.resolutions++;
+        unlock();
+        if (resolution.kind == LINKD_RUN) return found;
+        if (resolution.kind == LINKD_THROWS) {
+            throw_new(throwables[resolution.value], "%s.%s%s from %s", dotted(named->name), name, type, dotted(from->name));
+            return NULL;
+        }
+        Class *waits = resolution.value == LINKD_WANTS_CALLER_HOST ? from : found->cls;
+        if (!load_class(waits->nest_host, waits->loader)) return NULL;
+    }
+}
+
+bool link_accessible(Class *from, Class *cls) {
+    uint32_t accessible;
+    lock();
+    must(linkd_class_accessible(linker, from->number, cls->number, &accessible), "access");
+    unlock();
+    return accessible;
 }
 
 /* ---- threads */

@@ -32,7 +32,7 @@ extern uint64_t must_see; /* a seat that has seen fewer may answer wrongly, and 
 void fatal(const char *format, ...) __attribute__((noreturn, format(printf, 1, 2)));
 void must(uint32_t status, const char *what);
 linkd *new_linker(void);
-void after_change(void); /* what is kept of dropped links goes, and a stale seat has to be refreshed */
+void after_change(const linkd_told *told); /* what is kept of dropped links goes, and a stale seat has to be refreshed */
 void drop(Site *site);
 
 #endif

@@ -300,9 +300,10 @@ Class *define_class(uint32_t loader, Bytes file, const char *name, bool made) {
 /* ---- loading */
 
 static Class *ask_loader(const char *name, uint32_t loader) {
-    Method *load = invoker_of(must_declare(boot_class("java/lang/ClassLoader"), "loadClass", "(Ljava/lang/String;)Ljava/lang/Class;"));
     Slot args[2] = {of_ref(loaders[loader].object), of_ref(new_string(dotted(name)))};
-    Object *mirror = invoke(load, args, 2).a;
+    Method *load = must_declare(boot_class("java/lang/ClassLoader"), "loadClass", "(Ljava/lang/String;)Ljava/lang/Class;");
+    load = link_select(load, args[0].a);
+    Object *mirror = load ? invoke(load, args, 2).a : NULL;
     return !self->exception && mirror ? mirror_class(mirror) : NULL;
 }
 

@@ -150,6 +150,7 @@ static void usage(FILE *to) {
             "  --jdk HOME             a JDK 17; else JAVA_HOME's, else that of the java in PATH\n"
             "  --seat                 no link is kept at an instruction: each call is one at a seat\n"
             "  --patience N           with --seat: how many calls miss before it is refreshed (32)\n"
+            "  --eager                the invocations of a method are linked at once, when one of them is executed\n"
             "  --check                each call is compared with linkd_call\n"
             "  --stats                what was requested, installed and dropped, at the end\n"
             "  --trace                which links are dropped, and what is missing\n"
@@ -200,8 +201,8 @@ static bool is_one_of(const char *word, const char *const *list) {
 /* Options without an argument. */
 static bool take_flag(const char *word) {
     static const struct { const char *name; bool *at, value; } flags[] = {
-        {"--seat", &vm.use_seat, true}, {"--check", &vm.check, true}, {"--stats", &vm.stats, true}, {"--trace", &vm.trace, true},
-        {"--no-collections", &vm.collects, false}, {"--poison", &vm.poison, true}, {"--trace-collections", &vm.trace_collections, true},
+        {"--seat", &vm.use_seat, true}, {"--eager", &vm.eager, true}, {"--check", &vm.check, true}, {"--stats", &vm.stats, true},
+        {"--trace", &vm.trace, true}, {"--no-collections", &vm.collects, false}, {"--poison", &vm.poison, true}, {"--trace-collections", &vm.trace_collections, true},
         {"-ea", &vm.assertions, true}, {"-enableassertions", &vm.assertions, true}, {"-da", &vm.assertions, false},
         {"-disableassertions", &vm.assertions, false}};
     static const char *const ignored[] = {"-Xint", "-server", "-Xshare:auto", "-Xshare:off", NULL};

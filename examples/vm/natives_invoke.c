@@ -18,14 +18,24 @@ NATIVE(private_lookup) {
     return made;
 }
 
-static Slot find(uint16_t kind, Object *mirror, const char *name, Object *type) {
+/* An error of resolution is an exception here. */
+static Slot find(Object *lookup, uint16_t kind, Object *mirror, const char *name, Object *type) {
     if (!mirror || !type) return throw_null();
-    return of_ref(make_direct(mirror_class(mirror), kind, name, descriptor_of(type)));
+    Class *named = mirror_class(mirror);
+    Object *from = get_field(lookup, "lookupClass", NULL).a;
+    Object *made = make_direct(from ? mirror_class(from) : named, named, kind, name, descriptor_of(type));
+    if (made) return of_ref(made);
+    const char *error = self->exception->cls->name;
+    bool lacks = !strcmp(error, "java/lang/NoSuchMethodError");
+    if (!lacks && strcmp(error, "java/lang/IllegalAccessError") && strcmp(error, "java/lang/IncompatibleClassChangeError")) return NOTHING;
+    self->exception = NULL;
+    return throw_new(lacks ? "java/lang/NoSuchMethodException" : "java/lang/IllegalAccessException", "no such method: %s.%s%s",
+                     dotted(named->name), name, descriptor_of(type));
 }
 
-NATIVE(find_virtual) { return find(REF_invokeVirtual, args[1].a, text_of(args[2].a), args[3].a); }
-NATIVE(find_static) { return find(REF_invokeStatic, args[1].a, text_of(args[2].a), args[3].a); }
-NATIVE(find_constructor) { return find(REF_newInvokeSpecial, args[1].a, "<init>", args[2].a); }
+NATIVE(find_virtual) { return find(args[0].a, REF_invokeVirtual, args[1].a, text_of(args[2].a), args[3].a); }
+NATIVE(find_static) { return find(args[0].a, REF_invokeStatic, args[1].a, text_of(args[2].a), args[3].a); }
+NATIVE(find_constructor) { return find(args[0].a, REF_newInvokeSpecial, args[1].a, "<init>", args[2].a); }
 
 /* ---- MethodHandles */
 

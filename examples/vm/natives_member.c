@@ -126,7 +126,7 @@ NATIVE(record_components) {
     return of_ref(list);
 }
 
-/* ---- calls: of a method that may be overridden by an invocation that a class has which the machine wrote (generate.c) */
+/* ---- calls */
 
 static Slot illegal_argument(const char *text) { return throw_new("java/lang/IllegalArgumentException", "%s", text); }
 
@@ -148,6 +148,11 @@ static bool spread(Method *method, Object *list, Slot *slots, int *count) {
     return i == given;
 }
 
+static Slot call_selected(Method *method, Slot *slots, int count) {
+    Method *selected = link_select(method, method->flags & ACC_STATIC ? NULL : slots[0].a);
+    return selected ? invoke(selected, slots, count) : NOTHING;
+}
+
 static Slot call_reflected(Method *method, Object *receiver, Object *list) {
     Slot slots[260];
     int count = 0;
@@ -158,9 +163,7 @@ static Slot call_reflected(Method *method, Object *receiver, Object *list) {
         slots[count++] = of_ref(receiver);
     }
     if (!spread(method, list, slots, &count)) return NOTHING;
-    Method *by = invoker_of(method);
-    if (!by) return NOTHING;
-    Slot result = invoke(by, slots, count);
+    Slot result = is_polymorphic(method) ? call_polymorphic(method->name, method->type, slots) : call_selected(method, slots, count);
     if (!self->exception) return result;
     Object *cause = self->exception;
     self->exception = NULL;

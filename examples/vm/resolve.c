@@ -17,12 +17,10 @@ bool is_subclass(Class *below, Class *above) {
 
 /* ---- resolution */
 
-static size_t package_length(Class *cls) { return strrchr(cls->name, '/') ? (size_t)(strrchr(cls->name, '/') - cls->name) : 0; }
-
-static bool is_accessible(Class *cls, Class *to) { /* (5.4.4) */
+/* What the machine itself has written may name all. */
+static bool is_accessible(Class *cls, Class *to) {
     while (cls->element) cls = cls->element;
-    if ((cls->flags & ACC_PUBLIC) || cls->primitive || to->hidden) return true;
-    return cls->loader == to->loader && package_length(cls) == package_length(to) && !strncmp(cls->name, to->name, package_length(cls));
+    return cls->primitive || to->hidden || link_accessible(to, cls);
 }
 
 /* What was resolved is seen by who sees `resolved`. */

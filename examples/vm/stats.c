@@ -41,6 +41,8 @@ void print_stats(FILE *to) {
     print_links(to);
     number(to, "installs that waited for a class", counts->waits);
     number(to, "links dropped", counts->dropped);
+    number(to, "methods selected that no code calls", counts->selections);
+    number(to, "references resolved", counts->resolutions);
     number(to, "call sites bound", counts->binds);
     number(to, "targets set", counts->targets);
     number(to, "switch points invalidated", counts->invalidations);

@@ -175,7 +175,8 @@ static void *run_thread(void *started) {
     leave_safe();
     self->standing->stack_base = __builtin_frame_address(0); /* no collection looks at it before the next safepoint */
     args[0] = of_ref(object);
-    invoke(invoker_of(must_declare(boot_class("java/lang/Thread"), "run", "()V")), args, 1);
+    Method *runs = link_select(must_declare(boot_class("java/lang/Thread"), "run", "()V"), object);
+    if (runs) invoke(runs, args, 1);
     if (self->exception) {
         args[0] = of_ref(object);
         args[1] = of_ref(self->exception);
@@ -187,7 +188,7 @@ static void *run_thread(void *started) {
     invoke(must_declare(boot_class("java/lang/Thread"), "exit", NULL), args, 1);
     self->exception = NULL;
     pthread_mutex_lock(&waiting);
-    AT(object, eetop->offset, int64_t) = 0; /* nobody unparks it after this */
+    RELEASE(AT(object, eetop->offset, int64_t), 0); /* nobody unparks it after this */
     pthread_mutex_unlock(&waiting);
     monitor_enter(object); /* who joins it waits there */
     SET_RELAXED(AT(object, status->offset, int32_t), STATUS_TERMINATED);
@@ -215,7 +216,7 @@ void thread_start(Object *object) {
     Thread *made = new_thread(object);
     made->reader = link_new_reader();
     unlock();
-    AT(object, eetop->offset, int64_t) = (int64_t)(intptr_t)made;
+    RELEASE(AT(object, eetop->offset, int64_t), (int64_t)(intptr_t)made);
     SET_RELAXED(AT(object, status->offset, int32_t), STATUS_RUNNABLE);
     made->standing->daemon = get_field(object, "daemon", NULL).i;
     pthread_attr_init(&attributes);
@@ -303,7 +304,7 @@ void thread_park(bool absolute, int64_t time) {
 
 static void wake(Object *object, bool permit) {
     pthread_mutex_lock(&waiting);
-    Thread *one = object ? (Thread *)(intptr_t)AT(object, eetop->offset, int64_t) : NULL;
+    Thread *one = object ? (Thread *)(intptr_t)ACQUIRE(AT(object, eetop->offset, int64_t)) : NULL;
     if (one) {
         if (permit) one->standing->permit = true;
         pthread_cond_signal(&one->standing->wake);

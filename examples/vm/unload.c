@@ -37,7 +37,7 @@ static void release_dead(void) {
         if (switch_points[i]->gone) numbers[sites + switches++] = switch_points[i]->number;
     if (sites + switches > 0) {
         must(linkd_release(linker, numbers, sites, numbers + sites, switches, &told), "release");
-        after_change();
+        after_change(&told);
         forget_released();
     }
     free(numbers);
@@ -72,7 +72,10 @@ static size_t retire(uint32_t *ids, size_t count) {
     while (count > 0) {
         for (size_t i = 0; i < count; i++) numbers[i] = loaders[ids[i]].number;
         uint32_t status = linkd_retire_all(linker, numbers, count, &told);
-        if (status == LINKD_DONE) break;
+        if (status == LINKD_DONE) {
+            after_change(&told);
+            break;
+        }
         if (status != LINKD_RETIRE) must(status, "retire");
         if (vm.trace) fprintf(stderr, "vm: a loader stays: %s\n", linkd_retire_fault_name(told.fault));
         size_t left = 0;
@@ -93,7 +96,6 @@ void link_retire_dead(void) {
     for (uint32_t i = FIRST_OWN_LOADER; i < loader_count; i++)
         if (loaders[i].dead) ids[count++] = i;
     count = retire(ids, count);
-    if (count > 0) after_change();
     for (size_t i = 0; i < count; i++) loader_gone(&loaders[ids[i]]);
     while (loader_count > FIRST_OWN_LOADER && !loaders[loader_count - 1].used) loader_count--;
     free(ids);

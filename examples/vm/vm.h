@@ -45,7 +45,7 @@ typedef struct Object {
 } Object; /* fields, or an array's elements, lie after it, from HEADER on */
 
 enum { HEADER = sizeof(Object) };
-enum { HANDLE_ROOM = 48 }; /* what the machine has in a MethodHandle or a VarHandle */
+enum { HANDLE_ROOM = 56 }; /* what the machine has in a MethodHandle or a VarHandle */
 enum { FULL_POWER = 95 }; /* of a MethodHandles.Lookup: all modes */
 
 typedef union Slot { /* a local or an operand; a long or a double takes two, and stands in the first */
@@ -134,7 +134,6 @@ struct Method {
     Site *sites; /* the invocations in the code, by pc */
     Handler *handlers;
     Native native;
-    Method *invoker; /* a method that calls it by an invocation: see invoker_of */
     Bytes code_bytes, lines, annotations, parameter_annotations, default_value;
     const char *signature;
     uint16_t *throws;
@@ -289,7 +288,8 @@ extern _Thread_local Thread *self;
 
 typedef struct Counts { /* written under the lock */
     ThreadCounts threads; /* of those that have ended */
-    uint64_t defined, lambdas, concatenations, delegations, requests, installs, waits, dropped, targets, invalidations, binds;
+    uint64_t defined, lambdas, concatenations, delegations, requests, installs, waits, dropped, targets, invalidations, binds, selections,
+        resolutions;
     uint64_t by_kind[LINK_ASK];
     uint64_t collections, retired_loaders, retired_classes, released_call_sites, released_switch_points, renewals, cleared, enqueued;
     uint64_t live; /* bytes, after the last collection */
@@ -298,7 +298,7 @@ typedef struct Counts { /* written under the lock */
 } Counts;
 
 typedef struct VM {
-    bool use_seat, check, stats, trace;
+    bool use_seat, eager, check, stats, trace;
     bool booted; /* the runtime has started; before that nothing is collected */
     bool collects, poison, trace_collections, assertions;
     uint32_t patience; /* with --seat: how many calls miss before the seat is refreshed */
@@ -369,6 +369,9 @@ void make_sites(Method *method);
 Site *site_at(Method *method, uint32_t pc);
 Constant *site_reference(Site *site); /* what the instruction names */
 Method *link_call(Site *site, Slot *args); /* the method that runs; NULL with an exception, or at a LINK_POLYMORPHIC */
+Method *link_select(Method *method, Object *receiver); /* that runs where no code calls, as by reflection; NULL with an exception */
+Method *link_resolve(Class *from, Class *named, const char *name, const char *type); /* of a reference (5.4.3.3); NULL with an exception */
+bool link_accessible(Class *from, Class *cls); /* (5.4.4) */
 CallSite *link_new_call_site(enum call_site_kind kind, const char *type, const Target *target, size_t count, uint32_t loader, Object *object);
 bool link_bind(Site *site, CallSite *call_site);
 bool link_set_target(CallSite *call_site, const Target *target, size_t count);
@@ -389,8 +392,6 @@ void link_catch_up(void); /* after a collection that has retired loaders */
 /* ---- generate.c, bridges.c: classes that are made at run time */
 bool link_dynamic(Site *site); /* gives an invokedynamic its call site; false with an exception */
 Bytes with_bridges(Bytes file, Class *parsed); /* the file with a method for each lambda of the class */
-Method *invocation_of(Class *cls, uint8_t opcode, const char *name, const char *type); /* a static method with this invocation */
-Method *invoker_of(Method *method); /* a method that calls it by an invocation, so that it is selected; for reflection and natives */
 
 /* ---- heap.c: where objects are allocated */
 Object *alloc(Class *cls, size_t size);
@@ -496,6 +497,8 @@ Object *byte_array(Bytes bytes); /* natives_class.c */
 Slot variable_call(const char *name, Object *handle, Slot *args);
 void mark_variable(Object *handle);
 Slot polymorphic_call(Site *site, Slot *args); /* a method of VarHandle or MethodHandle (2.9.3) */
+bool is_polymorphic(Method *method); /* whether it is one, which isn't static */
+Slot call_polymorphic(const char *name, const char *type, Slot *args); /* on a receiver */
 void mark_handle(Object *handle);
 void mark_call_site(CallSite *call_site);
 bool dynamic_by_bootstrap(Site *site);

@@ -1,6 +1,6 @@
 //! What a call comes to, links, and targets of call sites.
 use crate::error::numbered;
-use crate::{raw, CallSiteId, ClassId, SwitchId};
+use crate::{raw, CallSiteId, ClassId, Error, SiteId, SwitchId};
 use std::fmt;
 
 numbered! {
@@ -79,6 +79,50 @@ impl fmt::Display for Answer {
             Answer::Unlinked(why) => write!(to, "is unlinked: {why}"),
         }
     }
+}
+
+/// A method of a class.
+#[derive(Clone, Copy, Debug, PartialEq, Eq, Hash)]
+pub struct Method {
+    /// The class that declares it.
+    pub class: ClassId,
+    /// Its place among those that the class declares.
+    pub method: u16,
+}
+
+impl fmt::Display for Method {
+    fn fmt(&self, to: &mut fmt::Formatter<'_>) -> fmt::Result {
+        write!(to, "method {} of {}", self.method, self.class)
+    }
+}
+
+/// What a reference to a method resolves to (JVMS SE 17 §5.4.3.3, §5.4.3.4).
+#[derive(Clone, Copy, Debug, PartialEq, Eq, Hash)]
+pub struct Resolution {
+    /// The method that was found, accessible or not.
+    pub found: Option<Method>,
+    /// What the resolution comes to.
+    pub comes_to: Resolved,
+}
+
+/// What a resolution comes to.
+#[derive(Clone, Copy, Debug, PartialEq, Eq, Hash)]
+pub enum Resolved {
+    /// The reference resolves to the method that was found.
+    Found,
+    /// This is thrown.
+    Throws(Throwable),
+    /// It isn't known yet, since a nest host isn't there: [`Unlinked::WantsCallerHost`] or [`Unlinked::WantsMethodHost`].
+    Unlinked(Unlinked),
+}
+
+/// An invocation that was requested, and its link.
+#[derive(Clone, Debug, PartialEq, Eq, Hash)]
+pub struct Linked {
+    /// The site.
+    pub site: SiteId,
+    /// The link that is installed there now, or why none is.
+    pub link: Result<Link, Error>,
 }
 
 /// A receiver's class, and what a call on an object of it comes to.
@@ -206,6 +250,18 @@ pub(crate) fn answer(of: raw::Answer) -> Option<Answer> {
         4 => None,
         kind => Some(Answer::Outcome(outcome(kind, of.class_number, of.value).expect(NO_SUCH_NUMBER))),
     }
+}
+
+/// A resolution: its method is there but where none was found.
+pub(crate) fn resolution(of: raw::Resolution) -> Resolution {
+    let found = (of.class_number != raw::NO_NUMBER)
+        .then(|| Method { class: ClassId(of.class_number), method: u16::try_from(of.method).expect(NO_SUCH_NUMBER) });
+    let comes_to = match of.kind {
+        0 => Resolved::Found,
+        1 => Resolved::Throws(Throwable::of(of.value).expect(NO_SUCH_NUMBER)),
+        _ => Resolved::Unlinked(Unlinked::of(of.value).expect(NO_SUCH_NUMBER)),
+    };
+    Resolution { found, comes_to }
 }
 
 fn row(of: &raw::Row) -> Row {

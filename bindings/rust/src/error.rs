@@ -285,7 +285,7 @@ impl fmt::Display for Error {
                 write!(to, "no class file: {fault} (place {place}, cause {cause}, pc {pc})")
             }
             Error::UnknownClass => to.write_str("unknown class"),
-            Error::NoSuchPlace => to.write_str("the class has no invocation there"),
+            Error::NoSuchPlace => to.write_str("the class has no such method, or no invocation there"),
             Error::NotLinkable(why) => write!(to, "the invocation isn't linked: {why}"),
             Error::SitesFull => to.write_str("there is no room for more sites"),
             Error::CallSite(fault) => write!(to, "the call site is refused: {fault}"),

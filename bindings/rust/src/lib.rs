@@ -28,7 +28,7 @@ mod renewal;
 mod seat;
 mod view;
 
-pub use answer::{Answer, Link, Outcome, Row, Target, Throwable, Unlinked};
+pub use answer::{Answer, Link, Linked, Method, Outcome, Resolution, Resolved, Row, Target, Throwable, Unlinked};
 pub use error::{CallSiteFault, ClassFault, DefineFault, DelegateFault, Error, NotLinkable, ReleaseFault, RetireFault};
 pub use invocation::{Instruction, Invocation};
 pub use limits::Limits;
@@ -45,6 +45,9 @@ pub fn version() -> u32 {
     // SAFETY: it only answers a number.
     unsafe { raw::linkd_version() }
 }
+
+/// The newest major version of class files of SE 17 (JVMS SE 17 §4.1), and so the newest one that [`Linker::define`] takes.
+pub const NEWEST_OF_17: u16 = 61;
 
 /// The newest major version of class files of which it is known how they are read: that of Java 25. The editions of the specification from
 /// SE 17 to SE 25 say the same of all that is read. It isn't claimed that a JVM of SE 17 would take such a file.

@@ -1,10 +1,11 @@
-use crate::answer::{answer, link, raw_link};
+use crate::answer::{answer, link, raw_link, resolution};
 use crate::block::Block;
 use crate::error::done;
 use crate::invocation::{invocation, Invocation};
 use crate::raw::{self, Told};
 use crate::{
-    Answer, CallSiteId, ClassId, Error, Limits, Link, LoaderId, Memo, Released, Renewal, Renumbering, Seat, SiteId, SwitchId, Target, View,
+    Answer, CallSiteId, ClassId, Error, Limits, Link, Linked, LoaderId, Memo, Released, Renewal, Renumbering, Resolution, Seat, SiteId,
+    SwitchId, Target, View,
 };
 use std::fmt;
 use std::sync::atomic::{AtomicU64, Ordering};
@@ -124,15 +125,16 @@ impl Linker {
     }
 
     /// Defines a class, after its parents: [`DefineFault::MissingParent`](crate::DefineFault::MissingParent) is no end, and
-    /// [`named_class`](Linker::named_class) names the parent. The major version of its file is 45 to 61, those of SE 17.
+    /// [`named_class`](Linker::named_class) names the parent. The major version of its file is 45 to [`NEWEST_OF_17`](crate::NEWEST_OF_17).
     pub fn define_in(&mut self, loader: LoaderId, file: &[u8]) -> Result<ClassId, Error> {
         let mut told = Told::default();
         let status = unsafe { raw::linkd_define(self.at(), loader.0, file.as_ptr(), file.len(), &mut told) };
         number(status, &told).map(ClassId)
     }
 
-    /// As [`define_in`](Linker::define_in), but the major version is 45 to `newest`. A file of a version above 61 is read as one of 61.0 is,
-    /// and linked as SE 17 says. With [`NEWEST_KNOWN`](crate::NEWEST_KNOWN) files up to Java 25's are taken; of later ones nothing is known.
+    /// As [`define_in`](Linker::define_in), but the major version is 45 to `newest`. A file of a version above
+    /// [`NEWEST_OF_17`](crate::NEWEST_OF_17) is read as one of 61.0 is, and linked as SE 17 says. With [`NEWEST_KNOWN`](crate::NEWEST_KNOWN)
+    /// files up to Java 25's are taken; of later ones nothing is known.
     pub fn define_up_to(&mut self, loader: LoaderId, newest: u16, file: &[u8]) -> Result<ClassId, Error> {
         let mut told = Told::default();
         let status = unsafe { raw::linkd_define_up_to(self.at(), loader.0, newest, file.as_ptr(), file.len(), &mut told) };
@@ -259,6 +261,49 @@ impl Linker {
         done(status, &told)
     }
 
+    /// Requests the invocation as [`request`](Linker::request) does, and installs its link unless there is one: this one call links an
+    /// invocation that is met.
+    ///
+    /// What refuses the request is an error here. What refuses the install is told beside the site: [`Error::NotReady`], of which
+    /// [`awaited_class`](Linker::awaited_class) names the class, or [`Error::Memory`].
+    pub fn link(&mut self, class: ClassId, method: u16, pc: u16) -> Result<Linked, Error> {
+        // A link is written once the place was requested, and no link is of such a kind.
+        let (mut told, mut present) = (Told::default(), raw::Link { kind: u32::MAX, ..raw::Link::default() });
+        let status = unsafe { raw::linkd_link_place(self.at(), class.0, method.into(), pc.into(), &mut present, &mut told) };
+        let done = done(status, &told);
+        if present.kind == u32::MAX {
+            return Err(done.expect_err("a place that is linked was requested"));
+        }
+        let link = done.map(|()| link(&present).expect("a place that is linked has a link"));
+        Ok(Linked { site: SiteId(told.number), link })
+    }
+
+    /// Links from scratch those of the sites that have a link now, at most 256 of them, and installs these links: all or none. Gives what is
+    /// installed then at each of the sites, in their order. The others are passed over: sites that have no link now, and ids under which nothing
+    /// was requested. They may come more than once. Where all are passed over there is no event.
+    ///
+    /// [`Error::BatchSize`], where more than 256 of the sites have a link; [`Error::Repeated`], of the first site that has a link and comes a
+    /// second time; [`Error::Memory`].
+    pub fn install_ready(&mut self, sites: &[SiteId]) -> Result<Vec<(SiteId, Option<Link>)>, Error> {
+        let mut told = Told::default();
+        let numbers: Vec<u32> = sites.iter().map(|site| site.0).collect();
+        let mut links = vec![raw::Link::default(); sites.len()];
+        let (from, to) = (numbers.as_ptr(), links.as_mut_ptr());
+        let status = unsafe { raw::linkd_install_ready(self.at(), from, numbers.len(), to, links.len(), &mut told) };
+        done(status, &told)?;
+        Ok(sites.iter().copied().zip(links.iter().map(link)).collect())
+    }
+
+    /// Whether the bytes are a class file whose major version is 45 to `newest`, as [`define_up_to`](Linker::define_up_to) reads them, which
+    /// asks for more. So a program that reads a class itself before it defines it calls this first. Nothing is defined.
+    ///
+    /// [`Error::NoClassFile`], [`Error::Memory`].
+    pub fn check(&mut self, newest: u16, file: &[u8]) -> Result<(), Error> {
+        let mut told = Told::default();
+        let status = unsafe { raw::linkd_check(self.at(), newest, file.as_ptr(), file.len(), &mut told) };
+        done(status, &told)
+    }
+
     /// The sites, rising, whose links the last accepted event removed.
     pub fn dropped(&mut self) -> Vec<SiteId> {
         let at = self.at();
@@ -291,6 +336,43 @@ impl Linker {
         let status = unsafe { raw::linkd_call(self.at(), site.0, receiver.map_or(raw::NULL, ClassId::number), &mut told) };
         assert_eq!(status, raw::DONE, "{OPEN}");
         answer(told).expect("a linker doesn't miss")
+    }
+
+    /// What a call of the method comes to, on null or on an object of the class, where no code makes it, as by reflection, a method handle or
+    /// native code. A static method and an instance initialization method are called themselves; of others one is selected by the receiver
+    /// (JVMS SE 17 §5.4.6), as by an invokevirtual or, where the class is an interface, an invokeinterface (§6.5).
+    ///
+    /// [`Error::NoSuchPlace`], where there is no such class or method, or the class is retired.
+    pub fn select(&mut self, class: ClassId, method: u16, receiver: Option<ClassId>) -> Result<Answer, Error> {
+        let mut told = raw::Answer::default();
+        let receiver = receiver.map_or(raw::NULL, ClassId::number);
+        let status = unsafe { raw::linkd_select(self.at(), class.0, method.into(), receiver, &mut told) };
+        done(status, &Told::default())?;
+        Ok(answer(told).expect("a linker doesn't miss"))
+    }
+
+    /// What a reference to the method of this name and descriptor in the class `named` resolves to for the class `from` (JVMS SE 17 §5.4.3.3,
+    /// where `named` is an interface §5.4.3.4; access: §5.4.4). Both texts are in modified UTF-8. It looks at no instruction: whether the method
+    /// is static the program has to see. Methods of java/lang/invoke/MethodHandle and VarHandle are found as those of any class.
+    ///
+    /// [`Error::UnknownClass`], where one of the two was never defined or is retired.
+    pub fn resolve(&mut self, from: ClassId, named: ClassId, name: &[u8], descriptor: &[u8]) -> Result<Resolution, Error> {
+        let mut told = raw::Resolution::default();
+        let status = unsafe {
+            raw::linkd_resolve(self.at(), from.0, named.0, name.as_ptr(), name.len(), descriptor.as_ptr(), descriptor.len(), &mut told)
+        };
+        done(status, &Told::default())?;
+        Ok(resolution(told))
+    }
+
+    /// Whether the class is accessible to the class `from` (JVMS SE 17 §5.4.4), as for new, checkcast and fields.
+    ///
+    /// [`Error::UnknownClass`], where one of the two was never defined or is retired.
+    pub fn class_accessible(&mut self, from: ClassId, class: ClassId) -> Result<bool, Error> {
+        let mut accessible = 0;
+        let status = unsafe { raw::linkd_class_accessible(self.at(), from.0, class.0, &mut accessible) };
+        done(status, &Told::default())?;
+        Ok(accessible == 1)
     }
 
     /// The link that is installed at the site, if there is one.

@@ -1,6 +1,6 @@
 //! The calls of `include/linkd.h`, of this version. Nothing compares these declarations with the header but the crate's tests.
 
-pub const VERSION: u32 = 10;
+pub const VERSION: u32 = 11;
 
 /// A linker, a seat, a memo, a view or a renewal, in a block of a size that the library tells.
 #[repr(C)]
@@ -16,6 +16,7 @@ pub struct Told {
     pub place: u32,
     pub cause: u32,
     pub at: u32,
+    pub dropped: u32,
 }
 
 #[repr(C)]
@@ -40,6 +41,15 @@ impl Answer {
     pub fn of_bits(bits: u64) -> Answer {
         Answer { kind: (bits >> 56) as u32, class_number: bits as u32, value: (bits >> 32) as u32 & 0xff_ffff }
     }
+}
+
+#[repr(C)]
+#[derive(Clone, Copy, Default)]
+pub struct Resolution {
+    pub kind: u32,
+    pub value: u32,
+    pub class_number: u32,
+    pub method: u32,
 }
 
 #[repr(C)]
@@ -131,6 +141,22 @@ extern "C" {
     pub fn linkd_dropped(at: *mut Opaque, out: *mut u32, capacity: usize, length: *mut usize) -> u32;
     pub fn linkd_call(at: *mut Opaque, site: u32, receiver: u32, answer: *mut Answer) -> u32;
     pub fn linkd_link_of(at: *mut Opaque, site: u32, link: *mut Link) -> u32;
+    pub fn linkd_link_place(at: *mut Opaque, class_number: u32, method: u32, pc: u32, link: *mut Link, told: *mut Told) -> u32;
+    pub fn linkd_install_ready(at: *mut Opaque, sites: *const u32, count: usize, links: *mut Link, capacity: usize, told: *mut Told)
+        -> u32;
+    pub fn linkd_check(at: *mut Opaque, newest: u16, bytes: *const u8, length: usize, told: *mut Told) -> u32;
+    pub fn linkd_select(at: *mut Opaque, class_number: u32, method: u32, receiver: u32, answer: *mut Answer) -> u32;
+    pub fn linkd_resolve(
+        at: *mut Opaque,
+        from: u32,
+        named: u32,
+        name: *const u8,
+        name_length: usize,
+        type_: *const u8,
+        type_length: usize,
+        resolution: *mut Resolution,
+    ) -> u32;
+    pub fn linkd_class_accessible(at: *mut Opaque, from: u32, class_number: u32, accessible: *mut u32) -> u32;
     pub fn linkd_lookup(at: *mut Opaque, loader: u32, name: *const u8, name_length: usize, class_number: *mut u32) -> u32;
     pub fn linkd_class_name(at: *mut Opaque, class_number: u32, out: *mut u8, capacity: usize, length: *mut usize) -> u32;
     pub fn linkd_method_name(at: *mut Opaque, class_number: u32, method: u32, out: *mut u8, capacity: usize, length: *mut usize) -> u32;

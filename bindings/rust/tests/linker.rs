@@ -4,8 +4,8 @@ mod file;
 
 use linkd::{
     Answer, CallSiteFault, CallSiteId, CallSiteKind, ClassFault, ClassId, DefineFault, DelegateFault, Error, Instruction, Invocation,
-    Limits, Link, Linker, LoaderId, NotLinkable, Outcome, ReleaseFault, Released, Renewal, RetireFault, SiteId, SwitchId, Target,
-    Throwable, Unlinked, NEWEST_KNOWN,
+    Limits, Link, Linked, Linker, LoaderId, Method, NotLinkable, Outcome, ReleaseFault, Released, Renewal, Resolution, Resolved,
+    RetireFault, SiteId, SwitchId, Target, Throwable, Unlinked, NEWEST_KNOWN, NEWEST_OF_17,
 };
 use std::sync::{Arc, Mutex};
 
@@ -150,7 +150,9 @@ fn later_class_files_are_defined_up_to_a_version() -> Result<(), Error> {
     let object = linker.define_up_to(LoaderId::FIRST, NEWEST_KNOWN, &file)?;
     assert_eq!(linker.class_name(object).as_deref(), Some(OBJECT.as_bytes()));
     linker.define_up_to(LoaderId::FIRST, 65, &file::class_of_version(65, "A", Some(OBJECT), &[]))?;
-    linker.define_up_to(LoaderId::FIRST, 61, &with_f("B", "A"))?;
+    linker.define_up_to(LoaderId::FIRST, NEWEST_OF_17, &with_f("B", "A"))?;
+    assert!(bad_version(linker.define(&file::class_of_version(NEWEST_OF_17 + 1, "C", Some("B"), &[]))));
+    linker.define(&file::class_of_version(NEWEST_OF_17, "C", Some("B"), &[]))?;
     Ok(())
 }
 
@@ -797,6 +799,332 @@ fn what_is_missing_has_a_name() -> Result<(), Error> {
     linker.define(&with_f("Z", OBJECT))?;
     assert_eq!(linker.awaited_class(pending), None);
     linker.install(&[pending])
+}
+
+const PRIVATE: u16 = 0x0002;
+const PROTECTED: u16 = 0x0004;
+const PUBLIC_ABSTRACT: u16 = 0x0401;
+const PUBLIC_INTERFACE: u16 = 0x0601;
+const PACKAGE_CLASS: u16 = 0x0020;
+const ABSTRACT_CLASS: u16 = 0x0421;
+
+/// Classes of which no code calls a method. Of A the methods are f, the static s, the private p, <init> and the protected r; of the interface
+/// I it is g.
+struct Uncalled {
+    linker: Linker,
+    object: ClassId,
+    a: ClassId,
+    b: ClassId,
+    i: ClassId,
+    c: ClassId,
+}
+
+fn uncalled() -> Result<Uncalled, Error> {
+    let mut linker = Linker::open(100)?;
+    let object = linker.define(&file::class(OBJECT, None, &[(PUBLIC, "h", vec![])]))?;
+    let of_a = [(PUBLIC, "f"), (PUBLIC_STATIC, "s"), (PRIVATE, "p"), (PUBLIC, "<init>"), (PROTECTED, "r")];
+    let a = linker.define(&file::class("A", Some(OBJECT), &of_a.map(|(flags, name)| (flags, name, vec![]))))?;
+    let b = linker.define(&file::class("B", Some("A"), &["f", "p", "s"].map(|name| (PUBLIC, name, vec![]))))?;
+    let i = linker.define(&interface())?;
+    let c = linker.define(&with_g("C", &[(PUBLIC, "g", vec![])]))?;
+    Ok(Uncalled { linker, object, a, b, i, c })
+}
+
+/// I, which declares g.
+fn interface() -> Vec<u8> {
+    file::Class { flags: PUBLIC_INTERFACE, name: "I", methods: &[(PUBLIC_ABSTRACT, "g", vec![])], ..file::Class::default() }.bytes()
+}
+
+/// A class that implements I, with these methods.
+fn with_g(name: &str, methods: &[file::Method]) -> Vec<u8> {
+    file::Class { name, interfaces: &["I"], methods, ..file::Class::default() }.bytes()
+}
+
+fn throws(throwable: Throwable) -> Answer {
+    Answer::Outcome(Outcome::Throws(throwable))
+}
+
+#[test]
+fn a_method_is_selected_without_an_invocation() -> Result<(), Error> {
+    let Uncalled { mut linker, object, a, b, i, c } = uncalled()?;
+    let run = |class, method| Ok(Answer::Outcome(Outcome::Run { class, method }));
+    // 5.4.6: the method of the receiver's class that overrides, or the method itself.
+    assert_eq!(linker.select(a, 0, Some(a)), run(a, 0));
+    assert_eq!(linker.select(a, 0, Some(b)), run(b, 0));
+    assert_eq!(linker.select(b, 0, Some(b)), run(b, 0));
+    // 6.5, invokevirtual: null.
+    assert_eq!(linker.select(a, 0, None), Ok(throws(Throwable::NullPointerException)));
+    // A private method is the selected one, whatever is below it.
+    assert_eq!(linker.select(a, 2, Some(b)), run(a, 2));
+    assert_eq!(linker.select(a, 2, None), Ok(throws(Throwable::NullPointerException)));
+    // Nothing overrides an instance initialization method (2.9.1), and a static one has no receiver.
+    assert_eq!(linker.select(a, 3, Some(b)), run(a, 3));
+    for receiver in [None, Some(object), Some(b), Some(i)] {
+        assert_eq!(linker.select(a, 1, receiver), run(a, 1));
+    }
+    // No A: what isn't below it, and classes of which there is no object.
+    let bare = file::Class { flags: ABSTRACT_CLASS, name: "Bare", superclass: Some("A"), ..file::Class::default() };
+    let bare = linker.define(&bare.bytes())?;
+    for receiver in [object, c, i, bare] {
+        assert_eq!(linker.select(a, 0, Some(receiver)), Ok(Answer::BadReceiver));
+    }
+    assert_eq!(linker.select(b, 0, Some(a)), Ok(Answer::BadReceiver));
+    Ok(())
+}
+
+#[test]
+fn an_interface_method_is_selected_without_an_invocation() -> Result<(), Error> {
+    let Uncalled { mut linker, object, a, i, c, .. } = uncalled()?;
+    assert_eq!(linker.select(i, 0, Some(c)), Ok(answers(c)));
+    assert_eq!(linker.select(i, 0, Some(a)), Ok(Answer::BadReceiver));
+    assert_eq!(linker.select(i, 0, None), Ok(throws(Throwable::NullPointerException)));
+    // 6.5, invokeinterface: none is selected, or one that is neither public nor private. A private one overrides nothing (5.4.5).
+    let lacking = linker.define(&with_g("Lacking", &[]))?;
+    assert_eq!(linker.select(i, 0, Some(lacking)), Ok(throws(Throwable::AbstractMethodError)));
+    let hiding = linker.define(&with_g("Hiding", &[(PRIVATE, "g", vec![])]))?;
+    assert_eq!(linker.select(i, 0, Some(hiding)), Ok(throws(Throwable::AbstractMethodError)));
+    let narrow = linker.define(&with_g("Narrow", &[(0, "g", vec![])]))?;
+    assert_eq!(linker.select(i, 0, Some(narrow)), Ok(throws(Throwable::IllegalAccessError)));
+    // A method of the class that implements I is called as any other.
+    assert_eq!(linker.select(narrow, 0, Some(narrow)), Ok(answers(narrow)));
+
+    assert_eq!(linker.select(i, 1, Some(c)), Err(Error::NoSuchPlace));
+    assert_eq!(linker.select(ClassId::from_number(99).unwrap(), 0, Some(c)), Err(Error::NoSuchPlace));
+    let other = linker.new_loader()?;
+    linker.delegate(other, b"A", LoaderId::FIRST)?;
+    let d = linker.define_in(other, &with_f("D", "A"))?;
+    assert_eq!(linker.select(a, 0, Some(d)), Ok(answers(d)));
+    linker.retire(other)?;
+    assert_eq!(linker.select(a, 0, Some(d)), Ok(Answer::BadReceiver));
+    assert_eq!(linker.select(d, 0, Some(object)), Err(Error::NoSuchPlace));
+    Ok(())
+}
+
+/// A resolution that finds the method.
+fn found(class: ClassId, method: u16, comes_to: Resolved) -> Resolution {
+    Resolution { found: Some(Method { class, method }), comes_to }
+}
+
+#[test]
+fn a_reference_is_resolved_without_an_invocation() -> Result<(), Error> {
+    let Uncalled { mut linker, object, a, b, i, c } = uncalled()?;
+    let illegal = Resolved::Throws(Throwable::IllegalAccessError);
+    let none = Resolution { found: None, comes_to: Resolved::Throws(Throwable::NoSuchMethodError) };
+    // 5.4.3.3: in the class, in a superclass, in a superinterface.
+    assert_eq!(linker.resolve(c, b, b"f", b"()V")?, found(b, 0, Resolved::Found));
+    assert_eq!(linker.resolve(c, b, b"h", b"()V")?, found(object, 0, Resolved::Found));
+    let lacking = linker.define(&with_g("Lacking", &[]))?;
+    assert_eq!(linker.resolve(c, lacking, b"g", b"()V")?, found(i, 0, Resolved::Found));
+    assert_eq!(linker.resolve(c, a, b"s", b"()V")?, found(a, 1, Resolved::Found));
+    assert_eq!(linker.resolve(c, a, b"g", b"()V")?, none);
+    assert_eq!(linker.resolve(c, a, b"f", b"(I)V")?, none);
+    // 5.4.3.4: in the interface, and a public method of java/lang/Object.
+    assert_eq!(linker.resolve(a, i, b"g", b"()V")?, found(i, 0, Resolved::Found));
+    assert_eq!(linker.resolve(a, i, b"h", b"()V")?, found(object, 0, Resolved::Found));
+    assert_eq!(linker.resolve(a, i, b"f", b"()V")?, none);
+    // 5.4.4: a private method, and a protected one, which a class below it in another package may name.
+    assert_eq!(linker.resolve(a, a, b"p", b"()V")?, found(a, 2, Resolved::Found));
+    assert_eq!(linker.resolve(c, a, b"p", b"()V")?, found(a, 2, illegal));
+    assert_eq!(linker.resolve(c, a, b"r", b"()V")?, found(a, 4, Resolved::Found));
+    let below = linker.define(&file::class("q/Below", Some("A"), &[]))?;
+    let beside = linker.define(&file::class("q/Beside", Some(OBJECT), &[]))?;
+    assert_eq!(linker.resolve(below, below, b"r", b"()V")?, found(a, 4, Resolved::Found));
+    assert_eq!(linker.resolve(beside, a, b"r", b"()V")?, found(a, 4, illegal));
+    // The class that is named isn't accessible; the method would be.
+    let hidden = hidden(&mut linker)?;
+    assert_eq!(linker.resolve(c, hidden, b"f", b"()V")?, found(hidden, 0, Resolved::Found));
+    assert_eq!(linker.resolve(beside, hidden, b"f", b"()V")?, found(hidden, 0, illegal));
+
+    let unknown = ClassId::from_number(99).unwrap();
+    assert_eq!(linker.resolve(unknown, a, b"f", b"()V"), Err(Error::UnknownClass));
+    assert_eq!(linker.resolve(a, unknown, b"f", b"()V"), Err(Error::UnknownClass));
+    Ok(())
+}
+
+/// A class of no package that only its package may access.
+fn hidden(linker: &mut Linker) -> Result<ClassId, Error> {
+    let class = file::Class { flags: PACKAGE_CLASS, name: "Hidden", methods: &[(PUBLIC, "f", vec![])], ..file::Class::default() };
+    linker.define(&class.bytes())
+}
+
+#[test]
+fn a_resolution_waits_for_a_nest_host() -> Result<(), Error> {
+    let Uncalled { mut linker, a, .. } = uncalled()?;
+    let mate = file::Class { name: "Mate", nest_host: Some("Host"), ..file::Class::default() };
+    let mate = linker.define(&mate.bytes())?;
+    let waits = Resolved::Unlinked(Unlinked::WantsCallerHost);
+    assert_eq!(linker.resolve(mate, a, b"p", b"()V")?, found(a, 2, waits));
+    assert_eq!(linker.resolve(mate, a, b"f", b"()V")?, found(a, 0, Resolved::Found));
+    // Host doesn't list Mate, which is the host of its own nest then (5.4.4).
+    linker.define(&file::class("Host", Some(OBJECT), &[]))?;
+    assert_eq!(linker.resolve(mate, a, b"p", b"()V")?, found(a, 2, Resolved::Throws(Throwable::IllegalAccessError)));
+    Ok(())
+}
+
+#[test]
+fn methods_of_a_method_handle_are_found() -> Result<(), Error> {
+    let Uncalled { mut linker, a, .. } = uncalled()?;
+    let methods = [(0x0191, "invoke", vec![]), (PUBLIC, "type", vec![])];
+    let handle = linker.define(&file::class("java/lang/invoke/MethodHandle", Some(OBJECT), &methods))?;
+    assert_eq!(linker.resolve(a, handle, b"invoke", b"()V")?, found(handle, 0, Resolved::Found));
+    assert_eq!(linker.resolve(a, handle, b"type", b"()V")?, found(handle, 1, Resolved::Found));
+    assert_eq!(linker.select(handle, 1, Some(handle)), Ok(Answer::Outcome(Outcome::Run { class: handle, method: 1 })));
+    Ok(())
+}
+
+#[test]
+fn a_class_is_accessible_in_its_package_or_everywhere() -> Result<(), Error> {
+    let Uncalled { mut linker, a, i, .. } = uncalled()?;
+    let hidden = hidden(&mut linker)?;
+    let beside = linker.define(&file::class("q/Beside", Some(OBJECT), &[]))?;
+    assert_eq!(linker.class_accessible(a, hidden), Ok(true));
+    assert_eq!(linker.class_accessible(hidden, hidden), Ok(true));
+    assert_eq!(linker.class_accessible(beside, hidden), Ok(false));
+    assert_eq!((linker.class_accessible(beside, a), linker.class_accessible(hidden, i)), (Ok(true), Ok(true)));
+    // A class of the same name's package that another loader defines is in another run-time package (5.3).
+    let other = linker.new_loader()?;
+    linker.delegate(other, OBJECT.as_bytes(), LoaderId::FIRST)?;
+    let d = linker.define_in(other, &file::class("D", Some(OBJECT), &[]))?;
+    assert_eq!((linker.class_accessible(d, hidden), linker.class_accessible(d, a)), (Ok(false), Ok(true)));
+    linker.retire(other)?;
+    assert_eq!(linker.class_accessible(d, a), Err(Error::UnknownClass));
+    assert_eq!(linker.class_accessible(a, d), Err(Error::UnknownClass));
+    Ok(())
+}
+
+#[test]
+fn bytes_are_checked_and_not_defined() -> Result<(), Error> {
+    let mut linker = Linker::open(1)?;
+    let fault_of = |checked| match checked {
+        Err(Error::NoClassFile { fault, .. }) => Some(fault),
+        _ => None,
+    };
+    assert_eq!(fault_of(linker.check(NEWEST_KNOWN, &[])), Some(ClassFault::Truncated));
+    assert_eq!(fault_of(linker.check(NEWEST_KNOWN, b"no class file")), Some(ClassFault::BadMagic));
+    let file = file::class_of_version(65, "A", Some("Nowhere"), &[]);
+    assert_eq!(fault_of(linker.check(NEWEST_OF_17, &file)), Some(ClassFault::BadVersion));
+    // No parent is looked for, and no class is there then.
+    for _ in 0..2 {
+        linker.check(65, &file)?;
+    }
+    assert_eq!(linker.lookup(LoaderId::FIRST, b"A"), None);
+    assert_eq!(linker.define(&object())?.number(), 0);
+    Ok(())
+}
+
+#[test]
+fn an_invocation_is_linked_by_one_call() -> Result<(), Error> {
+    let mut linker = Linker::open(2)?;
+    linker.define(&object())?;
+    let m = linker.define(&caller())?;
+    // M calls A.f at pc 0, and A isn't there.
+    let met = linker.link(m, 0, 0)?;
+    let site = met.site;
+    assert_eq!(met.link, Err(Error::NotReady(site)));
+    assert_eq!(linker.awaited_class(site).as_deref(), Some(&b"A"[..]));
+    let a = linker.define(&with_f("A", OBJECT))?;
+    let linked = Linked { site, link: Ok(Link::Direct(runs(a))) };
+    assert_eq!(linker.link(m, 0, 0)?, linked);
+    assert_eq!(linker.link(m, 0, 0)?, linked);
+    assert_eq!(linker.link_of(site), Some(Link::Direct(runs(a))));
+    // A class below A that overrides f, and the link is made anew.
+    let c = linker.define(&with_f("C", "A"))?;
+    assert_eq!(linker.dropped(), [site]);
+    let table = Link::VirtualTable(vec![(a, runs(a)), (c, runs(c))]);
+    assert_eq!(linker.link(m, 0, 0)?, Linked { site, link: Ok(table) });
+
+    // What refuses the request. Z has no f, so that each call throws NoSuchMethodError (5.4.3.3).
+    assert_eq!(linker.link(m, 0, 6), Err(Error::NotLinkable(NotLinkable::ArrayReceiver)));
+    assert_eq!(linker.link(m, 0, 1), Err(Error::NoSuchPlace));
+    assert_eq!(linker.link(m, 2, 0), Err(Error::NoSuchPlace));
+    assert_eq!(linker.link(ClassId::from_number(99).unwrap(), 0, 0), Err(Error::UnknownClass));
+    linker.define(&file::class("Z", Some(OBJECT), &[]))?;
+    assert_eq!(linker.link(m, 0, 3)?.link, Ok(Link::Fault(Throwable::NoSuchMethodError)));
+    let n = linker.define(&other_caller())?;
+    assert_eq!(linker.link(n, 0, 0), Err(Error::SitesFull));
+    Ok(())
+}
+
+#[test]
+fn those_of_several_sites_are_installed_that_have_a_link() -> Result<(), Error> {
+    let mut world = world()?;
+    let (a, m, site) = (world.a, world.m, world.site);
+    let n = world.linker.define(&other_caller())?;
+    // M calls A.f and Z.f, and Z isn't there. N calls M.n, which is static.
+    let (waits, plain) = (world.linker.request(m, 0, 3)?, world.linker.request(n, 0, 0)?);
+    let (direct, method) = (Link::Direct(runs(a)), Link::Plain(Outcome::Run { class: m, method: 1 }));
+    let links = [(plain, Some(method.clone())), (waits, None), (site, Some(direct))];
+    assert_eq!(world.linker.install_ready(&[plain, waits, site])?, links);
+    assert_eq!((world.linker.link_of(plain), world.linker.link_of(waits)), (Some(method.clone()), None));
+    assert_eq!(world.linker.dropped(), []);
+
+    // C overrides f, which drops one of them. Z has no f, so that each call throws NoSuchMethodError (5.4.3.3).
+    let (_, table) = overridden(&mut world)?;
+    assert_eq!(world.linker.dropped(), [site]);
+    let links = [(site, Some(table.clone())), (waits, None), (plain, Some(method.clone()))];
+    assert_eq!(world.linker.install_ready(&[site, waits, plain])?, links);
+    assert_eq!(world.linker.dropped(), []);
+    world.linker.define(&file::class("Z", Some(OBJECT), &[]))?;
+    let fault = Link::Fault(Throwable::NoSuchMethodError);
+    assert_eq!(world.linker.install_ready(&[site, waits])?, [(site, Some(table)), (waits, Some(fault.clone()))]);
+    assert_eq!((world.linker.link_of(waits), world.linker.link_of(plain)), (Some(fault), Some(method)));
+    Ok(())
+}
+
+#[test]
+fn sites_without_a_link_are_passed_over() -> Result<(), Error> {
+    let mut world = world()?;
+    let (_, table) = overridden(&mut world)?;
+    let World { mut linker, m, site, .. } = world;
+    let waits = linker.request(m, 0, 3)?;
+    // Another loader's class, which calls A.f, goes with its loader.
+    let other = linker.new_loader()?;
+    linker.delegate(other, OBJECT.as_bytes(), LoaderId::FIRST)?;
+    linker.delegate(other, b"A", LoaderId::FIRST)?;
+    let d = linker.define_in(other, &file::class("D", Some(OBJECT), &[(PUBLIC_STATIC, "d", vec![(INVOKEVIRTUAL, "A", "f", "()V")])]))?;
+    let gone = linker.request(d, 0, 0)?;
+    assert_eq!(linker.install_ready(&[gone])?, [(gone, Some(table.clone()))]);
+    linker.retire(other)?;
+    let unknown = SiteId::from_number(9).unwrap();
+
+    linker.install_ready(&[waits, site])?;
+    // A selection for each of A, B and C.
+    assert_eq!(linker.last_work(), 3);
+    let serial = linker.view()?.serial();
+    assert_eq!(linker.install_ready(&[])?, []);
+    let none = [(unknown, None), (waits, None), (gone, None), (waits, None), (unknown, None)];
+    assert_eq!(linker.install_ready(&none.clone().map(|(site, _)| site))?, none);
+    assert_eq!(linker.install_ready(&[waits; 257])?, vec![(waits, None); 257]);
+    // There was no event.
+    assert_eq!((linker.last_work(), linker.view()?.serial()), (3, serial));
+    let links = [(unknown, None), (site, Some(table)), (unknown, None)];
+    assert_eq!(linker.install_ready(&[unknown, site, unknown])?, links);
+    assert_eq!(linker.view()?.serial(), serial + 1);
+    Ok(())
+}
+
+#[test]
+fn an_install_of_sites_that_have_a_link_is_refused_by_name() -> Result<(), Error> {
+    let mut linker = Linker::open(258)?;
+    linker.define(&object())?;
+    let m = linker.define(&caller())?;
+    // N calls M.n 257 times, and then Z.n, and Z isn't there.
+    let calls = [vec![(INVOKESTATIC, "M", "n", "()V"); 257], vec![(INVOKESTATIC, "Z", "n", "()V")]].concat();
+    let n = linker.define(&file::class("N", Some(OBJECT), &[(PUBLIC_STATIC, "x", calls)]))?;
+    let sites = (0..258).map(|call| linker.request(n, 0, 3 * call)).collect::<Result<Vec<_>, _>>()?;
+    let (ready, waits) = (&sites[..257], sites[257]);
+    assert_eq!(linker.install_ready(&sites), Err(Error::BatchSize));
+    assert_eq!(linker.install_ready(&[ready[0]; 257]), Err(Error::BatchSize));
+    assert_eq!(linker.install_ready(&[waits, ready[0], ready[1], waits, ready[1]]), Err(Error::Repeated(ready[1])));
+    for &site in &sites {
+        assert_eq!(linker.link_of(site), None);
+    }
+    let links = linker.install_ready(&sites[1..])?;
+    let plain = Link::Plain(Outcome::Run { class: m, method: 1 });
+    let wanted: Vec<_> = sites[1..].iter().map(|&site| (site, (site != waits).then(|| plain.clone()))).collect();
+    assert_eq!(links, wanted);
+    assert_eq!((linker.link_of(ready[0]), linker.link_of(ready[256])), (None, Some(plain)));
+    Ok(())
 }
 
 #[test]

@@ -11,6 +11,7 @@ import java.util.ArrayList;
 import java.util.Arrays;
 import java.util.Collection;
 import java.util.List;
+import java.util.Map;
 import java.util.Optional;
 import java.util.function.Function;
 import java.util.function.ToIntFunction;
@@ -25,6 +26,9 @@ import java.util.function.ToIntFunction;
  * <p>What is refused throws a {@link RefusedException}, which says why, and changes nothing; a closed linker refuses all.
  */
 public final class Linker implements AutoCloseable {
+    /** The newest major version of class files of SE 17 (JVMS SE 17 §4.1), and so the newest one that {@link #define(byte[])} takes. */
+    public static final int NEWEST_OF_17 = 61;
+
     /**
      * The newest major version of class files of which it is known how they are read: that of Java 25. The editions of the specification
      * from SE 17 to SE 25 say the same of all that is read. It isn't claimed that a JVM of SE 17 would take such a file.
@@ -135,7 +139,7 @@ public final class Linker implements AutoCloseable {
 
     /**
      * Defines a class, after its parents: {@link Refusal.DefineFault#MISSING_PARENT} is no end, and {@link #namedClass} names the parent. The
-     * major version of its file is 45 to 61, those of SE 17.
+     * major version of its file is 45 to {@link #NEWEST_OF_17}.
      */
     public synchronized ClassId define(LoaderId loader, byte[] file) {
         MemorySegment open = at();
@@ -145,8 +149,9 @@ public final class Linker implements AutoCloseable {
     }
 
     /**
-     * As {@link #define(LoaderId, byte[])}, but the major version is 45 to the newest one. A file of a version above 61 is read as one of
-     * 61.0 is, and linked as SE 17 says. With {@link #NEWEST_KNOWN} files up to Java 25's are taken; of later ones nothing is known.
+     * As {@link #define(LoaderId, byte[])}, but the major version is 45 to the newest one. A file of a version above {@link #NEWEST_OF_17}
+     * is read as one of 61.0 is, and linked as SE 17 says. With {@link #NEWEST_KNOWN} files up to Java 25's are taken; of later ones nothing
+     * is known.
      *
      * @param newest 0 to 65,535, or else this is {@link Refusal.Plain#MALFORMED}
      */
@@ -281,6 +286,53 @@ public final class Linker implements AutoCloseable {
         }
     }
 
+    /**
+     * Requests the invocation as {@link #request} does, and installs its link unless there is one: this one call links an invocation that is
+     * met. What refuses the request is thrown. What refuses the install stands beside the site: where it is
+     * {@link Refusal.SiteFault#NOT_READY}, {@link #awaitedClass} names the class for which the site waits.
+     */
+    public synchronized Linked link(ClassId type, int method, int pc) {
+        MemorySegment open = at();
+        link.set(JAVA_INT, 0, Native.UNWRITTEN);
+        return Numbers.linked(Native.linkPlace(open, type.number(), method, pc, link, told), told, link);
+    }
+
+    /**
+     * Links from scratch those of the sites that have a link now, at most 256 of them, and installs these links: all or none. Gives them by
+     * their sites, in the order of the sites. The others are passed over: sites that have no link now, and ids under which nothing was
+     * requested. They may come more than once. Where all are passed over there is no event.
+     *
+     * <p>Refused with {@link Refusal.Plain#BATCH_SIZE}, where more than 256 of the sites have a link, and with
+     * {@link Refusal.SiteFault#REPEATED} of the first site that has a link and comes a second time.
+     */
+    public synchronized Map<SiteId, Link> installReady(Collection<SiteId> sites) {
+        MemorySegment open = at();
+        int[] numbers = sites.stream().mapToInt(SiteId::number).toArray();
+        try (Arena call = Arena.ofConfined()) {
+            MemorySegment links = call.allocate(JAVA_INT, (long) numbers.length * Native.LINK);
+            Numbers.done(Native.installReady(open, call.allocateFrom(JAVA_INT, numbers), numbers.length, links, told), told);
+            return Numbers.links(numbers, links);
+        }
+    }
+
+    /**
+     * Returns where the bytes are a class file whose major version is 45 to the newest one, as {@link #defineUpTo} reads them, which asks for
+     * more. So a program that reads a class itself before it defines it calls this first. Nothing is defined.
+     *
+     * <p>Refused as {@link Refusal.NoClassFile} or {@link Refusal.Plain#MEMORY}.
+     *
+     * @param newest 0 to 65,535, or else this is {@link Refusal.Plain#MALFORMED}
+     */
+    public synchronized void check(int newest, byte[] file) {
+        MemorySegment open = at();
+        if (newest != (char) newest) {
+            throw new RefusedException(Refusal.Plain.MALFORMED);
+        }
+        try (Arena call = Arena.ofConfined()) {
+            Numbers.done(Native.check(open, (char) newest, copied(call, file), told), told);
+        }
+    }
+
     /** The sites, rising, whose links the last accepted event removed. */
     public synchronized List<SiteId> dropped() {
         MemorySegment open = at();
@@ -322,6 +374,58 @@ public final class Linker implements AutoCloseable {
     private synchronized Answer call(int site, int receiver) {
         Numbers.done(Native.call(at(), site, receiver, answer));
         return Numbers.answer(answer).orElseThrow();
+    }
+
+    /** As {@link #select(ClassId, int, ClassId)}, on null or without a receiver. */
+    public Answer select(ClassId type, int method) {
+        return select(type, method, Native.NULL);
+    }
+
+    /**
+     * What a call of the method comes to on an object of the receiver's class, where no code makes it, as by reflection, a method handle or
+     * native code. A static method and an instance initialization method are called themselves; of others one is selected by the receiver
+     * (JVMS SE 17 §5.4.6), as by an invokevirtual or, where the class is an interface, an invokeinterface (§6.5).
+     *
+     * <p>Refused as {@link Refusal.Plain#NO_SUCH_PLACE}, where there is no such class or method, or the class is retired.
+     */
+    public Answer select(ClassId type, int method, ClassId receiver) {
+        return select(type, method, receiver.number());
+    }
+
+    private synchronized Answer select(ClassId type, int method, int receiver) {
+        Numbers.done(Native.select(at(), type.number(), method, receiver, answer));
+        return Numbers.answer(answer).orElseThrow();
+    }
+
+    /**
+     * What a reference to the method of this name and descriptor in the class that is named resolves to for the class it stands in (JVMS SE 17
+     * §5.4.3.3, where an interface is named §5.4.3.4; access: §5.4.4). It looks at no instruction: whether the method is static the program
+     * has to see. Methods of java/lang/invoke/MethodHandle and VarHandle are found as those of any class.
+     *
+     * <p>Refused as {@link Refusal.Plain#UNKNOWN_CLASS}, where one of the two was never defined or is retired.
+     */
+    public synchronized Resolution resolve(ClassId from, ClassId named, String name, String descriptor) {
+        MemorySegment open = at();
+        try (Arena call = Arena.ofConfined()) {
+            MemorySegment resolution = call.allocate(JAVA_INT, Native.RESOLUTION);
+            Numbers.done(Native.resolve(open, from.number(), named.number(), copied(call, Names.bytes(name)),
+                    copied(call, Names.bytes(descriptor)), resolution));
+            return Numbers.resolution(resolution);
+        }
+    }
+
+    /**
+     * Whether the class is accessible to the first one (JVMS SE 17 §5.4.4), as for new, checkcast and fields.
+     *
+     * <p>Refused as {@link Refusal.Plain#UNKNOWN_CLASS}, where one of the two was never defined or is retired.
+     */
+    public synchronized boolean classAccessible(ClassId from, ClassId type) {
+        MemorySegment open = at();
+        try (Arena call = Arena.ofConfined()) {
+            MemorySegment accessible = call.allocate(JAVA_INT);
+            Numbers.done(Native.classAccessible(open, from.number(), type.number(), accessible));
+            return accessible.get(JAVA_INT, 0) == 1;
+        }
     }
 
     /** The link that is installed at the site, if there is one. */

@@ -140,22 +140,6 @@ public final class Main {
         return sites;
     }
 
-    /** Installs a batch without the sites that have no link. */
-    private void install(List<SiteId> batch) {
-        List<SiteId> left = new ArrayList<>(batch);
-        while (!left.isEmpty()) {
-            try {
-                linker.install(left);
-                return;
-            } catch (RefusedException refused) {
-                if (!(refused.refusal() instanceof Refusal.Site(var fault, int place)) || fault != Refusal.SiteFault.NOT_READY) {
-                    throw refused;
-                }
-                left.remove(new SiteId(place));
-            }
-        }
-    }
-
     private static int form(Link link) {
         return switch (link) {
             case Link.Plain plain -> 0;
@@ -168,10 +152,11 @@ public final class Main {
 
     private void linkAll(List<Requested> sites) {
         for (int from = 0; from < sites.size(); from += BATCH) {
-            install(sites.subList(from, Math.min(from + BATCH, sites.size())).stream().map(Requested::id).toList());
-        }
-        for (Requested site : sites) {
-            count(linker.linkOf(site.id()).map(Main::form).orElse(4), site.instruction());
+            List<Requested> batch = sites.subList(from, Math.min(from + BATCH, sites.size()));
+            Map<SiteId, Link> links = linker.installReady(batch.stream().map(Requested::id).toList());
+            for (Requested site : batch) {
+                count(Optional.ofNullable(links.get(site.id())).map(Main::form).orElse(4), site.instruction());
+            }
         }
     }
 

@@ -19,15 +19,19 @@ final class Native {
     static final int STALE = 10;
     static final int TOO_SHORT = 36;
 
+    /** No link is of this kind: in an out place that is so, none was written. */
+    static final int UNWRITTEN = -1;
+
     /** The null reference, as a receiver. */
     static final int NULL = -1;
 
     /** The new number of what is gone. */
     static final int NO_NUMBER = -1;
 
-    /** How many numbers a linkd_told, a linkd_call_answer, a linkd_link, a linkd_link_row and a linkd_invocation are. */
-    static final int TOLD = 5;
+    /** How many numbers a linkd_told, a linkd_call_answer, a linkd_resolution, a linkd_link, a linkd_link_row and a linkd_invocation are. */
+    static final int TOLD = 6;
     static final int ANSWER = 3;
+    static final int RESOLUTION = 4;
     static final int MOST_ROWS = 8;
     static final int LINK = 2 + MOST_ROWS * 4;
     static final int LINK_ROW = 1 + LINK;
@@ -80,6 +84,13 @@ final class Native {
     private static final MethodHandle DROPPED = status("linkd_dropped", ADDRESS, JAVA_LONG, ADDRESS);
     private static final MethodHandle CALL = status("linkd_call", JAVA_INT, JAVA_INT, ADDRESS);
     private static final MethodHandle LINK_OF = status("linkd_link_of", JAVA_INT, ADDRESS);
+    private static final MethodHandle LINK_PLACE = status("linkd_link_place", JAVA_INT, JAVA_INT, JAVA_INT, ADDRESS, ADDRESS);
+    private static final MethodHandle INSTALL_READY = status("linkd_install_ready", ADDRESS, JAVA_LONG, ADDRESS, JAVA_LONG, ADDRESS);
+    private static final MethodHandle CHECK = status("linkd_check", JAVA_CHAR, ADDRESS, JAVA_LONG, ADDRESS);
+    private static final MethodHandle SELECT = status("linkd_select", JAVA_INT, JAVA_INT, JAVA_INT, ADDRESS);
+    private static final MethodHandle RESOLVE =
+            status("linkd_resolve", JAVA_INT, JAVA_INT, ADDRESS, JAVA_LONG, ADDRESS, JAVA_LONG, ADDRESS);
+    private static final MethodHandle CLASS_ACCESSIBLE = status("linkd_class_accessible", JAVA_INT, JAVA_INT, ADDRESS);
     private static final MethodHandle LOOKUP = status("linkd_lookup", JAVA_INT, ADDRESS, JAVA_LONG, ADDRESS);
     private static final MethodHandle CLASS_NAME = status("linkd_class_name", JAVA_INT, ADDRESS, JAVA_LONG, ADDRESS);
     private static final MethodHandle METHOD_NAME = status("linkd_method_name", JAVA_INT, JAVA_INT, ADDRESS, JAVA_LONG, ADDRESS);
@@ -358,6 +369,54 @@ final class Native {
     static int linkOf(MemorySegment at, int site, MemorySegment link) {
         try {
             return (int) LINK_OF.invokeExact(at, site, link);
+        } catch (Throwable fault) {
+            throw failed(fault);
+        }
+    }
+
+    static int linkPlace(MemorySegment at, int type, int method, int pc, MemorySegment link, MemorySegment told) {
+        try {
+            return (int) LINK_PLACE.invokeExact(at, type, method, pc, link, told);
+        } catch (Throwable fault) {
+            throw failed(fault);
+        }
+    }
+
+    static int installReady(MemorySegment at, MemorySegment sites, long count, MemorySegment links, MemorySegment told) {
+        try {
+            return (int) INSTALL_READY.invokeExact(at, sites, count, links, count, told);
+        } catch (Throwable fault) {
+            throw failed(fault);
+        }
+    }
+
+    static int check(MemorySegment at, char newest, MemorySegment bytes, MemorySegment told) {
+        try {
+            return (int) CHECK.invokeExact(at, newest, bytes, bytes.byteSize(), told);
+        } catch (Throwable fault) {
+            throw failed(fault);
+        }
+    }
+
+    static int select(MemorySegment at, int type, int method, int receiver, MemorySegment answer) {
+        try {
+            return (int) SELECT.invokeExact(at, type, method, receiver, answer);
+        } catch (Throwable fault) {
+            throw failed(fault);
+        }
+    }
+
+    static int resolve(MemorySegment at, int from, int named, MemorySegment name, MemorySegment type, MemorySegment resolution) {
+        try {
+            return (int) RESOLVE.invokeExact(at, from, named, name, name.byteSize(), type, type.byteSize(), resolution);
+        } catch (Throwable fault) {
+            throw failed(fault);
+        }
+    }
+
+    static int classAccessible(MemorySegment at, int from, int type, MemorySegment accessible) {
+        try {
+            return (int) CLASS_ACCESSIBLE.invokeExact(at, from, type, accessible);
         } catch (Throwable fault) {
             throw failed(fault);
         }

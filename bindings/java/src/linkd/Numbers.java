@@ -4,10 +4,13 @@ import static java.lang.foreign.ValueLayout.JAVA_INT;
 
 import java.lang.foreign.MemorySegment;
 import java.util.ArrayList;
+import java.util.Collections;
+import java.util.LinkedHashMap;
 import java.util.List;
+import java.util.Map;
 import java.util.Optional;
 
-/** Reads what the library has written: a linkd_told, a linkd_call_answer, a linkd_link; and writes links for it. */
+/** Reads what the library has written: a linkd_told, a linkd_call_answer, a linkd_resolution, a linkd_link; and writes links for it. */
 final class Numbers {
     private static final int MISS = 4;
 
@@ -137,6 +140,30 @@ final class Numbers {
         };
     }
 
+    /** A resolution. Its method is there but where none was found. */
+    static Resolution resolution(MemorySegment from) {
+        boolean isFound = at(from, 2) != Native.NO_NUMBER;
+        Optional<Method> found = isFound ? Optional.of(new Method(new ClassId(at(from, 2)), at(from, 3))) : Optional.empty();
+        return new Resolution(found, switch (at(from, 0)) {
+            case 0 -> new Resolution.Resolved();
+            case 1 -> new Resolution.Throws(Answer.Error.values()[at(from, 1) - 1]);
+            default -> new Resolution.Unlinked(Answer.Want.values()[at(from, 1) - 1]);
+        });
+    }
+
+    /** What a call that requests a place and installs its link has told. Throws what refuses the request, which has written no link. */
+    static Linked linked(int status, MemorySegment told, MemorySegment link) {
+        SiteId site = new SiteId(number(told));
+        if (status == Native.DONE) {
+            return new Linked.Installed(site, link(link).orElseThrow());
+        }
+        Refusal refusal = refusal(status, told);
+        if (at(link, 0) == Native.UNWRITTEN) {
+            throw new RefusedException(refusal);
+        }
+        return new Linked.Pending(site, refusal);
+    }
+
     private static Answer.Outcome rowOutcome(MemorySegment link, int row) {
         int from = 2 + 4 * row;
         return outcome(at(link, from + 1), at(link, from + 2), at(link, from + 3));
@@ -161,6 +188,16 @@ final class Numbers {
             case 6 -> Optional.of(new Link.Megamorphic());
             default -> Optional.empty();
         };
+    }
+
+    /** The links of the sites, each of them a linkd_link, but for those where none is installed. */
+    static Map<SiteId, Link> links(int[] sites, MemorySegment from) {
+        Map<SiteId, Link> all = new LinkedHashMap<>();
+        for (int i = 0; i < sites.length; i++) {
+            SiteId site = new SiteId(sites[i]);
+            link(from.asSlice((long) i * Native.LINK * Integer.BYTES)).ifPresent(link -> all.put(site, link));
+        }
+        return Collections.unmodifiableMap(all);
     }
 
     /** The invocations of a method, each of them a linkd_invocation. */

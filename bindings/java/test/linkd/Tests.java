@@ -4,6 +4,7 @@ import java.nio.ByteBuffer;
 import java.util.ArrayList;
 import java.util.Collections;
 import java.util.List;
+import java.util.Map;
 import java.util.Objects;
 import java.util.Optional;
 import java.util.concurrent.CompletableFuture;
@@ -19,6 +20,8 @@ import linkd.Refusal.SiteFault;
  */
 final class Tests {
     private static final int PUBLIC = 0x0001;
+    private static final int PRIVATE = 0x0002;
+    private static final int PROTECTED = 0x0004;
     private static final int PUBLIC_STATIC = 0x0009;
     private static final int INVOKEVIRTUAL = 182;
     private static final int INVOKESTATIC = 184;
@@ -188,6 +191,8 @@ final class Tests {
             same(Optional.of(OBJECT), linker.className(linker.defineUpTo(LoaderId.FIRST, Linker.NEWEST_KNOWN, file)));
             linker.defineUpTo(LoaderId.FIRST, 65, Written.fileOfVersion(65, "A", OBJECT));
             linker.defineUpTo(LoaderId.FIRST, 65, Written.file("B", "A"));
+            refused(BAD_VERSION, () -> linker.define(Written.fileOfVersion(Linker.NEWEST_OF_17 + 1, "D", "B")));
+            linker.define(Written.fileOfVersion(Linker.NEWEST_OF_17, "D", "B"));
             // The library takes the number without a sign.
             linker.defineUpTo(LoaderId.FIRST, 65_535, Written.fileOfVersion(65_535, "C", "B"));
         }
@@ -819,6 +824,324 @@ final class Tests {
         }
     }
 
+    private static Written.Method method(int flags, String name) {
+        return new Written.Method(flags, name, List.of());
+    }
+
+    private static byte[] withG(String name, Written.Method... methods) {
+        return Written.file(new Written.Parts(0x21, name, OBJECT, List.of("I"), null, List.of(methods)));
+    }
+
+    /**
+     * Classes of which no code calls a method. Object has h. Of A the methods are f, the static s, the private p, an initialization method and
+     * the protected r; B below it declares f, p and s, all public. The interface I has g, and C implements it.
+     */
+    private record Uncalled(Linker linker, ClassId object, ClassId a, ClassId b, ClassId i, ClassId c) implements AutoCloseable {
+        static Uncalled open() {
+            Linker linker = Linker.open(100);
+            ClassId object = linker.define(Written.file(OBJECT, null, method(PUBLIC, "h")));
+            ClassId a = linker.define(Written.file("A", OBJECT, method(PUBLIC, "f"), method(PUBLIC_STATIC, "s"), method(PRIVATE, "p"),
+                    method(PUBLIC, "<init>"), method(PROTECTED, "r")));
+            ClassId b = linker.define(Written.file("B", "A", method(PUBLIC, "f"), method(PUBLIC, "p"), method(PUBLIC, "s")));
+            ClassId i = linker.define(Written.file(new Written.Parts(0x0601, "I", OBJECT, List.of(), null, List.of(method(0x0401, "g")))));
+            return new Uncalled(linker, object, a, b, i, linker.define(withG("C", method(PUBLIC, "g"))));
+        }
+
+        /** A class of no package that only its package may access. */
+        ClassId hidden() {
+            return linker.define(Written.file(new Written.Parts(0x20, "Hidden", OBJECT, List.of(), null, List.of(method(PUBLIC, "f")))));
+        }
+
+        void resolves(ClassId from, ClassId named, String name, ClassId foundIn, int place, Resolution.Result wanted) {
+            same(new Resolution(Optional.of(new Method(foundIn, place)), wanted), linker.resolve(from, named, name, "()V"));
+        }
+
+        void findsNone(ClassId named, String name, String type) {
+            Resolution.Result wanted = new Resolution.Throws(Answer.Error.NO_SUCH_METHOD_ERROR);
+            same(new Resolution(Optional.empty(), wanted), linker.resolve(c, named, name, type));
+        }
+
+        @Override
+        public void close() {
+            linker.close();
+        }
+    }
+
+    private static Answer thrown(Answer.Error error) {
+        return new Answer.Throws(error);
+    }
+
+    private static void aMethodIsSelectedWithoutAnInvocation() throws Exception {
+        try (Uncalled world = Uncalled.open()) {
+            Linker linker = world.linker;
+            // 5.4.6: the method of the receiver's class that overrides, or the method itself.
+            same(runs(world.a), linker.select(world.a, 0, world.a));
+            same(runs(world.b), linker.select(world.a, 0, world.b));
+            same(runs(world.b), linker.select(world.b, 0, world.b));
+            // 6.5, invokevirtual: null.
+            same(thrown(Answer.Error.NULL_POINTER_EXCEPTION), linker.select(world.a, 0));
+            // A private method is the selected one, whatever is below it.
+            same(new Answer.Run(world.a, 2), linker.select(world.a, 2, world.b));
+            same(thrown(Answer.Error.NULL_POINTER_EXCEPTION), linker.select(world.a, 2));
+            // Nothing overrides an instance initialization method (2.9.1), and a static one has no receiver.
+            same(new Answer.Run(world.a, 3), linker.select(world.a, 3, world.b));
+            for (ClassId receiver : List.of(world.object, world.b, world.i)) {
+                same(new Answer.Run(world.a, 1), linker.select(world.a, 1, receiver));
+            }
+            same(new Answer.Run(world.a, 1), linker.select(world.a, 1));
+            // No A: what isn't below it, and classes of which there is no object.
+            ClassId bare = linker.define(Written.file(new Written.Parts(0x0421, "Bare", "A", List.of(), null, List.of())));
+            for (ClassId receiver : List.of(world.object, world.c, world.i, bare)) {
+                same(new Answer.BadReceiver(), linker.select(world.a, 0, receiver));
+            }
+            same(new Answer.BadReceiver(), linker.select(world.b, 0, world.a));
+            refused(Refusal.Plain.NO_SUCH_PLACE, () -> linker.select(world.a, 5, world.a));
+            refused(Refusal.Plain.NO_SUCH_PLACE, () -> linker.select(world.a, 65_536, world.a));
+            refused(Refusal.Plain.NO_SUCH_PLACE, () -> linker.select(new ClassId(99), 0, world.a));
+        }
+    }
+
+    private static void anInterfaceMethodIsSelectedWithoutAnInvocation() throws Exception {
+        try (Uncalled world = Uncalled.open()) {
+            Linker linker = world.linker;
+            same(runs(world.c), linker.select(world.i, 0, world.c));
+            same(new Answer.BadReceiver(), linker.select(world.i, 0, world.a));
+            same(thrown(Answer.Error.NULL_POINTER_EXCEPTION), linker.select(world.i, 0));
+            // 6.5, invokeinterface: none is selected, or one that is neither public nor private. A private one overrides nothing (5.4.5).
+            same(thrown(Answer.Error.ABSTRACT_METHOD_ERROR), linker.select(world.i, 0, linker.define(withG("Lacking"))));
+            ClassId hiding = linker.define(withG("Hiding", method(PRIVATE, "g")));
+            same(thrown(Answer.Error.ABSTRACT_METHOD_ERROR), linker.select(world.i, 0, hiding));
+            ClassId narrow = linker.define(withG("Narrow", method(0, "g")));
+            same(thrown(Answer.Error.ILLEGAL_ACCESS_ERROR), linker.select(world.i, 0, narrow));
+            // A method of the class that implements I is called as any other.
+            same(runs(narrow), linker.select(narrow, 0, narrow));
+
+            LoaderId other = linker.newLoader();
+            linker.delegate(other, "A", LoaderId.FIRST);
+            ClassId d = linker.define(other, withF("D", "A"));
+            same(runs(d), linker.select(world.a, 0, d));
+            linker.retire(other);
+            same(new Answer.BadReceiver(), linker.select(world.a, 0, d));
+            refused(Refusal.Plain.NO_SUCH_PLACE, () -> linker.select(d, 0, world.a));
+        }
+    }
+
+    private static void aReferenceIsResolvedWithoutAnInvocation() throws Exception {
+        try (Uncalled world = Uncalled.open()) {
+            Linker linker = world.linker;
+            Resolution.Result resolved = new Resolution.Resolved();
+            Resolution.Result illegal = new Resolution.Throws(Answer.Error.ILLEGAL_ACCESS_ERROR);
+            // 5.4.3.3: in the class, in a superclass, in a superinterface.
+            world.resolves(world.c, world.b, "f", world.b, 0, resolved);
+            world.resolves(world.c, world.b, "h", world.object, 0, resolved);
+            world.resolves(world.c, linker.define(withG("Lacking")), "g", world.i, 0, resolved);
+            world.resolves(world.c, world.a, "s", world.a, 1, resolved);
+            world.findsNone(world.a, "g", "()V");
+            world.findsNone(world.a, "f", "(I)V");
+            // 5.4.3.4: in the interface, and a public method of java/lang/Object.
+            world.resolves(world.a, world.i, "g", world.i, 0, resolved);
+            world.resolves(world.a, world.i, "h", world.object, 0, resolved);
+            world.findsNone(world.i, "f", "()V");
+            // 5.4.4: a private method, and a protected one, which a class below it in another package may name.
+            world.resolves(world.a, world.a, "p", world.a, 2, resolved);
+            world.resolves(world.c, world.a, "p", world.a, 2, illegal);
+            world.resolves(world.c, world.a, "r", world.a, 4, resolved);
+            ClassId below = linker.define(Written.file("q/Below", "A"));
+            ClassId beside = linker.define(Written.file("q/Beside", OBJECT));
+            world.resolves(below, below, "r", world.a, 4, resolved);
+            world.resolves(beside, world.a, "r", world.a, 4, illegal);
+            // The class that is named isn't accessible; the method would be.
+            ClassId hidden = world.hidden();
+            world.resolves(world.c, hidden, "f", hidden, 0, resolved);
+            world.resolves(beside, hidden, "f", hidden, 0, illegal);
+            // Those of a method handle are found as any.
+            byte[] file = Written.file("java/lang/invoke/MethodHandle", OBJECT, method(0x0191, "invoke"), method(PUBLIC, "type"));
+            ClassId handle = linker.define(file);
+            world.resolves(world.a, handle, "invoke", handle, 0, resolved);
+            world.resolves(world.a, handle, "type", handle, 1, resolved);
+            refused(Refusal.Plain.UNKNOWN_CLASS, () -> linker.resolve(new ClassId(99), world.a, "f", "()V"));
+            refused(Refusal.Plain.UNKNOWN_CLASS, () -> linker.resolve(world.a, new ClassId(99), "f", "()V"));
+        }
+    }
+
+    private static void aResolutionWaitsForANestHost() {
+        try (Uncalled world = Uncalled.open()) {
+            Linker linker = world.linker;
+            ClassId mate = linker.define(Written.file(new Written.Parts(0x21, "Mate", OBJECT, List.of(), "Host", List.of())));
+            world.resolves(mate, world.a, "p", world.a, 2, new Resolution.Unlinked(Answer.Want.CALLER_HOST));
+            world.resolves(mate, world.a, "f", world.a, 0, new Resolution.Resolved());
+            // Host doesn't list Mate, which is the host of its own nest then (5.4.4).
+            linker.define(Written.file("Host", OBJECT));
+            world.resolves(mate, world.a, "p", world.a, 2, new Resolution.Throws(Answer.Error.ILLEGAL_ACCESS_ERROR));
+        }
+    }
+
+    private static void aClassIsAccessibleInItsPackageOrEverywhere() throws Exception {
+        try (Uncalled world = Uncalled.open()) {
+            Linker linker = world.linker;
+            ClassId hidden = world.hidden();
+            ClassId beside = linker.define(Written.file("q/Beside", OBJECT));
+            same(true, linker.classAccessible(world.a, hidden));
+            same(true, linker.classAccessible(hidden, hidden));
+            same(false, linker.classAccessible(beside, hidden));
+            same(true, linker.classAccessible(beside, world.a));
+            same(true, linker.classAccessible(hidden, world.i));
+            // A class that another loader defines is in another run-time package, whatever its name is (5.3).
+            LoaderId other = linker.newLoader();
+            linker.delegate(other, OBJECT, LoaderId.FIRST);
+            ClassId d = linker.define(other, Written.file("D", OBJECT));
+            same(false, linker.classAccessible(d, hidden));
+            same(true, linker.classAccessible(d, world.a));
+            linker.retire(other);
+            refused(Refusal.Plain.UNKNOWN_CLASS, () -> linker.classAccessible(d, world.a));
+            refused(Refusal.Plain.UNKNOWN_CLASS, () -> linker.classAccessible(world.a, d));
+        }
+    }
+
+    private static void bytesAreCheckedAndNotDefined() throws Exception {
+        try (Linker linker = Linker.open(1)) {
+            int newest = Linker.NEWEST_KNOWN;
+            refused(new Refusal.NoClassFile(Refusal.ClassFault.TRUNCATED, 0, 0, 0), () -> linker.check(newest, new byte[0]));
+            refused(new Refusal.NoClassFile(Refusal.ClassFault.BAD_MAGIC, 0, 0, 0), () -> linker.check(newest, "no class file".getBytes()));
+            byte[] file = Written.fileOfVersion(65, "A", "Nowhere");
+            refused(BAD_VERSION, () -> linker.check(Linker.NEWEST_OF_17, file));
+            refused(Refusal.Plain.MALFORMED, () -> linker.check(-1, file));
+            refused(Refusal.Plain.MALFORMED, () -> linker.check(65_536, file));
+            // No parent is looked for, and no class is there then.
+            linker.check(65, file);
+            linker.check(65, file);
+            same(Optional.empty(), linker.lookup(LoaderId.FIRST, "A"));
+            same(new ClassId(0), linker.define(Written.file(OBJECT, null)));
+        }
+    }
+
+    private static void anInvocationIsLinkedByOneCall() throws Exception {
+        try (Linker linker = Linker.open(2)) {
+            linker.define(Written.file(OBJECT, null));
+            ClassId m = linker.define(caller());
+            // M calls A.f at pc 0, and A isn't there.
+            SiteId site = linker.link(m, 0, 0).site();
+            Refusal notReady = new Refusal.Site(SiteFault.NOT_READY, site.number());
+            same(new Linked.Pending(site, notReady), linker.link(m, 0, 0));
+            same(Optional.of("A"), linker.awaitedClass(site));
+            ClassId a = linker.define(withF("A", OBJECT));
+            Linked linked = new Linked.Installed(site, new Link.Direct(runs(a)));
+            same(linked, linker.link(m, 0, 0));
+            same(linked, linker.link(m, 0, 0));
+            same(Optional.of(new Link.Direct(runs(a))), linker.linkOf(site));
+            // A class below A that overrides f, and the link is made anew.
+            ClassId c = linker.define(withF("C", "A"));
+            same(List.of(site), linker.dropped());
+            List<Link.Row> rows = List.of(new Link.Row(a, runs(a)), new Link.Row(c, runs(c)));
+            same(new Linked.Installed(site, new Link.Table(false, rows)), linker.link(m, 0, 0));
+
+            // What refuses the request. Z has no f, so that each call throws NoSuchMethodError (5.4.3.3).
+            refused(new Refusal.NotLinkable(Refusal.Form.ARRAY_RECEIVER), () -> linker.link(m, 0, 6));
+            refused(Refusal.Plain.NO_SUCH_PLACE, () -> linker.link(m, 0, 1));
+            refused(Refusal.Plain.NO_SUCH_PLACE, () -> linker.link(m, 2, 0));
+            refused(Refusal.Plain.MALFORMED, () -> linker.link(m, 65_536, 0));
+            refused(Refusal.Plain.UNKNOWN_CLASS, () -> linker.link(new ClassId(99), 0, 0));
+            linker.define(Written.file("Z", OBJECT));
+            SiteId other = linker.link(m, 0, 3).site();
+            same(new Linked.Installed(other, new Link.Fault(Answer.Error.NO_SUCH_METHOD_ERROR)), linker.link(m, 0, 3));
+            Written.Call call = new Written.Call(INVOKESTATIC, "M", "n", "()V");
+            ClassId n = linker.define(Written.file("N", OBJECT, new Written.Method(PUBLIC_STATIC, "m", List.of(call))));
+            refused(Refusal.Plain.SITES_FULL, () -> linker.link(n, 0, 0));
+        }
+    }
+
+    private static void thoseOfSeveralSitesAreInstalledThatHaveALink() {
+        try (World world = World.open()) {
+            Linker linker = world.linker;
+            SiteId site = world.site;
+            ClassId n = linker.define(otherCaller());
+            // M calls A.f and Z.f, and Z isn't there. N calls M.n, which is static.
+            SiteId waits = linker.request(world.m, 0, 3);
+            SiteId plain = linker.request(n, 0, 0);
+            Link method = new Link.Plain(new Answer.Run(world.m, 1));
+            Map<SiteId, Link> links = linker.installReady(List.of(plain, waits, site));
+            same(Map.of(site, new Link.Direct(runs(world.a)), plain, method), links);
+            same(List.of(plain, site), List.copyOf(links.keySet()));
+            same(Optional.of(method), linker.linkOf(plain));
+            same(Optional.empty(), linker.linkOf(waits));
+            same(List.of(), linker.dropped());
+
+            // C overrides f, which drops one of them. Z has no f, so that each call throws NoSuchMethodError (5.4.3.3).
+            Link table = table(world, linker.define(withF("C", "A")));
+            same(List.of(site), linker.dropped());
+            same(Map.of(site, table, plain, method), linker.installReady(List.of(site, waits, plain)));
+            same(List.of(), linker.dropped());
+            linker.define(Written.file("Z", OBJECT));
+            Link fault = new Link.Fault(Answer.Error.NO_SUCH_METHOD_ERROR);
+            same(Map.of(site, table, waits, fault), linker.installReady(List.of(site, waits)));
+            same(Optional.of(fault), linker.linkOf(waits));
+            same(Optional.of(method), linker.linkOf(plain));
+        }
+    }
+
+    private static long serial(Linker linker) {
+        try (View view = linker.view()) {
+            return view.serial();
+        }
+    }
+
+    private static void sitesWithoutALinkArePassedOver() {
+        try (World world = World.open()) {
+            Linker linker = world.linker;
+            SiteId site = world.site;
+            Link table = table(world, linker.define(withF("C", "A")));
+            SiteId waits = linker.request(world.m, 0, 3);
+            // Another loader's class, which calls A.f, goes with its loader.
+            LoaderId other = linker.newLoader();
+            linker.delegate(other, OBJECT, LoaderId.FIRST);
+            linker.delegate(other, "A", LoaderId.FIRST);
+            Written.Method calls = new Written.Method(PUBLIC_STATIC, "d", List.of(call("A", "f", "()V")));
+            SiteId gone = linker.request(linker.define(other, Written.file("D", OBJECT, calls)), 0, 0);
+            same(Map.of(gone, table), linker.installReady(List.of(gone)));
+            linker.retire(other);
+            SiteId unknown = new SiteId(9);
+
+            linker.installReady(List.of(waits, site));
+            // A selection for each of A, B and C.
+            same(3L, linker.lastWork());
+            long serial = serial(linker);
+            same(Map.of(), linker.installReady(List.of()));
+            same(Map.of(), linker.installReady(List.of(unknown, waits, gone, waits, unknown)));
+            same(Map.of(), linker.installReady(Collections.nCopies(257, waits)));
+            // There was no event.
+            same(3L, linker.lastWork());
+            same(serial, serial(linker));
+            same(Map.of(site, table), linker.installReady(List.of(unknown, site, unknown)));
+            same(serial + 1, serial(linker));
+        }
+    }
+
+    private static void installsOfSitesThatHaveALinkAreRefusedByName() throws Exception {
+        try (Linker linker = Linker.open(258)) {
+            linker.define(Written.file(OBJECT, null));
+            ClassId m = linker.define(caller());
+            // N calls M.n 257 times, and then Z.n, and Z isn't there.
+            List<Written.Call> calls = new ArrayList<>(Collections.nCopies(257, new Written.Call(INVOKESTATIC, "M", "n", "()V")));
+            calls.add(new Written.Call(INVOKESTATIC, "Z", "n", "()V"));
+            ClassId n = linker.define(Written.file("N", OBJECT, new Written.Method(PUBLIC_STATIC, "x", calls)));
+            List<SiteId> sites = IntStream.range(0, 258).mapToObj(call -> linker.request(n, 0, 3 * call)).toList();
+            SiteId first = sites.get(0);
+            SiteId second = sites.get(1);
+            SiteId waits = sites.get(257);
+            refused(Refusal.Plain.BATCH_SIZE, () -> linker.installReady(sites));
+            refused(Refusal.Plain.BATCH_SIZE, () -> linker.installReady(Collections.nCopies(257, first)));
+            refused(new Refusal.Site(SiteFault.REPEATED, second.number()),
+                    () -> linker.installReady(List.of(waits, first, second, waits, second)));
+            sites.forEach(site -> same(Optional.empty(), linker.linkOf(site)));
+            Link plain = new Link.Plain(new Answer.Run(m, 1));
+            Map<SiteId, Link> links = linker.installReady(sites.subList(1, 258));
+            same(sites.subList(1, 257), List.copyOf(links.keySet()));
+            links.values().forEach(link -> same(plain, link));
+            same(Optional.empty(), linker.linkOf(first));
+            same(Optional.of(plain), linker.linkOf(second));
+        }
+    }
+
     private static void classesOfThisJdkAreDefined() throws Exception {
         byte[] file = ClassFiles.of(OBJECT).orElseThrow();
         // Magic number, minor version, major version (JVMS SE 25 §4.1).
@@ -858,6 +1181,12 @@ final class Tests {
         refused(Refusal.Plain.CLOSED, () -> linker.invocations(world.a, 0));
         refused(Refusal.Plain.CLOSED, linker::namedClass);
         refused(Refusal.Plain.CLOSED, () -> linker.awaitedClass(world.site));
+        refused(Refusal.Plain.CLOSED, () -> linker.select(world.a, 0));
+        refused(Refusal.Plain.CLOSED, () -> linker.resolve(world.a, world.a, "f", "()V"));
+        refused(Refusal.Plain.CLOSED, () -> linker.classAccessible(world.a, world.a));
+        refused(Refusal.Plain.CLOSED, () -> linker.check(Linker.NEWEST_OF_17, new byte[0]));
+        refused(Refusal.Plain.CLOSED, () -> linker.installReady(List.of()));
+        refused(Refusal.Plain.CLOSED, () -> linker.link(world.m, 0, 0));
         refused(Refusal.Plain.CLOSED, linker::lastWork);
         refused(Refusal.Plain.CLOSED, linker::catchUp);
         refused(Refusal.Plain.CLOSED, () -> linker.renew(1, Released.NOTHING));
@@ -911,6 +1240,16 @@ final class Tests {
                 & passes("what is missing has a name", Tests::whatIsMissingHasAName)
                 & passes("the last event has its work", Tests::theLastEventHasItsWork)
                 & passes("a linker that catches up goes on as before", Tests::aLinkerThatCatchesUpGoesOnAsBefore)
+                & passes("a method is selected without an invocation", Tests::aMethodIsSelectedWithoutAnInvocation)
+                & passes("an interface method is selected without an invocation", Tests::anInterfaceMethodIsSelectedWithoutAnInvocation)
+                & passes("a reference is resolved without an invocation", Tests::aReferenceIsResolvedWithoutAnInvocation)
+                & passes("a resolution waits for a nest host", Tests::aResolutionWaitsForANestHost)
+                & passes("a class is accessible in its package or everywhere", Tests::aClassIsAccessibleInItsPackageOrEverywhere)
+                & passes("bytes are checked and not defined", Tests::bytesAreCheckedAndNotDefined)
+                & passes("an invocation is linked by one call", Tests::anInvocationIsLinkedByOneCall)
+                & passes("those of several sites are installed that have a link", Tests::thoseOfSeveralSitesAreInstalledThatHaveALink)
+                & passes("sites without a link are passed over", Tests::sitesWithoutALinkArePassedOver)
+                & passes("installs of sites that have a link are refused by name", Tests::installsOfSitesThatHaveALinkAreRefusedByName)
                 & passes("classes of this JDK are defined", Tests::classesOfThisJdkAreDefined)
                 & passes("a closed linker refuses all", Tests::aClosedLinkerRefusesAll);
         System.exit(all ? 0 : 1);

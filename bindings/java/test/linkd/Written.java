@@ -16,7 +16,9 @@ final class Written {
     record Call(int opcode, String of, String name, String type) {
     }
 
-    /** A method without parameters and result. */
+    private static final int ABSTRACT = 0x0400;
+
+    /** A method without parameters and result. An abstract one has no code. */
     record Method(int flags, String name, List<Call> calls) {
     }
 
@@ -45,8 +47,22 @@ final class Written {
         return pair(10, of, pair(12, utf8(call.name()), utf8(call.type())));
     }
 
-    /** Each call takes three bytes; behind them is a return. */
+    /** A class or an interface by its parts. The superclass and the nest's host may be null. */
+    record Parts(int flags, String name, String parent, List<String> interfaces, String host, List<Method> methods) {
+    }
+
     private void write(DataOutputStream to, Method method) throws IOException {
+        boolean hasCode = (method.flags() & ABSTRACT) == 0;
+        for (int number : new int[] {method.flags(), utf8(method.name()), utf8("()V"), hasCode ? 1 : 0}) {
+            to.writeShort(number);
+        }
+        if (hasCode) {
+            writeCode(to, method);
+        }
+    }
+
+    /** Each call takes three bytes; behind them is a return. */
+    private void writeCode(DataOutputStream to, Method method) throws IOException {
         ByteArrayOutputStream code = new ByteArrayOutputStream();
         DataOutputStream at = new DataOutputStream(code);
         for (Call call : method.calls()) {
@@ -54,9 +70,7 @@ final class Written {
             at.writeShort(method(call));
         }
         at.writeByte(0xb1);
-        for (int number : new int[] {method.flags(), utf8(method.name()), utf8("()V"), 1, utf8("Code")}) {
-            to.writeShort(number);
-        }
+        to.writeShort(utf8("Code"));
         to.writeInt(12 + code.size());
         to.writeInt(0);
         to.writeInt(code.size());
@@ -64,12 +78,26 @@ final class Written {
         to.writeInt(0);
     }
 
-    private byte[] file(int major, String name, String parent, List<Method> methods) throws IOException {
-        int self = type(name);
-        int above = parent == null ? 0 : type(parent);
+    private byte[] file(int major, Parts parts) throws IOException {
         ByteArrayOutputStream members = new ByteArrayOutputStream();
-        for (Method method : methods) {
-            write(new DataOutputStream(members), method);
+        DataOutputStream rest = new DataOutputStream(members);
+        for (int number : new int[] {parts.flags(), type(parts.name()), parts.parent() == null ? 0 : type(parts.parent())}) {
+            rest.writeShort(number);
+        }
+        rest.writeShort(parts.interfaces().size());
+        for (String name : parts.interfaces()) {
+            rest.writeShort(type(name));
+        }
+        rest.writeShort(0);
+        rest.writeShort(parts.methods().size());
+        for (Method method : parts.methods()) {
+            write(rest, method);
+        }
+        rest.writeShort(parts.host() == null ? 0 : 1);
+        if (parts.host() != null) {
+            rest.writeShort(utf8("NestHost"));
+            rest.writeInt(2);
+            rest.writeShort(type(parts.host()));
         }
         ByteArrayOutputStream bytes = new ByteArrayOutputStream();
         DataOutputStream to = new DataOutputStream(bytes);
@@ -78,23 +106,28 @@ final class Written {
         to.writeShort(major);
         to.writeShort(count + 1);
         entries.writeTo(to);
-        for (int number : new int[] {0x21, self, above, 0, 0, methods.size()}) {
-            to.writeShort(number);
-        }
         members.writeTo(to);
-        to.writeShort(0);
         return bytes.toByteArray();
     }
 
     /** A public class, in a file of Java 17; java/lang/Object has no superclass, which is null. */
     static byte[] file(String name, String parent, Method... methods) {
-        return fileOfVersion(61, name, parent, methods);
+        return fileOfVersion(Linker.NEWEST_OF_17, name, parent, methods);
     }
 
     /** The same in a file of this major version. */
     static byte[] fileOfVersion(int major, String name, String parent, Method... methods) {
+        return fileOfVersion(major, new Parts(0x21, name, parent, List.of(), null, List.of(methods)));
+    }
+
+    /** A file of Java 17. */
+    static byte[] file(Parts parts) {
+        return fileOfVersion(Linker.NEWEST_OF_17, parts);
+    }
+
+    private static byte[] fileOfVersion(int major, Parts parts) {
         try {
-            return new Written().file(major, name, parent, List.of(methods));
+            return new Written().file(major, parts);
         } catch (IOException fault) {
             throw new UncheckedIOException(fault);
         }

@@ -1,9 +1,11 @@
 //! Class files as small as can be (JVMS SE 17 chapter 4), written from their parts.
 
+use linkd::NEWEST_OF_17;
+
 /// An invocation: its opcode, and the class, the name and the type of the method.
 pub type Call = (u8, &'static str, &'static str, &'static str);
 
-/// A method without parameters and result: its flags, its name, and what it calls.
+/// A method without parameters and result: its flags, its name, and what it calls. An abstract one has no code.
 pub type Method = (u16, &'static str, Vec<Call>);
 
 #[derive(Default)]
@@ -55,13 +57,20 @@ fn code(pool: &mut Pool, calls: &[Call]) -> Vec<u8> {
     code
 }
 
+const ABSTRACT: u16 = 0x0400;
+
 fn method(pool: &mut Pool, (flags, name, calls): &Method) -> Vec<u8> {
-    let code = code(pool, calls);
-    let (name, descriptor, attribute) = (pool.utf8(name), pool.utf8("()V"), pool.utf8("Code"));
+    let (name, descriptor) = (pool.utf8(name), pool.utf8("()V"));
+    let has_code = flags & ABSTRACT == 0;
     let mut bytes = Vec::new();
-    for number in [*flags, name, descriptor, 1, attribute] {
+    for number in [*flags, name, descriptor, has_code.into()] {
         bytes.extend_from_slice(&number.to_be_bytes());
     }
+    if !has_code {
+        return bytes;
+    }
+    let code = code(pool, calls);
+    bytes.extend_from_slice(&pool.utf8("Code").to_be_bytes());
     bytes.extend_from_slice(&(12 + code.len() as u32).to_be_bytes());
     bytes.extend_from_slice(&[0, 0, 0, 0]);
     bytes.extend_from_slice(&(code.len() as u32).to_be_bytes());
@@ -72,23 +81,55 @@ fn method(pool: &mut Pool, (flags, name, calls): &Method) -> Vec<u8> {
 
 /// A public class, in a file of Java 17; java/lang/Object has no superclass.
 pub fn class(name: &str, superclass: Option<&str>, methods: &[Method]) -> Vec<u8> {
-    class_of_version(61, name, superclass, methods)
+    class_of_version(NEWEST_OF_17, name, superclass, methods)
 }
 
 /// The same in a file of this major version.
 pub fn class_of_version(major: u16, name: &str, superclass: Option<&str>, methods: &[Method]) -> Vec<u8> {
-    let mut pool = Pool::default();
-    let this = pool.class(name);
-    let parent = superclass.map_or(0, |name| pool.class(name));
-    let written: Vec<Vec<u8>> = methods.iter().map(|it| method(&mut pool, it)).collect();
-    let mut bytes = vec![0xca, 0xfe, 0xba, 0xbe, 0, 0];
-    bytes.extend_from_slice(&major.to_be_bytes());
-    bytes.extend_from_slice(&(pool.count + 1).to_be_bytes());
-    bytes.extend_from_slice(&pool.bytes);
-    for number in [0x21, this, parent, 0, 0, methods.len() as u16] {
-        bytes.extend_from_slice(&number.to_be_bytes());
+    Class { major, name, superclass, methods, ..Class::default() }.bytes()
+}
+
+/// A class or an interface by its parts.
+pub struct Class<'a> {
+    pub major: u16,
+    pub flags: u16,
+    pub name: &'a str,
+    pub superclass: Option<&'a str>,
+    pub interfaces: &'a [&'a str],
+    pub methods: &'a [Method],
+    pub nest_host: Option<&'a str>,
+}
+
+impl Default for Class<'_> {
+    /// A public class below java/lang/Object, in a file of Java 17.
+    fn default() -> Self {
+        let superclass = Some("java/lang/Object");
+        Class { major: NEWEST_OF_17, flags: 0x21, name: "", superclass, interfaces: &[], methods: &[], nest_host: None }
     }
-    bytes.extend(written.concat());
-    bytes.extend_from_slice(&[0, 0]);
-    bytes
+}
+
+impl Class<'_> {
+    pub fn bytes(&self) -> Vec<u8> {
+        let mut pool = Pool::default();
+        let this = pool.class(self.name);
+        let parent = self.superclass.map_or(0, |name| pool.class(name));
+        let interfaces: Vec<u16> = self.interfaces.iter().map(|name| pool.class(name)).collect();
+        let methods: Vec<Vec<u8>> = self.methods.iter().map(|it| method(&mut pool, it)).collect();
+        let nest_host = self.nest_host.map(|name| (pool.utf8("NestHost"), pool.class(name)));
+        let mut bytes = vec![0xca, 0xfe, 0xba, 0xbe, 0, 0];
+        bytes.extend_from_slice(&self.major.to_be_bytes());
+        bytes.extend_from_slice(&(pool.count + 1).to_be_bytes());
+        bytes.extend_from_slice(&pool.bytes);
+        let mut put = |number: u16| bytes.extend_from_slice(&number.to_be_bytes());
+        [self.flags, this, parent, interfaces.len() as u16].into_iter().for_each(&mut put);
+        interfaces.into_iter().for_each(&mut put);
+        [0, methods.len() as u16].into_iter().for_each(&mut put);
+        bytes.extend(methods.concat());
+        let mut put = |number: u16| bytes.extend_from_slice(&number.to_be_bytes());
+        put(nest_host.is_some().into());
+        if let Some((attribute, host)) = nest_host {
+            [attribute, 0, 2, host].into_iter().for_each(put);
+        }
+        bytes
+    }
 }

@@ -1,0 +1,5 @@
+class Caller {
+    static String call(Animal animal) {
+        return animal.name();
+    }
+}
