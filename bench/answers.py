@@ -2,6 +2,7 @@
 """Compares what `linkd` answers with the rows of rows/, whose forms docs/ROWS.md has ("Sessions", "Reports").
 
     bench/answers.py [--quiet] [--rows FOLDER] PROGRAM..     each PROGRAM is a built linkd; FOLDER stands for rows/
+    bench/answers.py --only FILE[:NAME] PROGRAM              one file of sessions or of a report's words, or one script by its name
 
 Each script is answered by a process of its own, which has to end with status 0 and with nothing on the standard error. Each row that
 differs is printed, with its place, what must come and what came, and so is a line that may not stand where it does. A script without rows,
@@ -67,8 +68,8 @@ class Row:
 class Script:
     """Lines that a process answers, one after another."""
 
-    def __init__(self, number, mode):
-        self.number, self.mode, self.rows = number, mode, []
+    def __init__(self, number, mode, name):
+        self.number, self.mode, self.name, self.rows = number, mode, name, []
 
     def takes_answer(self, number, answer):
         """Takes the answer to the last line, or the line that a farm writes behind all answers."""
@@ -89,8 +90,8 @@ class Reader:
 
     def takes(self, number, line):
         """Takes the next line of the file, and tells whether it may stand there."""
-        if begun := re.fullmatch(f"= ({'|'.join(MODES)}): .*", line):
-            self.scripts.append(Script(number, begun[1]))
+        if begun := re.fullmatch(f"= ({'|'.join(MODES)}): (.*)", line):
+            self.scripts.append(Script(number, *begun.groups()))
             return True
         if line.startswith("$ "):
             return self.takes_definition(line[2:])
@@ -140,15 +141,16 @@ def answer(program, file, script, tally):
             tally.tell(f"{place}: {' '.join(words)} ended with status {status} and {errors}")
 
 
-def answer_file(program, file, tally):
-    """Compares what the scripts of a file are answered."""
+def answer_file(program, file, tally, name=None):
+    """Compares what the scripts of a file are answered, or what the one of this name is."""
     reader = Reader()
     for number, line in enumerate(file.read_bytes().decode().split("\n"), 1):
         if not reader.takes(number, line):
             tally.tell(f"{file}:{number}: not a line of a script")
-    if not reader.scripts:
-        tally.tell(f"{file}: no script")
-    for script in reader.scripts:
+    scripts = [script for script in reader.scripts if name in (None, script.name)]
+    if not scripts:
+        tally.tell(f"{file}: no script" + (f" named {name}" if name else ""))
+    for script in scripts:
         answer(program, file, script, tally)
 
 
@@ -183,15 +185,31 @@ def files_of(rows):
     sessions, reports = sorted((rows / "sessions").glob("*.txt")), sorted((rows / "reports").glob("*.words"))
     known = {rows / "sessions", rows / "reports", rows / "reports/classes", rows / "reports/sources", *sessions, *reports}
     known |= {file.with_suffix(part) for file in reports for part in (".stdout", ".stderr", ".status")}
-    return sessions, reports, sorted({*rows.iterdir(), *(rows / "sessions").iterdir(), *(rows / "reports").iterdir()} - known)
+    folders = [folder for folder in (rows, rows / "sessions", rows / "reports") if folder.is_dir()]
+    return sessions, reports, sorted({file for folder in folders for file in folder.iterdir()} - known)
+
+
+def answer_only(program, only):
+    """Compares one file, or one script of it, and tells how much is wrong."""
+    file, gap, name = only.partition(":")
+    file, tally = pathlib.Path(file), Tally()
+    if file.suffix == ".words":
+        report(program.resolve(), file, tally)
+    else:
+        answer_file(program.resolve(), file, tally, name if gap else None)
+    print(f"{program}: {tally.rows} rows, {tally.wrong} differ")
+    return 1 if tally.wrong else 0
 
 
 def main():
     read = argparse.ArgumentParser(usage=__doc__)
     read.add_argument("--quiet", action="store_true")
     read.add_argument("--rows", type=pathlib.Path, default=pathlib.Path(os.path.relpath(TOP / "rows")))
+    read.add_argument("--only")
     read.add_argument("programs", nargs="+", type=pathlib.Path)
     said = read.parse_args()
+    if said.only:
+        return max(answer_only(program, said.only) for program in said.programs)
     sessions, reports, others = files_of(said.rows)
     wrong = 0
     for program in said.programs:
