@@ -4,7 +4,7 @@
     bench/modules.py FOLDER [COUNT]
 
 FOLDER is what `rattle check --incremental FOLDER` wrote, which was empty before and ended with all functions checked (docs/PROVING.md,
-"The gate and single checks"). Each function has several modules: `Lts` is its body step by step, in which all that an exit lets go is
+"What is dear"). Each function has several modules: `Lts` is its body step by step, in which all that an exit lets go is
 taken apart; `Proof` its goals, with its answers; `Tie` the way from one to the other. What has another name is a definition or a file of
 lemmas. Prints the seconds of each kind and those of the COUNT dearest modules (30), by the clock: each module counts from the one
 that was written before it, so with checks beside it all are longer.

@@ -1,9 +1,10 @@
 #!/usr/bin/env python3
 """Holds the pages to the sources. Of docs/PROMISES.md each call is a public function of the file that it leads to, with a clause of each
-name that stands behind it in brackets, and so is each of README.md's promises; each crate and script is there; docs/DEFINITIONS.md
-names each file of definitions, and as the headline's reading list exactly what its file reaches by its imports, of which README.md says how
-much it is; docs/CRATES.md names each crate below those that it uses; each link of a page leads to a file; and the newest
-known version of class files and the version of the header are the same wherever they have to be written again.
+name that stands after it in brackets, and so is each of README.md's promises; each crate and script is there, which docs/TESTS.md names, too, and
+bench/README.md names each script that is run by itself; docs/DEFINITIONS.md names each file of definitions, and as the headline's reading list
+exactly what its file reaches by its imports, of which README.md says how much it is; docs/CRATES.md names each crate below those that it uses, and
+leads for each name to the file that declares it; each link of a page leads to a file, and to a heading if it names one; and the newest
+versions of class files and the version of the header are the same wherever they have to be written again.
 
     bench/promises.py     at the top of the repository; prints what isn't so, and ends with status 0 where all is
 """
@@ -20,6 +21,13 @@ NEWEST = {
     "bindings/java/src/linkd/Linker.java": r"int NEWEST_KNOWN = (\d+);",
     "tools/classes.py": r"\nNEWEST_KNOWN = (\d+)\n",
 }
+# The same of the newest version of SE 17.
+NEWEST_OF_17 = {
+    "crates/jl_classfile/src/version.rt": r"pub const NEWEST_OF_17: u16 = (\d+);",
+    "include/linkd.h": r"#define LINKD_NEWEST_OF_17 (\d+)\n",
+    "bindings/rust/src/lib.rs": r"pub const NEWEST_OF_17: u16 = (\d+);",
+    "bindings/java/src/linkd/Linker.java": r"int NEWEST_OF_17 = (\d+);",
+}
 # The same of the version of the header.
 HEADER = {
     "include/linkd.h": r"#define LINKD_VERSION (\d+)\n",
@@ -32,7 +40,7 @@ HEADER = {
 def clauses():
     """The names of the clauses of each public function, by its file and its name with its type."""
     found = {}
-    for file in sorted(TOP.glob("crates/*/src/*.rt")):
+    for file in sorted(TOP.glob("crates/*/src/**/*.rt")):
         owner, named = None, None
         for line in file.read_text().split("\n"):
             if line.startswith("impl"):
@@ -109,6 +117,18 @@ def crates():
     ]
 
 
+def pointed():
+    """The names for which docs/CRATES.md leads to a source that doesn't declare them."""
+    page, wrong = TOP / "docs/CRATES.md", []
+    for name, path in re.findall(r"\[`([\w:]+)`\]\(([^)]*\.rt)\)", page.read_text()):
+        file = page.parent / path
+        text = file.read_text() if file.is_file() else ""
+        for word in name.split("::"):
+            if not re.search(rf"^ *(pub(\(crate\))? )?(fn|struct|enum|trait|impl)\b[^{{(]*\b{word}\b|^    {word}\b[,({{ ]", text, re.M):
+                wrong.append(f"{page}: {path} declares no {word}")
+    return wrong
+
+
 def differing(what, places):
     """The places that have another version than the first, or none."""
     said = {path: re.findall(pattern, (TOP / path).read_text()) for path, pattern in places.items()}
@@ -135,22 +155,52 @@ def promised(page, rows, found, are_named):
     return wrong
 
 
+def absent(page):
+    """The crates of rows, and the files of bench/, crates/ and rows/, that the page names and that aren't there."""
+    wrong = [f"no crate {name}" for name in set(re.findall(r"`((?:rows|trial)_\w+)`", page)) if not (TOP / "crates" / name).is_dir()]
+    names = set(re.findall(r"`((?:bench|crates|rows)/[\w./]+)`", page)) | set(re.findall(r"\bbench/\w+\.(?:sh|py)\b", page))
+    return wrong + [f"no {name}" for name in names if not (TOP / name).exists()]
+
+
+def scripts():
+    """The scripts that bench/README.md doesn't name in a table, and those that it names and that aren't there."""
+    rows = "\n".join(re.findall(r"^\| `.*\|$", (TOP / "bench/README.md").read_text().split("\n## What figures mean")[0], re.M))
+    named = set(re.findall(r"`(\w+\.(?:sh|py))`", rows))
+    there = {path.name: path.read_text().startswith("#!") for path in (TOP / "bench").iterdir() if path.suffix in (".sh", ".py")}
+    unnamed = [name for name, is_run in sorted(there.items()) if is_run and name not in named]
+    return [f"bench/README.md doesn't name {name}" for name in unnamed] + [f"no bench/{name}" for name in sorted(named - there.keys())]
+
+
+def headings(file):
+    """What a link may name of a page after #."""
+    titles = re.findall(r"^#+ (.*)$", file.read_text(), re.M)
+    return {re.sub(r"[^\w -]", "", re.sub(r"\[(.*?)\]\(.*?\)", r"\1", title).lower()).replace(" ", "-") for title in titles}
+
+
+def broken(file):
+    """The links of the page that lead nowhere."""
+    wrong = []
+    for link, heading in re.findall(r"\]\(([^)#\s]*)(?:#([^)\s]*))?\)", file.read_text()):
+        if "://" in link:
+            continue
+        to = file.parent / link if link else file
+        if not to.exists():
+            wrong.append(f"{file}: no {link}")
+        elif heading and to.suffix == ".md" and heading not in headings(to):
+            wrong.append(f"{file}: {link} has no heading {heading}")
+    return wrong
+
+
 def main():
     page, found = (TOP / "docs/PROMISES.md").read_text(), clauses()
-    wrong = definitions() + headline() + crates() + differing("the newest known version", NEWEST) + differing("the version of the header", HEADER)
+    wrong = definitions() + headline() + crates() + pointed()
+    wrong += differing("the newest known version", NEWEST) + differing("the newest version of 17", NEWEST_OF_17) + differing("the version of the header", HEADER)
     wrong += promised(TOP / "docs/PROMISES.md", page.split("## What no clause says")[0], found, True)
     first = (TOP / "README.md").read_text().split("## What is proved")[1].split("\n## ")[0]
     wrong += promised(TOP / "README.md", first, found, False)
-    for name in set(re.findall(r"`((?:rows|trial)_\w+)`", page)):
-        if not (TOP / "crates" / name).is_dir():
-            wrong.append(f"no crate {name}")
-    for name in set(re.findall(r"`((?:bench|crates|rows)/[\w./]+)`", page)):
-        if not (TOP / name).exists():
-            wrong.append(f"no {name}")
-    for file in [TOP / "README.md", *TOP.glob("docs/*.md"), TOP / "bench/README.md"]:
-        for link in re.findall(r"\]\(([^)#\s]+)(?:#[^)]*)?\)", file.read_text()):
-            if "://" not in link and not (file.parent / link).exists():
-                wrong.append(f"{file}: no {link}")
+    wrong += absent(page) + absent((TOP / "docs/TESTS.md").read_text()) + scripts()
+    for file in [TOP / "README.md", TOP / "CONTRIBUTING.md", *TOP.glob("docs/*.md"), TOP / "bench/README.md"]:
+        wrong += broken(file)
     print("\n".join(wrong) if wrong else "each promise names its clauses, and each file of definitions is named")
     return 1 if wrong else 0
 

@@ -2,7 +2,8 @@
 """Counts the rows, by crate and by kind.
 
     bench/rows.py [--since REVISION]     prints the sum of each kind and its crates; with a revision, what there was then, too
-    bench/rows.py --held                 whether docs/ROWS.md has these very lines; in the gate, so that no row goes unseen
+    bench/rows.py --held                 whether bench/rows.txt has these very lines and no others; in the gate, so that no row goes unseen
+    bench/rows.py > bench/rows.txt       writes them
 
 The kinds: `text`, commands in data/ of crates of rows, and lines in rows/, each with its answer, and lines of reports there; `tables`,
 elements of constant arrays in tests, which one assertion goes over; `asserts`, assertions of tests; `theorems`, statements of a crate's
@@ -79,7 +80,7 @@ def at_revision(revision):
 
 
 def lines_of(now, before):
-    """The lines that tell them, a kind after the other: its sum, and behind it the crates that have some."""
+    """The lines that tell them, a kind after the other: its sum, and after it the crates that have some."""
     lines = []
     for kind in KINDS:
         told = []
@@ -99,14 +100,13 @@ def main():
     said = read.parse_args()
     lines = lines_of(counts(TOP), at_revision(said.since) if said.since else {})
     if said.held:
-        section = (TOP / "docs/ROWS.md").read_text().split("## How many\n")[-1].split("\n## ")[0].split("\n")
-        page = [line for line in section if line.startswith(("- ", "  "))]
+        page = (TOP / "bench/rows.txt").read_text().splitlines()
         for line in page:
             if line not in lines:
-                print(f"docs/ROWS.md has a count of rows that isn't so: {line}", file=sys.stderr)
+                print(f"bench/rows.txt has a count of rows that isn't so: {line}", file=sys.stderr)
         for line in lines:
             if line not in page:
-                print(f"docs/ROWS.md hasn't this count of rows: {line}", file=sys.stderr)
+                print(f"bench/rows.txt hasn't this count of rows: {line}", file=sys.stderr)
         return 0 if page == lines else 1
     print("\n".join(lines))
     return 0
