@@ -7,13 +7,14 @@
 
 LINKD and BENCH of the environment are the built programs (else crates/linkd/out/linkd and crates/bench/out/bench), and LINKD_ARCHIVE the
 library for C, as in bench/embed.sh. A line of runs.txt is a name, a date, and the digest of the sources: of the files that git keeps below
-the paths of the test. The status is 0 unless a test that was run has failed.
+the paths of the test, without the proofs and wrong bodies of crates. The status is 0 unless a test that was run has failed.
 """
 import argparse
 import datetime
 import hashlib
 import os
 import pathlib
+import re
 import subprocess
 import sys
 
@@ -27,7 +28,6 @@ TESTS = {
     "agent": (["bench/agent.sh"], ["bench/agent.sh", "examples/agent", *HOST]),
     "beside": (["bench/beside.py"], ["bench/beside.py", "crates/jl_core", "crates/jl_renewal"]),
     "drawn": (["bench/drawn.py", LINKD], ["bench/drawn.py", "bench/drawn_world.py", "crates/jl_classfile", "crates/jl_core", "crates/jl_json"]),
-    "edits": (["bench/try_edits.sh"], ["crates"]),
     "embed": (["bench/embed.sh"], ["bench/embed.sh", "bench/statuses.c", "bindings/rust", "examples/host", "tools", *HOST]),
     "growths": (["bench/growths.sh", BENCH, LINKD], ["bench/growths.sh", "bench/growths.py", "crates/jl_core", "crates/jl_server"]),
     "hostile": (["bench/hostile.py", "--all", LINKD], ["bench/hostile.py", "bench/hostile_reader.py", "crates/jl_pool", "crates/jl_code", "crates/jl_classfile"]),
@@ -46,6 +46,8 @@ def digest(paths):
     listed = subprocess.run(["git", "ls-files", "-z", *paths], cwd=TOP, check=True, capture_output=True).stdout.split(b"\0")
     found = hashlib.sha256()
     for name in sorted(filter(None, listed)):
+        if re.search(rb"^crates/\w+/(proofs|edits|must-fail)/", name):
+            continue
         file = TOP / name.decode()
         found.update(name + b"\0" + (file.read_bytes() if file.is_file() else b"") + b"\0")
     return found.hexdigest()[:16]
