@@ -4,7 +4,7 @@
  *                                1,024 sites beside each other, and spread over all. The array is looked up within the program, and, as a
  *                                library's call would be, behind a call (bench/look_up.c)
  *     seats memos [CALLS]        the same, of calls at megamorphic links
- *     seats refresh [EVENTS [ROOM]]     microseconds of a refresh behind one change, of EVENTS (500), of a linker opened for ROOM (65,536) sites
+ *     seats refresh [EVENTS [ROOM]]     microseconds of a refresh after one change, of EVENTS (500), of a linker opened for ROOM (65,536) sites
  *
  * The linker has 65,536 sites, all requested and installed: 256 classes M0, M1, .. call A.f, which B overrides, and C.f, which D leaves as it
  * is, 128 times each; one site less is an invokedynamic's. For memos they call E.f in the place of C.f, and sixteen classes below E override it. The
