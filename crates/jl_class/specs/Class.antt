@@ -9,7 +9,8 @@ pub record Method : Type 0 where
   pub ty : List ℕ
   pub sites : List Site
 
--- the nest host and the nest members as the file names them (JVMS 4.7.28, 4.7.29); lists in the file's order
+-- A class or an interface. Its nest host and nest members are those that the file names (JVMS 4.7.28, 4.7.29). Lists are in the file's
+-- order.
 pub record ClassFile : Type 0 where
   pub name : List ℕ
   pub flags : ℕ

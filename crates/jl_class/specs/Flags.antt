@@ -33,6 +33,6 @@ MODULE = 0x8000
 abbrev pub object : List ℕ
 object = codes "java/lang/Object"
 
--- these are no interface's flags, or the superclass is java/lang/Object
+-- if these are an interface's flags, the superclass is java/lang/Object
 abbrev pub extends_object : ℕ → Option (List ℕ) → Bool
 extends_object flags superclass = not (has_flag flags INTERFACE) || option_map_or (λ text. bytes_eq text object) superclass false

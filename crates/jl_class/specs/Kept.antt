@@ -1,4 +1,5 @@
--- What a class file keeps: invocations by the number of what they name, and methods by the numbers of their texts, beside the constant pool.
+-- What a class file keeps besides the constant pool: invocations, by the number of what they name, and methods, by the numbers of their
+-- texts.
 use Rattle.std.specs.Prelude.{◌≡◌, ℕ, Bool, true, ◌&&◌, nat_le, List, [], length, map, slice_range, is_some}
 use Rattle.std.specs.Option.{unwrap_or}
 use Rattle.std.specs.List.{list_all}
@@ -17,7 +18,7 @@ use Rattle.jl_class.specs.Operands.{operand_at}
 abbrev pub is_named : Pool → KeptSite → Bool
 is_named pool s = is_some (operand_at pool s.number)
 
--- what stands for an operand where there is none
+-- what stands for an operand if there is none
 abbrev pub nothing : Operand (List ℕ)
 nothing = CallSite (record { bootstrap = 0; name = []; ty = [] })
 
@@ -27,7 +28,7 @@ site_in pool s = record { pc = s.pc; kind = s.kind; operand = unwrap_or (operand
 
 -- ---- methods
 
--- the text at a number, and nothing where there is none
+-- the text at a number, or the empty text if there is none
 abbrev pub text_or_nothing : Pool → ℕ → List ℕ
 text_or_nothing pool n = unwrap_or (text_at pool n) []
 
@@ -40,11 +41,11 @@ method_in pool sites m = record {
   sites = map (site_in pool) (slice_range sites m.from m.to);
 }
 
--- its invocations stand within so many
+-- its invocations stand among the first so many
 abbrev pub is_ranged : ℕ → KeptMethod → Bool
 is_ranged size m = nat_le m.from m.to && nat_le m.to size
 
--- each number names what it has to, and each range is one of the invocations
+-- each number names a method or a call site, and the method's range lies within the invocations
 pub record IsMethodKept (pool : Pool) (sites : List KeptSite) (m : KeptMethod) : Type 0 where
   pub named : list_all (is_named pool) sites ≡ true
   pub ranged : is_ranged (length sites) m ≡ true

@@ -10,8 +10,8 @@ use jl_pool::Pool;
 use std::marker::Model;
 use std::sync::Arc;
 
-/// A method that is kept beside the pool of its class file and the invocations of all its methods: its access flags, the
-/// numbers of its name and descriptor, and where its invocations begin and end among them.
+/// A method as its class file keeps it: its access flags, the numbers of its name and descriptor in the pool, and where its
+/// invocations begin and end among those of all the methods.
 #[derive(Clone, Copy, Debug, PartialEq, Eq)]
 pub struct KeptMethod {
     pub flags: u16,
@@ -22,7 +22,7 @@ pub struct KeptMethod {
 }
 
 /// A method of a class file (JVMS SE 17 §4.6), which is lent: its access flags, name and descriptor, and the invocations
-/// in its code, by rising pc. No question takes memory.
+/// in its code, by rising pc. None of its functions takes memory.
 #[derive(Debug, Drop)]
 pub struct Method<'a> {
     pool: &'a Pool,
@@ -75,7 +75,7 @@ impl<'a> Method<'a> {
     }
 }
 
-/// Methods of a class file, which are lent. A clause sees the list of them. No question takes memory.
+/// Methods of a class file, which are lent. A clause sees the list of them. None of its functions takes memory.
 #[derive(Debug, Drop)]
 pub struct Methods<'a> {
     pool: &'a Pool,
@@ -125,9 +125,9 @@ impl<'a> Methods<'a> {
     }
 }
 
-/// The methods of a class file as they are kept, which copies of the class file share. It owns the constant pool that was read; methods
-/// name their texts by number, and the invocations of all methods, by their numbers, stand in one vector. A clause sees the list of
-/// methods.
+/// The methods of a class file as they are kept. Copies of the class file share them. It owns the constant pool that was read.
+/// Methods name their texts by number, and invocations name what they invoke by number. The invocations of all methods stand in
+/// one vector. A clause sees the list of methods.
 #[derive(Debug)]
 pub struct KeptMethods {
     pub pool: Pool,
@@ -159,10 +159,10 @@ impl Model for KeptMethods {
 }
 
 /// What is kept of a class file (JVMS SE 17 §4.1): its name, access flags, superclass (java/lang/Object alone has
-/// none), direct superinterfaces, nest host and nest members as the file names them (§4.7.28, §4.7.29), and methods,
-/// in file order. Each text is in modified UTF-8. What it answers is lent, and takes no memory.
+/// none), direct superinterfaces, nest host and nest members as the file names them (§4.7.28, §4.7.29), and methods.
 ///
-/// Names are parts of the pool's bytes.
+/// Lists are in the file's order. Each text is in modified UTF-8, as a part of the pool's bytes. What it answers is lent, and
+/// takes no memory.
 #[derive(Debug)]
 pub struct ClassFile {
     pub kept: Arc<KeptMethods>,
@@ -224,7 +224,7 @@ impl ClassFile {
         self.flags
     }
 
-    /// The name of its superclass, which java/lang/Object alone has not; an interface's is java/lang/Object.
+    /// The name of its superclass. Only java/lang/Object has none. An interface's is java/lang/Object.
     pub fn superclass(&self) -> Option<&Name>
         ensures name { option_copied result ≡ self.now.superclass }
         ensures interface { extends_object self.now.flags self.now.superclass ≡ true }
@@ -239,7 +239,7 @@ impl ClassFile {
         self.interfaces.as_slice()
     }
 
-    /// The name of its nest host, where the file names one.
+    /// The name of its nest host, if the file names one.
     pub fn nest_host(&self) -> Option<&Name>
         ensures { option_copied result ≡ self.now.nest_host }
     {
@@ -253,7 +253,7 @@ impl ClassFile {
         self.nest_members.as_slice()
     }
 
-    /// The name of its direct superinterface at this place alone.
+    /// The name of its direct superinterface at this place. The rest is dropped.
     pub fn into_interface(self, place: usize) -> Name
         requires { place < length self.interfaces }
         ensures { Some result ≡ slice_get self.interfaces place }
@@ -262,8 +262,8 @@ impl ClassFile {
         interfaces.into_item(place)
     }
 
-    /// The name of its parent at this place alone: its superclass, where it has one, is the first, and then come its direct
-    /// superinterfaces.
+    /// The name of its parent at this place. The rest is dropped. Its superclass, if it has one, is the first parent, and then
+    /// come its direct superinterfaces.
     pub fn into_parent(self, place: usize) -> Name
         requires { place < length (option_to_list self.superclass ++ self.interfaces) }
         ensures { Some result ≡ slice_get (option_to_list self.superclass ++ self.interfaces) place }
@@ -272,7 +272,7 @@ impl ClassFile {
         parent_at(superclass, interfaces, place)
     }
 
-    /// The names of its superclass and of its direct superinterfaces alone.
+    /// The names of its superclass and of its direct superinterfaces. The rest is dropped.
     fn into_parents(self) -> (Option<Name>, Seq<Name>)
         ensures { result ≡ (self.superclass, self.interfaces) }
     {
@@ -302,7 +302,7 @@ impl ClassFile {
     }
 }
 
-/// The name at this place alone: the superclass, where there is one, is the first, and then come the superinterfaces.
+/// The name at this place. The superclass, if there is one, is the first, and then come the superinterfaces.
 fn parent_at(superclass: Option<Name>, interfaces: Seq<Name>, place: usize) -> Name
     requires { place < length (option_to_list superclass ++ interfaces) }
     ensures { Some result ≡ slice_get (option_to_list superclass ++ interfaces) place }

@@ -8,7 +8,7 @@ use std::alloc::{AllocError, Global};
 use std::sync::Arc;
 
 impl ClassFile {
-    /// The same class file once more, which shares its methods and the bytes of its constants with this one. Want of memory is an error,
+    /// A copy of the class file, which shares its methods and the bytes of its constants with this one. Want of memory is an error,
     /// and so are more copies than can be counted.
     pub fn copy(&self, alloc: Global) -> Result<ClassFile, AllocError>
         ensures { IfOk result (λ copy. copy ≡ self.now) }
@@ -26,7 +26,7 @@ impl ClassFile {
         })
     }
 
-    /// Its name and those of its parents once more. Want of memory is an error.
+    /// Copies of its name and of its parents' names.
     fn copy_names(&self, alloc: Global) -> Result<(Name, Option<Name>, Seq<Name>), AllocError>
         ensures { IfOk result (λ names. names ≡ (self.now.name, self.now.superclass, self.now.interfaces)) }
     {
@@ -36,7 +36,7 @@ impl ClassFile {
         Ok((name, superclass, interfaces))
     }
 
-    /// The names of its nest host and members once more. Want of memory is an error.
+    /// Copies of the names of its nest host and members.
     fn copy_nest(&self, alloc: Global) -> Result<(Option<Name>, Seq<Name>), AllocError>
         ensures { IfOk result (λ nest. nest ≡ (self.now.nest_host, self.now.nest_members)) }
     {
@@ -46,7 +46,7 @@ impl ClassFile {
     }
 }
 
-/// The name once more, if there is one. Want of memory is an error.
+/// A copy of the name, if there is one.
 fn copy_if_any(alloc: Global, name: Option<&Name>) -> Result<Option<Name>, AllocError>
     ensures { IfOk result (λ copy. copy ≡ option_copied name.entry) }
 {
@@ -56,7 +56,7 @@ fn copy_if_any(alloc: Global, name: Option<&Name>) -> Result<Option<Name>, Alloc
     }
 }
 
-/// The same names once more. Want of memory is an error.
+/// Copies of the names, in order.
 fn copy_each(alloc: Global, names: &[Name]) -> Result<Seq<Name>, AllocError>
     ensures { IfOk result (λ copy. copy ≡ names.now) }
 {

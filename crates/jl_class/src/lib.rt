@@ -1,7 +1,7 @@
 //! What a class file is once it is read (JVMS SE 17 §4): its class, its methods, and the invocations in their codes.
 //!
-//! Linking stands on this and on nothing that reads. `specs/` has, in reading order, `Flags`, `Special`, `Site`, `Operands` and `Class`;
-//! `Kept` says how a class file keeps them.
+//! Linking rests on this, and on nothing that reads class files. `specs/` has, in reading order, `Flags`, `Special`, `Site`, `Operands`
+//! and `Class`. `Kept` says how a class file keeps them.
 #![tactic(auto)]
 
 mod class;

@@ -41,8 +41,8 @@ pub(crate) fn operand_at<'a>(pool: &'a Pool, number: u16) -> Option<Operand<Lent
     }
 }
 
-/// An invocation that is kept beside the pool of its class file: its place in bytes from the code's start, which
-/// instruction it is, and the number of what it names.
+/// An invocation as its class file keeps it: its place in bytes from the code's start, which instruction it is, and the
+/// number in the pool of what it names.
 #[derive(Clone, Copy, Debug, PartialEq, Eq)]
 pub struct KeptSite {
     pub pc: u16,
@@ -93,7 +93,7 @@ impl<'a> Site<'a> {
         self.kind
     }
 
-    /// What it names. This lends and takes no memory.
+    /// What it names. Takes no memory.
     pub fn operand(&self) -> &Operand<LentName<'a>>
         ensures { result.now ≡ self.now.operand }
     {
@@ -101,7 +101,7 @@ impl<'a> Site<'a> {
     }
 }
 
-/// Invocations that are lent. A clause sees the list of them. No question takes memory.
+/// Invocations that are lent. A clause sees the list of them. None of its functions takes memory.
 #[derive(Debug, Drop)]
 pub struct Sites<'a> {
     pool: &'a Pool,

@@ -1,4 +1,4 @@
--- What stands behind the pool is read where its text stands, and only there.
+-- What follows the pool is read where its text stands, and only there.
 use Rattle.std.proofs.Common.{ℕ, ◌^◌, ◌<◌, List, Option, ap, subst}
 use Rattle.std.specs.Prelude.{option_map}
 use Rattle.jl_classfile.specs.declared.body.Attribute.{Attribute}

@@ -10,7 +10,7 @@ use Rattle.jl_pool.specs.Numbers.{u2, u4, counted}
 use Rattle.jl_classfile.specs.Layouts.{attribute_text, AttributeSized, Countable}
 use Rattle.jl_classfile.specs.CodeAttributes.{HoldsCode}
 use Rattle.jl_pool.specs.ForProofs.Fields.{◌>>=◌, number_at, bytes_at}
-use Rattle.jl_classfile.specs.ForProofs.Bodies.{counted_at, attribute_at, if_filled, behind_code, code_in}
+use Rattle.jl_classfile.specs.ForProofs.Bodies.{counted_at, attribute_at, if_filled, after_code, code_in}
 use Rattle.jl_pool.proofs.Fields.{IsBytes, bind_some, some_is, u2_takes, u2_again, u4_takes, u4_again, bytes_takes, bytes_again}
 use Rattle.jl_classfile.proofs.PartLaws.{attribute-takes, attribute-again}
 use Rattle.jl_classfile.proofs.ListLaws.{counted-takes, counted-again}
@@ -20,10 +20,10 @@ use Rattle.jl_classfile.proofs.ListLaws.{counted-takes, counted-again}
 in_range : (n : ℕ) → 1 ≤ n → n ≤ 65535 → ((eqb n 0) || nat_lt 65535 n) ≡ false
 in_range n some few = grind (arith, nat_tests)
 
-behind_again : (code : List ℕ) (exceptions : ℕ) (table : List ℕ) (attributes : List Attribute) → exceptions < 2 ^ 16 → length table ≡ 8 * exceptions
+after_again : (code : List ℕ) (exceptions : ℕ) (table : List ℕ) (attributes : List Attribute) → exceptions < 2 ^ 16 → length table ≡ 8 * exceptions
     → Countable AttributeSized attributes
-    → behind_code (code, u2 exceptions ++ (table ++ counted attribute_text attributes)) ≡ Some code
-behind_again code exceptions table attributes size rows sized =
+    → after_code (code, u2 exceptions ++ (table ++ counted attribute_text attributes)) ≡ Some code
+after_again code exceptions table attributes size rows sized =
     let all =
     ap (λ (r : List ℕ). counted_at attribute_at r) (sym (append-nil (counted attribute_text attributes)))
     ∙ counted-again attribute_at attribute_text AttributeSized attribute-again attributes [] sized
@@ -35,7 +35,7 @@ behind_again code exceptions table attributes size rows sized =
     ∙ ap (λ (o : Option (List Attribute × List ℕ)). o >>= λ a. if_filled code a.1) all
 
 abbrev if_length : ℕ × List ℕ → Option (List ℕ)
-if_length n = if (eqb n.0 0) || nat_lt 65535 n.0 then None else (bytes_at n.0 n.1 >>= behind_code)
+if_length n = if (eqb n.0 0) || nat_lt 65535 n.0 then None else (bytes_at n.0 n.1 >>= after_code)
 
 pub held_again : (info code : List ℕ) → HoldsCode info code → code_in info ≡ Some code
 unfolding code_in
@@ -46,9 +46,9 @@ held_again info code h =
     (u2_again h.max_stack (u2 h.max_locals ++ (u4 (length code) ++ (code ++ last))) h.max_stack_size)
     ∙ ap (λ (o : Option (ℕ × List ℕ)). o >>= λ l. number_at 4 l.1 >>= if_length) (u2_again h.max_locals (u4 (length code) ++ (code ++ last)) h.max_locals_size)
     ∙ ap (λ (o : Option (ℕ × List ℕ)). o >>= if_length) (u4_again (length code) (code ++ last) (let few = h.few in omega (arith, few)))
-    ∙ ap (λ (b : Bool). if b then None else (bytes_at (length code) (code ++ last) >>= behind_code)) (in_range (length code) h.some h.few)
-    ∙ ap (λ (o : Option (List ℕ × List ℕ)). o >>= behind_code) (bytes_again (length code) code last refl)
-    ∙ behind_again code h.exceptions h.table h.attributes h.exceptions_size h.rows h.attributes_sized
+    ∙ ap (λ (b : Bool). if b then None else (bytes_at (length code) (code ++ last) >>= after_code)) (in_range (length code) h.some h.few)
+    ∙ ap (λ (o : Option (List ℕ × List ℕ)). o >>= after_code) (bytes_again (length code) code last refl)
+    ∙ after_again code h.exceptions h.table h.attributes h.exceptions_size h.rows h.attributes_sized
 
 pub one_held : (info a b : List ℕ) → HoldsCode info a → HoldsCode info b → a ≡ b
 one_held info a b ha hb = some_is a b (sym (held_again info a ha) ∙ held_again info b hb)
@@ -67,10 +67,10 @@ low k h = grind (arith, nat_tests)
 high : (k : ℕ) → ((eqb k 0) || nat_lt 65535 k) ≡ false → k ≤ 65535
 high k h = grind (arith, nat_tests)
 
-length_is : (n : ℕ × List ℕ) (got : List ℕ) → if_length n ≡ Some got → (1 ≤ n.0) × (n.0 ≤ 65535) × ((bytes_at n.0 n.1 >>= behind_code) ≡ Some got)
+length_is : (n : ℕ × List ℕ) (got : List ℕ) → if_length n ≡ Some got → (1 ≤ n.0) × (n.0 ≤ 65535) × ((bytes_at n.0 n.1 >>= after_code) ≡ Some got)
 length_is n got e = by_test ((eqb n.0 0) || nat_lt 65535 n.0) refl e where
-  by_test : (b : Bool) → ((eqb n.0 0) || nat_lt 65535 n.0) ≡ b → (if b then None else (bytes_at n.0 n.1 >>= behind_code)) ≡ Some got
-      → (1 ≤ n.0) × (n.0 ≤ 65535) × ((bytes_at n.0 n.1 >>= behind_code) ≡ Some got)
+  by_test : (b : Bool) → ((eqb n.0 0) || nat_lt 65535 n.0) ≡ b → (if b then None else (bytes_at n.0 n.1 >>= after_code)) ≡ Some got
+      → (1 ≤ n.0) × (n.0 ≤ 65535) × ((bytes_at n.0 n.1 >>= after_code) ≡ Some got)
   by_test true out e = absurd cc
   by_test false within e = (low n.0 within, high n.0 within, e)
 
@@ -81,7 +81,7 @@ held_takes info code fits e =
     let l = bind_some (number_at 2 s.0.1) (λ l. number_at 4 l.1 >>= if_length) code s.2 in
     let n = bind_some (number_at 4 l.0.1) if_length code l.2 in
     let k = length_is n.0 code n.2 in
-    let b = bind_some (bytes_at n.0.0 n.0.1) behind_code code k.2 in
+    let b = bind_some (bytes_at n.0.0 n.0.1) after_code code k.2 in
     let x = bind_some (number_at 2 b.0.1) (λ m. bytes_at (8 * m.0) m.1 >>= λ t. counted_at attribute_at t.1 >>= λ a. if_filled b.0.0 a.1) code b.2 in
     let t = bind_some (bytes_at (8 * x.0.0) x.0.1) (λ t. counted_at attribute_at t.1 >>= λ a. if_filled b.0.0 a.1) code x.2 in
     let a = bind_some (counted_at attribute_at t.0.1) (λ a. if_filled b.0.0 a.1) code t.2 in

@@ -53,7 +53,7 @@ items-end {X = X} item n k front rest all h so_far =
     ∙ ap (λ (r : Option (List X × List ℕ)). with_front front r) (ap (λ (m : ℕ). items_at item m rest) none ∙ items-zero item rest)
     ∙ ap (λ (xs : List X). Some (xs, rest)) (append-nil front)
 
--- ---- where the items are passed over
+-- ---- items that are passed over
 
 rest-front : {X : Type 0} (front : List X) (read : Option (List X × List ℕ)) → option_map (λ x. x.1) (with_front front read) ≡ option_map (λ x. x.1) read
 rest-front front None = refl
@@ -80,15 +80,15 @@ rest-end {X = X} item n k rest all h so_far =
     let none : n - k ≡ 0 = omega arith in
     sym so_far ∙ ap (λ (r : Option (List X × List ℕ)). option_map (λ y. y.1) r) (ap (λ (m : ℕ). items_at item m rest) none ∙ items-zero item rest)
 
--- ---- where the items are read when they are asked for
+-- ---- items that are read when they are asked for
 
 abbrev list_of : {X : Type 0} → Option (List X × List ℕ) → List X
 list_of read = option_map_or (λ x. x.0) read []
 
-behind_one : {X : Type 0} (x : X) (read : Option (List X × List ℕ)) → is_some (with_front (x ∷ []) read) ≡ true
+after_one : {X : Type 0} (x : X) (read : Option (List X × List ℕ)) → is_some (with_front (x ∷ []) read) ≡ true
     → (is_some read ≡ true) × (list_of (with_front (x ∷ []) read) ≡ x ∷ list_of read)
-behind_one x None there = absurd cc
-behind_one x (Some y) there = (refl, refl)
+after_one x None there = absurd cc
+after_one x (Some y) there = (refl, refl)
 
 items-first : {X : Type 0} (item : Reader X) (n : ℕ) (bytes : List ℕ) → 1 ≤ n
     → items_at item n bytes ≡ (item bytes >>= λ x. with_front (x.0 ∷ []) (items_at item (n - 1) x.1))
@@ -100,8 +100,8 @@ pub one-more : {X : Type 0} (item : Reader X) (n : ℕ) (bytes after : List ℕ)
     → (is_some (items_at item (n - 1) after) ≡ true) × (list_of (items_at item n bytes) ≡ x ∷ list_of (items_at item (n - 1) after))
 one-more {X = X} item n bytes after x h e there =
     let all = items-first item n bytes h ∙ ap (λ (o : Option (X × List ℕ)). o >>= λ y. with_front (y.0 ∷ []) (items_at item (n - 1) y.1)) e in
-    let behind = behind_one x (items_at item (n - 1) after) (sym (ap (λ (r : Option (List X × List ℕ)). is_some r) all) ∙ there) in
-    (behind.0, ap (λ (r : Option (List X × List ℕ)). list_of r) all ∙ behind.1)
+    let later = after_one x (items_at item (n - 1) after) (sym (ap (λ (r : Option (List X × List ℕ)). is_some r) all) ∙ there) in
+    (later.0, ap (λ (r : Option (List X × List ℕ)). list_of r) all ∙ later.1)
 
 pub one-less : {X : Type 0} (item : Reader X) (n : ℕ) (bytes : List ℕ) → 1 ≤ n → item bytes ≡ None → is_some (items_at item n bytes) ≡ true → ⊥
 one-less {X = X} item n bytes h e there =

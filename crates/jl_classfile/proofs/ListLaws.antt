@@ -1,4 +1,4 @@
--- Lists of items behind their count are read where their text stands, and only there.
+-- Lists of items after their count are read where their text stands, and only there.
 use Rattle.std.proofs.Common.{◌≡◌, ℕ, zero, suc, List, [], ◌∷◌, ◌++◌, length, Option, Some, None, refl, sym, ap, subst, ◌∙◌, append_assoc, arith}
 use Rattle.std.specs.List.{flat_map, AllByRecursion}
 use Rattle.jl_pool.specs.Numbers.{u2, counted}
@@ -57,7 +57,7 @@ items-again {X = X} item text IsSo again (x ∷ xs) rest h =
     ∙ ap (λ (o : Option (X × List ℕ)). o >>= λ y. with_front (y.0 ∷ []) (items_at item (length xs) y.1)) (again x (flat_map text xs ++ rest) h.0)
     ∙ ap (λ (r : Option (List X × List ℕ)). with_front (x ∷ []) r) (items-again item text IsSo again xs rest h.1)
 
--- ---- items behind their count
+-- ---- items after their count
 
 pub counted-takes : {X : Type 0} (item : Reader X) (text : X → List ℕ) (IsSo : X → Type 0) → Taker item text IsSo
     → Taker (counted_at item) (counted text) (Countable IsSo)
@@ -83,7 +83,7 @@ counted-again {X = X} item text IsSo again xs rest h =
     ∙ ap (λ (o : Option (ℕ × List ℕ)). o >>= λ n. items_at item n.0 n.1) (u2_again (length xs) (flat_map text xs ++ rest) h.count)
     ∙ items-again item text IsSo again xs rest h.each
 
--- ---- one part behind another
+-- ---- one part after another
 
 abbrev pub pair_text : {X Y : Type 0} → (X → List ℕ) → (Y → List ℕ) → X × Y → List ℕ
 pair_text text_x text_y p = text_x p.0 ++ text_y p.1

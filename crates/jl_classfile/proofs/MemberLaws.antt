@@ -1,4 +1,4 @@
--- All fields and methods: what the tests of each one come to.
+-- All fields and methods: what the tests of each one tell of them.
 use Rattle.std.proofs.Common.{◌≡◌, ℕ, ◌+◌, ◌<◌, ◌≤◌, Bool, List, [], ◌∷◌, length, get_or}
 use Rattle.std.proofs.Common.{Option, Some, sym, ap, subst, ◌∙◌, inl, inr}
 use Rattle.std.specs.Prelude.{MatchOption, IfSome, slice_get, All}

@@ -4,10 +4,9 @@ use Rattle.std.proofs.Common.{◌+◌, ◌-◌, ◌<◌, true, get_or, map, take
 use Rattle.std.specs.Prelude.{slice_range, nat_le, codes}
 use Rattle.std.specs.List.{list_all}
 use Rattle.std.proofs.Math.Seq.{take-suc, take-append-le, drop-append-le}
-use Rattle.std.proofs.lemmas.Bool.{le-leb, leb-true}
+use Rattle.std.proofs.lemmas.Bool.{le-leb, leb-true, and_parts}
 use Rattle.std.proofs.lemmas.List.{map-append, length-drop, length-map}
 use Rattle.std.proofs.lemmas.List.Folds.{list_all-append}
-use Rattle.jl_pool.proofs.FormLaws.{and_true}
 use Rattle.jl_class.specs.declared.site.KeptSite.{KeptSite}
 use Rattle.jl_class.specs.Kept.{is_named, site_in}
 use Rattle.jl_class.specs.declared.class.KeptMethod.{KeptMethod}
@@ -110,13 +109,13 @@ range_stays sites more from to h k =
     ∙ take-append-le (to - from) (drop from sites) more (omega (arith, length-drop from sites))
 
 in_range : (size : ℕ) (m : KeptMethod) → is_ranged size m ≡ true → (m.from ≤ m.to) × (m.to ≤ size)
-in_range size m h = let b = and_true (nat_le m.from m.to) (nat_le m.to size) h in (leb-true m.from m.to b.0, leb-true m.to size b.1)
+in_range size m h = let b = and_parts (nat_le m.from m.to) (nat_le m.to size) h in (leb-true m.from m.to b.0, leb-true m.to size b.1)
 
 methods_stay : (p : Pool) (sites more : List KeptSite) (ms : List KeptMethod) → list_all (is_ranged (length sites)) ms ≡ true
     → (map (method_in p (sites ++ more)) ms ≡ map (method_in p sites) ms) × (list_all (is_ranged (length (sites ++ more))) ms ≡ true)
 methods_stay p sites more [] h = (refl, refl)
 methods_stay p sites more (m ∷ ms) h =
-    let b = and_true (is_ranged (length sites) m) (list_all (is_ranged (length sites)) ms) h in
+    let b = and_parts (is_ranged (length sites) m) (list_all (is_ranged (length sites)) ms) h in
     let r = in_range (length sites) m b.0 in
     let rest = methods_stay p sites more ms b.1 in
     let same : method_in p (sites ++ more) m ≡ method_in p sites m =
@@ -190,11 +189,11 @@ kept_step p ms before after methods i d method h s a =
     let stay = methods_stay p before a.made methods s.kept.ranged in
     let after_stay : (map (method_in p after) methods ≡ map (method_in p before) methods) × (list_all (is_ranged (length after)) methods ≡ true) =
     subst (λ (l : List KeptSite). (map (method_in p l) methods ≡ map (method_in p before) methods) × (list_all (is_ranged (length l)) methods ≡ true))
-    (sym a.behind) stay
+    (sym a.later) stay
     in
     record {
       kept = record {
-        named = ap (λ (l : List KeptSite). list_all (is_named p) l) a.behind ∙ list_all-append (is_named p) before a.made ∙ rw (s.kept.named, a.named) refl;
+        named = ap (λ (l : List KeptSite). list_all (is_named p) l) a.later ∙ list_all-append (is_named p) before a.made ∙ rw (s.kept.named, a.named) refl;
         ranged = list_all-append (is_ranged (length after)) methods (method ∷ []) ∙ rw (after_stay.1, a.ranged) refl;
       };
       shown =

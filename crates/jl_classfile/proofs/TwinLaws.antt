@@ -12,7 +12,7 @@ use Rattle.std.proofs.lemmas.Option.{slice_get-map, slice_get-get_or, slice_get_
 use Rattle.std.proofs.lemmas.List.Sorted.{IsPermutation-sym, IsNonDecreasingBy-from_sort}
 use Rattle.std.proofs.lemmas.Map.Keys.{IsDistinct-IsPermutation, IsDistinct-from_apart, apart_from_distinct, sorted_from_strictly_increasing}
 use Rattle.std.proofs.lemmas.Map.Keys.{below_from_sorted, IsStrictlyIncreasing-from_distinct}
-use Rattle.std.proofs.lemmas.Bool.{cases_lt, eqb-false}
+use Rattle.std.proofs.lemmas.Bool.{cases_lt, eqb-false, and_parts}
 use Rattle.std.proofs.Math.Seq.{take-append_seam}
 use Rattle.std.proofs.lemmas.Bool.Decides.{nat_tests}
 use Rattle.std.proofs.lemmas.Slice.Eq.{bytes_eq-Decides}
@@ -21,7 +21,6 @@ use Rattle.jl_classfile.specs.declared.body.Member.{Member}
 use Rattle.jl_pool.specs.Pools.{Pool, text_at}
 use Rattle.jl_classfile.specs.Conditions.{is_text, same_place_text, same_method, no_twins}
 use Rattle.jl_classfile.specs.ForProofs.Members.{is_at, IsTwin, IsFirstTwin, IsTextAt, AreTexts, print_onto, print_of}
-use Rattle.jl_pool.proofs.FormLaws.{and_true}
 
 -- ---- the texts of a pool, kept for the methods so far
 
@@ -102,7 +101,7 @@ module _ (texts : List (Option (Bor (List ℕ)))) (pool : Pool) (ms : List Membe
 
   twin_repeats : (i : ℕ) → IsTwin pool ms i → IsRepeat texts pairs i
   twin_repeats i t =
-      let both = and_true (same_place_text pool t.other.name t.one.name) (same_place_text pool t.other.descriptor t.one.descriptor) t.same in
+      let both = and_parts (same_place_text pool t.other.name t.one.name) (same_place_text pool t.other.descriptor t.one.descriptor) t.same in
       let other = same i t.other t.other_stands in
       let one = same t.earlier t.one t.one_stands in
       record {
@@ -155,7 +154,7 @@ apart a b lt = grind (arith, nat_tests)
 rises : (xs : List ℕ) → AllAdjacentBelow (λ x y. true ≡ nat_lt x y) xs (length xs) → IsStrictlyIncreasing xs
 rises xs h k within = let test = h k 0 within in grind (arith, nat_tests)
 
--- numbers are distinct where they rise once they are sorted, and only there
+-- numbers are distinct exactly if they rise once they are sorted
 pub distinct_if_rising : (xs ys : List ℕ) (answer : Bool) → IsPermutation xs ys → IsSorted nat_cmp ys → IsAllAdjacentAnswer (λ x y b. b ≡ nat_lt x y) ys answer
     → Decides answer (IsDistinct nat_eq xs)
 distinct_if_rising xs ys true moved sorted h =
@@ -174,7 +173,7 @@ distinct_if_rising xs ys false moved sorted h = (
 
 same_print : (pool : Pool) (a b : Member) → same_method pool a b ≡ true → print_of pool a ≡ print_of pool b
 same_print pool a b e =
-    let both = and_true (same_place_text pool a.name b.name) (same_place_text pool a.descriptor b.descriptor) e in
+    let both = and_parts (same_place_text pool a.name b.name) (same_place_text pool a.descriptor b.descriptor) e in
     let name = one_text pool a.name b.name both.0 in
     let descriptor = one_text pool a.descriptor b.descriptor both.1 in
     ap₂ (λ (n d : Option (List ℕ)). print_onto (print_onto 0 n) d) (name.one ∙ sym name.other) (descriptor.one ∙ sym descriptor.other)

@@ -7,7 +7,7 @@ use Rattle.jl_pool.specs.Pools.{Pool}
 use Rattle.jl_code.specs.Codes.{code_bytes, IsCode}
 use Rattle.jl_classfile.specs.Layouts.{attribute_text, AttributeSized, Countable}
 
--- The attribute's bytes hold this code: of 1 to 65,535 bytes, behind two sizes and its length; an exception table of
+-- The attribute's bytes hold this code, of 1 to 65,535 bytes. Two sizes and its length come before it. An exception table of
 -- 8 bytes a row and attributes come after it, and then nothing.
 pub record HoldsCode (info code : List ℕ) : Type 0 where
   pub max_stack : ℕ

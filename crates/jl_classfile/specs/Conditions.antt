@@ -41,7 +41,7 @@ IsClassNumber pool n = IsSome (class_at pool n)
 abbrev pub is_object : Pool → ℕ → Bool
 is_object pool n = option_map_or (λ text. bytes_eq text object) (class_at pool n) false
 
--- of the superclass, if there is one
+-- the number of the superclass, if there is one
 abbrev pub superclass_numbers : ℕ → List ℕ
 superclass_numbers n = if n == 0 then [] else n ∷ []
 
@@ -95,7 +95,7 @@ are_method_flags interface flags =
     && ((not (has_flag flags ABSTRACT) || (not (has_flag flags PRIVATE) && not (has_flag flags STATIC)))
     && (not interface || (has_flag flags PUBLIC || has_flag flags PRIVATE)))
 
--- any flags are those of <clinit>
+-- <clinit> may have any flags
 abbrev pub flags_fit : Bool → ℕ → List ℕ → Bool
 flags_fit interface flags name = bytes_eq name (codes "<clinit>") || are_method_flags interface flags
 
@@ -103,7 +103,7 @@ flags_fit interface flags name = bytes_eq name (codes "<clinit>") || are_method_
 abbrev pub TakesFew : ℕ → List ℕ → Type 0
 TakesFew flags text = (n : ℕ) × (n + one_if (not (has_flag flags STATIC)) ≤ 255) × TakesSlots text n
 
--- its texts, where they stand there, are so
+-- the texts of a field, if they are there, may be its name and its descriptor
 pub record FieldFits (pool : Pool) (m : Member) : Type 0 where
   pub name : IfSome (text_at pool m.name) (λ name. IsTrue (is_unqualified name))
   pub descriptor : IfSome (text_at pool m.descriptor) IsFieldDescriptor
@@ -119,11 +119,11 @@ is_text pool n text = option_map_or (λ t. bytes_eq t text) (text_at pool n) fal
 abbrev pub same_place_text : Pool → ℕ → ℕ → Bool
 same_place_text pool m n = option_map_or (is_text pool m) (text_at pool n) false
 
--- one name and one descriptor
+-- both have one name and one descriptor
 abbrev pub same_method : Pool → Member → Member → Bool
 same_method pool a b = same_place_text pool a.name b.name && same_place_text pool a.descriptor b.descriptor
 
--- none of them is an earlier one again
+-- none of them has the name and the descriptor of an earlier one
 abbrev pub no_twins : Pool → List Member → List Member → Bool
 no_twins pool earlier [] = true
 no_twins pool earlier (m ∷ ms) = not (list_any (same_method pool m) earlier) && no_twins pool (m ∷ earlier) ms
@@ -143,7 +143,7 @@ pub record Members (pool : Pool) (b : Body) : Type 0 where
 
 -- ---- class attributes (JVMS 4.7.28, 4.7.29)
 
--- those of this name, which are read from version 55 on
+-- the attributes of this name, which are read from version 55 on
 abbrev pub attributes_called : List ℕ → ℕ → Pool → Body → List Attribute
 attributes_called name major pool b = if nat_le 55 major then attributes_of pool name b.attributes else []
 
@@ -155,7 +155,7 @@ IsHost pool info n = (info ≡ u2 n) × (n < 2 ^ 16) × IsClassNumber pool n
 abbrev pub AreMembers : Pool → List ℕ → List ℕ → Type 0
 AreMembers pool info ns = (info ≡ counted u2 ns) × (length ns < 2 ^ 16) × AllByRecursion (λ n. (n < 2 ^ 16) × IsClassNumber pool n) ns
 
--- none of them, or one, and what it holds
+-- there is no such attribute and no host, or one, which holds the host
 abbrev pub HoldsHost : Pool → List Attribute → Option ℕ → Type 0
 HoldsHost pool [] None = ⊤
 HoldsHost pool (a ∷ []) (Some n) = IsHost pool a.info n

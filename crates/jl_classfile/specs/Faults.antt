@@ -110,7 +110,7 @@ rank Membership = 6
 rank Attribution = 7
 rank Coding = 8
 
--- the bytes lie so, and this fault is there
+-- the bytes are the text of a layout, which has this fault
 abbrev pub LaidFault : (ℕ → Pool → Body → ClassFault → Type 0) → List ℕ → ClassFault → Type 0
 LaidFault Fault bytes f = (l : Layout) × IsLayout l × (bytes ≡ file_text l) × Fault l.major (pool_of l) l.body f
 
@@ -130,6 +130,6 @@ pub record IsFaultUpTo (newest : ℕ) (bytes : List ℕ) (f : ClassFault) : Type
   pub fails : FailsWith newest pass bytes f
   pub first : (earlier : Pass) (g : ClassFault) → rank earlier < rank pass → ¬ FailsWith newest earlier bytes g
 
--- of SE 17
+-- why the bytes are no class file of SE 17
 abbrev pub IsFault : List ℕ → ClassFault → Type 0
 IsFault bytes f = IsFaultUpTo newest_of_17 bytes f

@@ -15,7 +15,7 @@ attribute_text a = u2 a.name ++ (u4 (length a.info) ++ a.info)
 abbrev pub member_text : Member → List ℕ
 member_text m = u2 m.flags ++ (u2 m.name ++ (u2 m.descriptor ++ counted attribute_text m.attributes))
 
--- what stands behind the pool
+-- what follows the pool
 abbrev pub body_text : Body → List ℕ
 body_text b =
     u2 b.flags ++ (u2 b.this_class ++ (u2 b.super_class ++ (counted u2 b.interfaces
@@ -40,7 +40,7 @@ pub record AttributeSized (a : Attribute) : Type 0 where
   pub name : a.name < 2 ^ 16
   pub info : length a.info < 2 ^ 32
 
--- so many can be counted, and each is so
+-- the items are few enough for their count, and each is so
 pub record Countable {X : Type 0} (IsSo : X → Type 0) (xs : List X) : Type 0 where
   pub count : length xs < 2 ^ 16
   pub each : AllByRecursion IsSo xs

@@ -1,4 +1,4 @@
-//! What stands behind the constant pool of a class file, as it lies there.
+//! What follows the constant pool of a class file, as it lies there.
 
 ghost use Rattle.std.specs.Prelude.{◌≡◌, ◌++◌, List, [], ◌∷◌, ℕ, IfOk, MatchOption, option_map};
 ghost use Rattle.jl_classfile.specs.Layouts.{body_text, BodySized};
@@ -19,7 +19,7 @@ pub struct Attribute<'a> {
     pub info: Text<'a>,
 }
 
-/// Attributes that are read where they are asked for: how many there are, and bytes that begin with them. A clause sees the
+/// Attributes that are read when they are asked for: how many there are, and bytes that begin with them. A clause sees the
 /// list of them.
 #[derive(Drop)]
 pub struct Attributes<'a> {
@@ -41,7 +41,7 @@ impl<'a> Model for Attributes<'a> {
 }
 
 impl<'a> Attributes<'a> {
-    /// The same ones once more, to go over them.
+    /// A copy of the list, to go over it. Takes no memory.
     pub fn all(&self) -> Attributes<'a>
         ensures { result ≡ self.now }
     {
@@ -51,7 +51,7 @@ impl<'a> Attributes<'a> {
         }
     }
 
-    /// The first one and those behind it, unless there is none.
+    /// The first attribute and those after it, unless there is none.
     pub fn split_first(&self) -> Option<(Attribute<'a>, Attributes<'a>)>
         ensures { MatchOption result (self.now ≡ []) (λ x. self.now ≡ x.0 ∷ x.1) }
     {
@@ -73,7 +73,7 @@ pub struct Member<'a> {
     pub attributes: Attributes<'a>,
 }
 
-/// What stands behind the pool (§4.1).
+/// What follows the constant pool (§4.1).
 pub struct Body<'a> {
     pub flags: u16,
     pub this_class: u16,
@@ -163,7 +163,7 @@ fn attribute_at(bytes: &[u8]) -> Option<(Attribute<'_>, &[u8])>
     Some((Attribute { name, info }, rest))
 }
 
-/// What is read one after another, behind a count. An item takes two bytes or more.
+/// What is read one after another, after a count. An item takes two bytes or more.
 trait Item<'a> {
     ghost use Rattle.std.specs.Prelude.{List, ℕ, Option};
     ghost use Rattle.jl_pool.specs.ForProofs.Fields.{Finds};
@@ -206,7 +206,7 @@ impl<'a> Item<'a> for Member<'a> {
     }
 }
 
-/// So many items, and what comes after them.
+/// As many items as `count` says, and what comes after them.
 fn items_at<'a, T: Item<'a> + Drop>(
     alloc: Global,
     count: u16,
@@ -214,7 +214,7 @@ fn items_at<'a, T: Item<'a> + Drop>(
 ) -> Result<(Seq<T>, &'a [u8]), Broken>
     ensures { Reads (λ x. (x.0, x.1.now)) result (items_at T.reader count bytes.now) }
 {
-    // Where the bytes can't hold so many, no room is made for them.
+    // If the bytes can't hold so many, no room is made for them.
     let room = usize::from(count).min(bytes.len() / 2);
     let mut items = Vec::with_capacity(alloc, room)?;
     let mut rest = bytes;
@@ -228,7 +228,7 @@ fn items_at<'a, T: Item<'a> + Drop>(
     Ok((Seq::of(items), rest))
 }
 
-/// Items behind their count, and what comes after them.
+/// Items after their count, and what comes after them.
 pub fn counted_at<'a, T: Item<'a> + Drop>(
     alloc: Global,
     bytes: &'a [u8],
@@ -239,7 +239,7 @@ pub fn counted_at<'a, T: Item<'a> + Drop>(
     items_at(alloc, count, rest)
 }
 
-/// What stands behind the pool, and what comes after it.
+/// What follows the pool, as it lies there, and what comes after that.
 pub fn body_at<'a>(alloc: Global, bytes: &'a [u8]) -> Result<(Body<'a>, &'a [u8]), Broken>
     ensures read { Reads (λ x. (x.0, x.1.now)) result (body_at bytes.now) }
     ensures spelled { IfOk result (λ x. BodySized x.0 × (bytes.now ≡ body_text x.0 ++ x.1.now)) }
@@ -247,7 +247,7 @@ pub fn body_at<'a>(alloc: Global, bytes: &'a [u8]) -> Result<(Body<'a>, &'a [u8]
     read_body(alloc, bytes)
 }
 
-/// Reads what stands behind the pool, part after part.
+/// Reads what follows the pool, part after part.
 #[tactic(auto, unfolding(crate::specs::ForProofs::Bodies::body_at))]
 fn read_body<'a>(alloc: Global, bytes: &'a [u8]) -> Result<(Body<'a>, &'a [u8]), Broken>
     ensures { Reads (λ x. (x.0, x.1.now)) result (body_at bytes.now) }
@@ -278,7 +278,7 @@ pub fn code_in(info: &[u8]) -> Option<&[u8]>
     read_code(info)
 }
 
-/// Reads the code of a Code attribute, and all that stands behind it.
+/// Reads the code of a Code attribute, and all that follows it.
 #[tactic(auto, unfolding(crate::specs::ForProofs::Bodies::code_in))]
 fn read_code(info: &[u8]) -> Option<&[u8]>
     ensures { option_map (λ code. code.now) result ≡ code_in info.now }
@@ -296,17 +296,17 @@ fn read_code(info: &[u8]) -> Option<&[u8]>
     if rest.is_empty() { Some(code) } else { None }
 }
 
-/// Attributes behind their count, and what comes after them.
+/// Attributes after their count, and what comes after them.
 fn attributes_at(bytes: &[u8]) -> Option<(Attributes<'_>, &[u8])>
     ensures { Finds (λ x. (x.0, x.1.now)) result (counted_at attribute_at bytes.now) }
 {
     let (count, bytes) = u2_at(bytes)?;
-    let rest = behind_so_many(count, bytes)?;
+    let rest = after_so_many(count, bytes)?;
     Some((Attributes { count, bytes }, rest))
 }
 
 /// What comes after so many attributes.
-fn behind_so_many(count: u16, bytes: &[u8]) -> Option<&[u8]>
+fn after_so_many(count: u16, bytes: &[u8]) -> Option<&[u8]>
     ensures { option_map (λ rest. rest.now) result ≡ option_map (λ x. x.1) (items_at attribute_at count bytes.now) }
 {
     let mut rest = bytes;

@@ -8,9 +8,9 @@ use jl_pool::PoolFault;
 use std::alloc::{AllocError, AllocFailed};
 use thiserror::Error;
 
-/// Why bytes are no class file (JVMS SE 17 §4.1, §4.8). Where several hold, the first pass that fails tells:
-/// the size, the first eight bytes, the constant pool, the layout of the rest, the class and its superclasses, the
-/// members, the class's attributes, the codes.
+/// Why bytes are no class file (JVMS SE 17 §4.1, §4.8). If several faults hold, the first pass that fails tells which.
+/// The passes are the size, the first eight bytes, the constant pool, the layout of the rest, the class and its
+/// superclasses, the members, the class's attributes, and the codes.
 #[derive(Clone, Copy, Debug, PartialEq, Eq, Error)]
 pub enum ClassFault {
     /// Over 1,000,000 bytes.
@@ -19,7 +19,7 @@ pub enum ClassFault {
     /// The first four bytes aren't cafebabe.
     #[error("BadMagic")]
     BadMagic,
-    /// The major version isn't 45 to 61, or from 56 on the minor version isn't 0.
+    /// The major version isn't 45 to the newest that is read (61 of SE 17), or from 56 on the minor version isn't 0.
     #[error("BadVersion")]
     BadVersion,
     /// The bytes end before the file does, outside its constant pool.
@@ -31,7 +31,7 @@ pub enum ClassFault {
     /// The file of a module: MODULE set, from version 53 on.
     #[error("ModuleFile")]
     ModuleFile,
-    /// No superclass but for java/lang/Object, or one for it, or an interface's isn't java/lang/Object.
+    /// The superclass may not be so: java/lang/Object alone has none, and is no interface; an interface's is java/lang/Object.
     #[error("BadSuper")]
     BadSuper,
     /// This method, by its index, has the name and the descriptor of an earlier one.
@@ -43,13 +43,13 @@ pub enum ClassFault {
     /// A fault in the code of this method, by its index (§4.7.3).
     #[error("{1}")]
     Code(u16, CodeFault),
-    /// Bytes stand behind the whole file.
+    /// Bytes follow the whole file.
     #[error("TrailingBytes")]
     TrailingBytes,
-    /// The name, descriptor or flags of this member may not be (§4.5, §4.6); fields count first, then methods.
+    /// The name, descriptor or flags of this member may not be so (§4.5, §4.6). Fields are counted first, then methods.
     #[error("BadMember")]
     BadMember(u32),
-    /// This number is none of an entry of the kind that is asked for there.
+    /// No entry of the kind that is asked for stands at this number.
     #[error("BadLink")]
     BadLink(u16),
     /// The nest attributes may not be so (§4.7.28, §4.7.29).

@@ -1,8 +1,8 @@
 //! A whole class file (JVMS SE 17 §4).
 //!
-//! What a class file is, and why bytes are none, stands in `specs/`, in reading order: `Layouts`, `CodeAttributes`,
-//! `Parts`, `Conditions`, `Shown`, `ClassFiles`, `Faults`, over the constant pools of jl_pool and the codes
-//! of jl_code. What is read is the class file of jl_class.
+//! `specs/` says what a class file is, and why bytes are none. In reading order: `Layouts`, `CodeAttributes`, `Parts`,
+//! `Conditions`, `Shown`, `ClassFiles`, `Faults`. They rest on the constant pools of jl_pool and the codes of jl_code.
+//! What is read is the class file of jl_class.
 #![tactic(auto)]
 
 mod body;

@@ -1,4 +1,4 @@
-//! The class, its superclass and its superinterfaces: what the numbers behind the pool name.
+//! The class, its superclass and its superinterfaces: what the numbers after the pool name.
 
 ghost use Rattle.std.specs.Prelude.{◌≡◌, All, OnOk, IfErr};
 ghost use Rattle.std.specs.List.{AllByRecursion};

@@ -63,7 +63,7 @@ fn field_fits(pool: &Pool, field: &Member<'_>) -> bool
     }
 }
 
-/// Whether a method may be called so: `<` and `>` stand in `<init>` and `<clinit>` alone (§4.2.2).
+/// Whether this may be the name of a method: `<` and `>` stand in `<init>` and `<clinit>` alone (§4.2.2).
 #[tactic(auto, unfolding(crate::specs::ForProofs::Members::form_of))]
 fn is_method_name(name: &[u8], form: Form) -> bool
     requires { form ≡ form_of name.now }
@@ -119,7 +119,7 @@ fn method_fits(pool: &Pool, interface: bool, method: &Member<'_>) -> bool
     }
 }
 
-/// The first attribute that is called so, and those behind it.
+/// The first attribute of this name, and those after it.
 pub fn first_called<'a>(
     pool: &Pool,
     name: &[u8],
@@ -139,7 +139,7 @@ pub fn first_called<'a>(
     None
 }
 
-/// Whether two attributes or more are called so.
+/// Whether two attributes or more have this name.
 fn are_two_called(pool: &Pool, name: &[u8], attributes: &Attributes<'_>) -> bool
     ensures { MatchBool result (2 ≤ length (attributes_of pool.now name.now attributes.now)) (length (attributes_of pool.now name.now attributes.now) ≤ 1) }
 {
@@ -149,7 +149,7 @@ fn are_two_called(pool: &Pool, name: &[u8], attributes: &Attributes<'_>) -> bool
     }
 }
 
-/// Tests a field, behind so many others.
+/// Tests a field. `place` says how many fields come before it.
 fn check_field(pool: &Pool, place: u32, field: &Member<'_>) -> Result<(), ClassFault>
     ensures ok { OnOk result (FieldTested pool.now field.now) }
     ensures fault { IfErr result (IsFieldFault pool.now place field.now) }
@@ -163,7 +163,8 @@ fn check_field(pool: &Pool, place: u32, field: &Member<'_>) -> Result<(), ClassF
     Ok(())
 }
 
-/// Tests a method, behind so many members and methods; `twin` tells whether it is an earlier one again.
+/// Tests a method. `place` says how many members come before it, `index` how many methods, and `twin` whether it has the name
+/// and the descriptor of an earlier one.
 fn check_method(
     pool: &Pool,
     interface: bool,
@@ -202,7 +203,8 @@ fn check_fields(pool: &Pool, fields: &[Member<'_>]) -> Result<(), ClassFault>
     Ok(())
 }
 
-/// Tests the methods behind so many fields, one after another; the first that is an earlier one again is known.
+/// Tests the methods, one after another. `fields` says how many fields come before them, and `twin` which is the first that has
+/// the name and the descriptor of an earlier one.
 fn check_methods(
     pool: &Pool,
     interface: bool,

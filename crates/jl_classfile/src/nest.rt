@@ -19,7 +19,7 @@ pub const NEST_HOST: &[u8] = b"NestHost";
 /// The name of the attribute that holds a class's nest members (§4.7.29).
 pub const NEST_MEMBERS: &[u8] = b"NestMembers";
 
-/// The numbers of the nest host and of the nest members of a class, where its attributes give them (JVMS SE 17
+/// The numbers of the nest host and of the nest members of a class, if its attributes give them (JVMS SE 17
 /// §4.7.28, §4.7.29).
 #[derive(Drop)]
 pub struct NestNumbers {
@@ -27,7 +27,7 @@ pub struct NestNumbers {
     pub members: Option<Seq<u16>>,
 }
 
-/// The bytes of the one attribute that is called so, if there is one.
+/// The bytes of the one attribute of this name, if there is one.
 fn only_called<'a>(
     pool: &Pool,
     name: &[u8],
@@ -36,16 +36,16 @@ fn only_called<'a>(
     ensures ok { IfOk result (λ only. IsOnly (attributes_of pool.now name.now attributes.now) (option_map (λ info. info.now) only)) }
     ensures fault { IfErr result (λ f. (f ≡ BadNest) × (2 ≤ length (attributes_of pool.now name.now attributes.now))) }
 {
-    let Some((attribute, behind)) = first_called(pool, name, attributes) else {
+    let Some((attribute, later)) = first_called(pool, name, attributes) else {
         return Ok(None);
     };
-    if first_called(pool, name, &behind).is_some() {
+    if first_called(pool, name, &later).is_some() {
         return Err(ClassFault::BadNest);
     }
     Ok(Some(attribute.info.as_bytes()))
 }
 
-/// The number that a NestHost holds, where it is a class's.
+/// The number that a NestHost holds, if it is a class's.
 fn host_in(pool: &Pool, info: &[u8]) -> Option<u16>
     ensures { MatchOption result ((n : ℕ) → ¬ IsHost pool.now info.now n) (IsHost pool.now info.now) }
 {

@@ -76,7 +76,7 @@ fn code_fault(method: u16, fault: CodeFault) -> ClassFault
     }
 }
 
-/// Adds the invocations of a method, none where it has no code.
+/// Adds the invocations of a method, or none if it has no code.
 fn add_sites(
     pool: &Pool,
     index: u16,
@@ -87,7 +87,7 @@ fn add_sites(
     ensures ok { OnOk result (SitesAdded pool.now method.now sites.old.items sites.new.items) }
     ensures fault { IfErr result (IsMethodFault pool.now index method.now) }
 {
-    let Some((attribute, _behind)) = first_called(pool, CODE, &method.attributes) else {
+    let Some((attribute, _after)) = first_called(pool, CODE, &method.attributes) else {
         return Ok(());
     };
     let Some(code) = code_in(attribute.info.as_bytes()) else {
@@ -99,7 +99,7 @@ fn add_sites(
     }
 }
 
-/// The class name at a number, kept, and nothing where there is none.
+/// The class name at a number, kept; the empty name if there is none.
 fn kept_class(alloc: Global, pool: &Pool, number: u16) -> Result<Name, AllocError>
     ensures { IfOk result (λ name. name ≡ name_or_nothing pool.now number) }
 {
@@ -268,7 +268,7 @@ fn pool_at<'a>(
     Ok((major, pool, &rest[used..]))
 }
 
-/// The major version, the pool and what stands behind it, where nothing comes after.
+/// The major version, the pool and what follows it, if nothing comes after that.
 fn laid_at<'a>(
     alloc: Global,
     newest: u16,
@@ -277,8 +277,8 @@ fn laid_at<'a>(
     ensures ok { IfOk result (λ x. Lies newest bytes.now x.0 x.1 x.2) }
     ensures fault { IfErr result (λ f. f ≢ Memory → IsFaultUpTo newest bytes.now f) }
 {
-    let (major, pool, behind) = pool_at(alloc, newest, bytes)?;
-    let (body, rest) = body_at(alloc, behind)?;
+    let (major, pool, later) = pool_at(alloc, newest, bytes)?;
+    let (body, rest) = body_at(alloc, later)?;
     if !rest.is_empty() {
         return Err(ClassFault::TrailingBytes);
     }
@@ -297,10 +297,18 @@ pub fn read_class(alloc: Global, bytes: &[u8]) -> Result<ClassFile, ClassFault>
 /// [`NEWEST_OF_17`](crate::NEWEST_OF_17) is read as that one. Up to [`NEWEST_KNOWN`](crate::NEWEST_KNOWN) the editions say the same of all that
 /// is read; of later versions nothing is known.
 ///
-/// An error is that of the first pass that fails: `TooLarge`; `Truncated`, `BadMagic` or `BadVersion` for the first eight bytes (§4.1);
-/// `Pool` (§4.4); `Truncated` or `TrailingBytes` for the rest; `ModuleFile`, `BadLink` or `BadSuper` for the class and its superclasses
-/// (§4.1); `BadLink`, `BadMember`, `DuplicateMethod` or `TwoCodes` for fields and methods (§4.5, §4.6); `BadLink` or `BadNest` for the
-/// class's attributes (§4.7.28, §4.7.29); `Code` for the codes (§4.7.3). Or it is `Memory`.
+/// # Errors
+///
+/// `Memory`, or that of the first pass that fails:
+///
+/// - `TooLarge`: the size.
+/// - `Truncated`, `BadMagic` or `BadVersion`: the first eight bytes (§4.1).
+/// - `Pool`: the constant pool (§4.4).
+/// - `Truncated` or `TrailingBytes`: the layout of the rest.
+/// - `ModuleFile`, `BadLink` or `BadSuper`: the class and its superclasses (§4.1).
+/// - `BadLink`, `BadMember`, `DuplicateMethod` or `TwoCodes`: fields and methods (§4.5, §4.6).
+/// - `BadLink` or `BadNest`: the class's attributes (§4.7.28, §4.7.29).
+/// - `Code`: the codes (§4.7.3).
 pub fn read_class_up_to(alloc: Global, newest: u16, bytes: &[u8]) -> Result<ClassFile, ClassFault>
     ensures ok { IfOk result (λ file. (p : Parts) × IsClassUpTo newest bytes.now p × (file ≡ shown p)) }
     ensures fault { IfErr result (λ f. f ≢ Memory → IsFaultUpTo newest bytes.now f) }
@@ -318,9 +326,11 @@ pub fn one_class()
     ensures { (bytes : List ℕ) (p q : Parts) → IsClass bytes p → IsClass bytes q → p ≡ q }
 {}
 
-/// Another newest version changes nothing but which files are refused for their version. A class file up to one version is the same one up
-/// to each later version, and up to each earlier one that its own version isn't above. Up to an earlier version than its own it has the fault
-/// `BadVersion`, and no other. Up to whichever versions, bytes are one class file at most, and a class file has no fault.
+/// Another newest version changes nothing but which files are refused for their version:
+///
+/// - A class file up to one version is the same one up to each later version, and up to each earlier one that isn't below its own.
+/// - Up to a version below its own it has the fault `BadVersion`, and no other.
+/// - Up to whichever versions, bytes are one class file at most, and a class file has no fault.
 pub fn later_versions_change_nothing()
     ensures later { (newest later : ℕ) (bytes : List ℕ) (p : Parts) → newest ≤ later → IsClassUpTo newest bytes p → IsClassUpTo later bytes p }
     ensures earlier { (newest later : ℕ) (bytes : List ℕ) (p : Parts) → p.layout.major ≤ newest → IsClassUpTo later bytes p → IsClassUpTo newest bytes p }

@@ -74,7 +74,7 @@ fn signatures_of(alloc: Global, methods: &[Member<'_>]) -> Result<Vec<(u16, u16)
     )
 }
 
-/// What the text that stands at a number of a pool makes of a print: the same print, if no text stands there.
+/// The print that the text at a number of a pool makes of a print. If no text stands there, it is that print itself.
 fn print_onto(before: u64, pool: &Pool, number: u16) -> u64
     ensures { result ≡ print_onto before (text_at pool.now number) }
 {
@@ -84,7 +84,7 @@ fn print_onto(before: u64, pool: &Pool, number: u16) -> u64
     }
 }
 
-/// The prints of the names and descriptors of methods, in order: the same for methods that share both.
+/// The print of the name and the descriptor of each method, in order. Methods that share both have equal prints.
 fn prints_of(alloc: Global, pool: &Pool, methods: &[Member<'_>]) -> Result<Vec<u64>, ClassFault>
     ensures ok { IfOk result (λ prints. prints.items ≡ map (print_of pool.now) methods.now) }
     ensures fault { IfErr result (λ f. f ≡ Memory) }
@@ -117,7 +117,7 @@ pub fn first_twin(
     if methods.len() < 2 {
         return Ok(None);
     }
-    // Equal texts have equal prints, so the texts are looked at only where two prints are equal.
+    // Equal texts have equal prints, so the texts are looked at only if two prints are equal.
     if are_distinct(prints_of(alloc, pool, methods)?) {
         return Ok(None);
     }

@@ -114,15 +114,15 @@ clash_false : (b : Bool) → b ≡ true → ¬ IsFalse b
 clash_false true e = λ f. absurd cc
 clash_false false e = absurd cc
 
--- what is left behind instructions is the instructions behind them
-record Behind (p : Pool) (pc : ℕ) (left : List ℕ) : Type 0 where
+-- what is left after instructions is the instructions after them
+record Later (p : Pool) (pc : ℕ) (left : List ℕ) : Type 0 where
   more : List Instruction
   text : left ≡ code_bytes more
   stand : MayStandFrom pc more
   fit : AllByRecursion (OperandFits p) more
 
-behind : (p : Pool) (bytes : List ℕ) (is js : List Instruction) (pc : ℕ) (left : List ℕ) → IsCode p bytes is → Runs bytes js pc left → Behind p pc left
-behind p bytes is js pc left h r =
+later : (p : Pool) (bytes : List ℕ) (is js : List Instruction) (pc : ℕ) (left : List ℕ) → IsCode p bytes is → Runs bytes js pc left → Later p pc left
+later p bytes is js pc left h r =
     let f = runs_front p bytes is js pc left h r in
     let here : 0 + length (code_bytes js) ≡ pc = omega (arith, r.place) in
     record {
@@ -134,16 +134,16 @@ behind p bytes is js pc left h r =
 
 pub no_scan : (p : Pool) (bytes : List ℕ) (is : List Instruction) (f : CodeFault) → IsCode p bytes is → f ≢ code.Memory → ¬ IsScanFault p bytes f
 no_scan p bytes is (code.BadOpcode pc) h m = λ x.
-    let b = behind p bytes is x.0 pc x.1 h x.2 in
+    let b = later p bytes is x.0 pc x.1 h x.2 in
     clash_false (begins_opcode x.1) (front_begins x.1 b.more pc b.text b.stand) x.3
 no_scan p bytes is (code.BadSwitch pc) h m = λ x.
-    let b = behind p bytes is x.0 pc x.1 h x.2 in
+    let b = later p bytes is x.0 pc x.1 h x.2 in
     no_bad_switch pc x.1 b.more b.text b.stand x.4
 no_scan p bytes is (code.CutShort pc) h m = λ x.
-    let b = behind p bytes is x.0 pc x.1 h x.2 in
+    let b = later p bytes is x.0 pc x.1 h x.2 in
     no_cut pc x.1 b.more b.text b.stand x.3 x.6
 no_scan p bytes is (code.BadOperand pc) h m = λ x.
-    let b = behind p bytes is x.0 pc (instruction_text x.1 ++ x.2) h x.3 in
+    let b = later p bytes is x.0 pc (instruction_text x.1 ++ x.2) h x.3 in
     no_operand p pc x.1 x.2 b.more b.text b.stand x.4 b.fit x.5
 no_scan p bytes is code.BadLayout h m = λ x. x
 no_scan p bytes is code.Memory h m = λ x. m refl

@@ -1,4 +1,4 @@
--- Instructions of a fixed length, and behind a wide.
+-- Instructions of a fixed length, and those after a wide.
 use Rattle.std.proofs.Common.{◌≡◌, ◌≢◌, ℕ, ◌<◌, ◌^◌, true, false, List, [], ◌∷◌, ◌++◌, length, Option, Some, None, Result, refl, sym, ap}
 use Rattle.std.proofs.Common.{subst, ◌∙◌, append_assoc}
 use Rattle.jl_code.specs.declared.instruction.Instruction.TheVariants.{Plain, Wide, Invoke}
@@ -102,7 +102,7 @@ fixed_no_switch opcode bytes = by_tables opcode bytes (stopped Switch)
     (λ count row e. let clash : Switch ≡ Cut = or_cut-err (plain_at opcode count bytes) Switch e in cc)
     (λ o t e. let clash : stopped Opcode ≡ stopped Switch = e in cc)
 
--- ---- behind a wide
+-- ---- after a wide
 
 pub wide_again : (opcode : ℕ) (operands rest : List ℕ) → operands_in wide_opcodes opcode ≡ Some (length operands)
     → wide_at (opcode ∷ (operands ++ rest)) ≡ found (Wide opcode operands, rest)

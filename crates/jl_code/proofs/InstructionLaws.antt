@@ -55,12 +55,12 @@ pub instruction_takes : (pc : ℕ) (bytes : List ℕ) (x : Read) → IsBytes byt
 unfolding instruction_at
 instruction_takes pc [] x fits e = absurd (let clash : stopped Cut ≡ found x = e in cc)
 instruction_takes pc (opcode ∷ bytes) x fits e =
-    let behind = IsBytes-rest opcode bytes fits in
-    by_first (λ first. Spelled pc (first ∷ bytes) x.0 x.1) pc opcode bytes (found x) (table_takes pc bytes x behind) (look_up_takes pc bytes x behind)
-    (wide_takes pc bytes x behind)
-    (λ fixed. fixed_takes pc opcode bytes x behind) e
+    let later = IsBytes-rest opcode bytes fits in
+    by_first (λ first. Spelled pc (first ∷ bytes) x.0 x.1) pc opcode bytes (found x) (table_takes pc bytes x later) (look_up_takes pc bytes x later)
+    (wide_takes pc bytes x later)
+    (λ fixed. fixed_takes pc opcode bytes x later) e
 
--- ---- where none stands
+-- ---- where no instruction stands
 
 -- a switch whose numbers are there and can't be is found
 pub bad_again : (pc : ℕ) (left : List ℕ) → IsBadSwitch pc left → instruction_at pc left ≡ Err Switch
@@ -87,9 +87,9 @@ pub instruction_unknown : (pc : ℕ) (bytes : List ℕ) → IsBytes bytes → in
 unfolding instruction_at
 instruction_unknown pc [] fits e = absurd (let clash : stopped Cut ≡ stopped Opcode = e in cc)
 instruction_unknown pc (opcode ∷ bytes) fits e =
-    let behind = IsBytes-rest opcode bytes fits in
-    by_first (λ first. begins_opcode (first ∷ bytes) ≡ false) pc opcode bytes (stopped Opcode) (λ t. absurd (table_no_opcode pc bytes behind t))
-    (λ l. absurd (look_up_no_opcode pc bytes behind l)) (wide_unknown bytes)
+    let later = IsBytes-rest opcode bytes fits in
+    by_first (λ first. begins_opcode (first ∷ bytes) ≡ false) pc opcode bytes (stopped Opcode) (λ t. absurd (table_no_opcode pc bytes later t))
+    (λ l. absurd (look_up_no_opcode pc bytes later l)) (wide_unknown bytes)
     (fixed_unknown opcode bytes) e
 
 pub record IsStopped (pc : ℕ) (left : List ℕ) : Type 0 where
@@ -100,9 +100,9 @@ pub instruction_bad : (pc : ℕ) (bytes : List ℕ) → IsBytes bytes → instru
 unfolding instruction_at
 instruction_bad pc [] fits e = absurd (let clash : stopped Cut ≡ stopped Switch = e in cc)
 instruction_bad pc (opcode ∷ bytes) fits e =
-    let behind = IsBytes-rest opcode bytes fits in
+    let later = IsBytes-rest opcode bytes fits in
     by_first (λ first. IsStopped pc (first ∷ bytes)) pc opcode bytes (stopped Switch)
-    (λ t. record { begins = begins_table bytes; switch = table_bad pc bytes behind t })
-    (λ l. record { begins = begins_look_up bytes; switch = look_up_bad pc bytes behind l })
+    (λ t. record { begins = begins_table bytes; switch = table_bad pc bytes later t })
+    (λ l. record { begins = begins_look_up bytes; switch = look_up_bad pc bytes later l })
     (λ w. absurd (wide_no_switch bytes w))
     (λ fixed f. absurd (fixed_no_switch opcode bytes f)) e

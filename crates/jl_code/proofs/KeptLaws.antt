@@ -1,4 +1,4 @@
--- What a scan keeps of the invocations, behind what was there.
+-- What a scan keeps of the invocations, after what was there.
 use Rattle.std.proofs.Common.{◌≡◌, ℕ, ◌-◌, true, eqb, List, [], ◌∷◌, ◌++◌, length, Option, Some, Ok, refl, sym, ap, subst}
 use Rattle.std.proofs.Common.{◌∙◌, append_assoc}
 use Rattle.std.specs.Prelude.{option_to_list, take, ◌==◌}
@@ -39,7 +39,7 @@ kept_both pool xs ys a b h k = record { named = both_named pool xs ys h.named k.
 
 pub record KeptSoFar (pool : Pool) (code rest : List ℕ) (before now : List KeptSite) : Type 0 where
   pub made : List KeptSite
-  pub behind : now ≡ before ++ made
+  pub later : now ≡ before ++ made
   pub sites : List Site
   pub kept : IsKeptOf pool made sites
   pub scanned : Scanned pool code rest sites
@@ -47,7 +47,7 @@ pub record KeptSoFar (pool : Pool) (code rest : List ℕ) (before now : List Kep
 pub KeptSoFar-none : (pool : Pool) (code : List ℕ) (before : List KeptSite) → IsBytes code → KeptSoFar pool code code before before
 KeptSoFar-none pool code before fits = record {
   made = [];
-  behind = sym (append-nil before);
+  later = sym (append-nil before);
   sites = [];
   kept = kept_none pool;
   scanned = Scanned-none pool code fits;
@@ -59,7 +59,7 @@ pub KeptSoFar-more : (pool : Pool) (code rest after : List ℕ) (before now : Li
     → OperandFits pool i × IsKeptOf pool (option_to_list site) (site_at pool at i) → KeptSoFar pool code after before (now ++ option_to_list site)
 KeptSoFar-more pool code rest after before now at i site place s e found = record {
   made = s.made ++ option_to_list site;
-  behind = ap (λ (l : List KeptSite). l ++ option_to_list site) s.behind ∙ append_assoc before s.made (option_to_list site);
+  later = ap (λ (l : List KeptSite). l ++ option_to_list site) s.later ∙ append_assoc before s.made (option_to_list site);
   sites = s.sites ++ site_at pool at i;
   kept = kept_both pool s.made (option_to_list site) s.sites (site_at pool at i) s.kept found.1;
   scanned = Scanned-more pool code rest after s.sites at i place s.scanned e found.0;
@@ -69,7 +69,7 @@ pub KeptSoFar-done : (pool : Pool) (code rest : List ℕ) (before now : List Kep
     → (is : List Instruction) × IsCode pool code is × Adds pool before now (sites_from pool 0 is)
 KeptSoFar-done pool code rest before now s none =
     let d = Scanned-done pool code rest s.sites s.scanned none in
-    (d.0, d.1, record { made = s.made; behind = s.behind; kept = subst (λ (l : List Site). IsKeptOf pool s.made l) d.2 s.kept })
+    (d.0, d.1, record { made = s.made; later = s.later; kept = subst (λ (l : List Site). IsKeptOf pool s.made l) d.2 s.kept })
 
 -- ---- what was there is left
 

@@ -6,7 +6,7 @@ use Rattle.jl_code.specs.Known.{plain_opcodes, wide_opcodes, invoke_rows}
 use Rattle.jl_code.specs.Instructions.{operands_in, tail_in}
 use Rattle.jl_code.specs.Faults.{is_opcode, begins_opcode}
 
--- an opcode of which something holds is none of which it doesn't
+-- an opcode that has a row isn't one that has none
 is_not : {X : Type 0} (row : ℕ → Option X) (opcode n : ℕ) (x : X) → row opcode ≡ Some x → row n ≡ None → eqb opcode n ≡ false
 is_not row opcode n x there none = ne_eqb opcode n (λ e. absurd (let clash : Some x ≡ None = sym there ∙ ap row e ∙ none in cc))
 

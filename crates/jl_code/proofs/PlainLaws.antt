@@ -16,7 +16,7 @@ use Rattle.jl_pool.specs.Pools.{Pool}
 use Rattle.jl_code.specs.Known.{plain_opcodes}
 use Rattle.jl_code.specs.Instructions.{instruction_text, operands_in}
 use Rattle.jl_code.specs.Codes.{code_bytes}
-use Rattle.jl_code.specs.ForProofs.Plain.{plain_length, IsPlain, IsBehindPlain}
+use Rattle.jl_code.specs.ForProofs.Plain.{plain_length, IsPlain, IsAfterPlain}
 use Rattle.jl_code.proofs.InstructionLaws.{instruction_again}
 use Rattle.jl_code.proofs.CodeLaws.{Scanned, Scanned-more}
 use Rattle.jl_code.proofs.KeptLaws.{KeptSoFar}
@@ -30,7 +30,7 @@ entry_of opcode h = ap (λ t. get_or t opcode 0) table ∙ get_or-map-range_with
 -- ---- one, and one after another
 
 stands_by : (opcode : ℕ) (bytes : List ℕ) (row : Option ℕ) (n : ℕ) → operands_in plain_opcodes opcode ≡ row → n ≡ option_map_or (λ k. k + 1) row 0
-    → n ≢ 0 → n ≤ length (opcode ∷ bytes) → IsBehindPlain (opcode ∷ bytes) (drop n (opcode ∷ bytes))
+    → n ≢ 0 → n ≤ length (opcode ∷ bytes) → IsAfterPlain (opcode ∷ bytes) (drop n (opcode ∷ bytes))
 stands_by opcode bytes None n row e some fits = absurd (some e)
 stands_by opcode bytes (Some k) n row e some fits = rw (let up : n ≡ suc k = omega (arith, e) in up) (record {
   is = Plain opcode (take k bytes) ∷ [];
@@ -38,11 +38,11 @@ stands_by opcode bytes (Some k) n row e some fits = rw (let up : n ≡ suc k = o
   plain = (row ∙ ap (λ (m : ℕ). Some m) (let few : k ≤ length bytes = omega (arith, e, fits) in sym (length-take-le k bytes few)), tt);
 })
 
-pub stands : (bytes : List ℕ) (n : ℕ) → n ≡ plain_length (get_or bytes 0 0) → n ≢ 0 → n ≤ length bytes → IsBehindPlain bytes (drop n bytes)
+pub stands : (bytes : List ℕ) (n : ℕ) → n ≡ plain_length (get_or bytes 0 0) → n ≢ 0 → n ≤ length bytes → IsAfterPlain bytes (drop n bytes)
 stands [] n e some fits = absurd (some (omega (arith, fits)))
 stands (opcode ∷ bytes) n e some fits = stands_by opcode bytes (operands_in plain_opcodes opcode) n refl e some fits
 
-pub more_skipped : (a b c : List ℕ) → IsBehindPlain a b → IsBehindPlain b c → IsBehindPlain a c
+pub more_skipped : (a b c : List ℕ) → IsAfterPlain a b → IsAfterPlain b c → IsAfterPlain a c
 more_skipped a b c h k = record {
   is = h.is ++ k.is;
   bytes_are =
@@ -51,7 +51,7 @@ more_skipped a b c h k = record {
   plain = All-both IsPlain h.is k.is h.plain k.plain;
 }
 
-pub no_longer : (a b : List ℕ) → IsBehindPlain a b → length b ≤ length a
+pub no_longer : (a b : List ℕ) → IsAfterPlain a b → length b ≤ length a
 no_longer a b h = omega (arith, ap length h.bytes_are, length-append (code_bytes h.is) b)
 
 -- ---- a scan over them
@@ -60,22 +60,22 @@ plain_scanned : (pool : Pool) (code rest : List ℕ) (sites : List Site) (is : L
     → Scanned pool code (code_bytes is ++ rest) sites → Scanned pool code rest sites
 plain_scanned pool code rest sites [] h s = s
 plain_scanned pool code rest sites (Plain opcode operands ∷ is) h s =
-    let behind = code_bytes is ++ rest in
-    let here : Scanned pool code (instruction_text (Plain opcode operands) ++ behind) sites =
+    let later = code_bytes is ++ rest in
+    let here : Scanned pool code (instruction_text (Plain opcode operands) ++ later) sites =
     subst (λ (x : List ℕ). Scanned pool code x sites) (append_assoc (instruction_text (Plain opcode operands)) (code_bytes is) rest) s
     in
-    let at = length code - length (instruction_text (Plain opcode operands) ++ behind) in
-    let one = Scanned-more pool code (instruction_text (Plain opcode operands) ++ behind) behind sites at (Plain opcode operands) refl here
-    (instruction_again at (Plain opcode operands) behind h.0) tt
+    let at = length code - length (instruction_text (Plain opcode operands) ++ later) in
+    let one = Scanned-more pool code (instruction_text (Plain opcode operands) ++ later) later sites at (Plain opcode operands) refl here
+    (instruction_again at (Plain opcode operands) later h.0) tt
     in
-    plain_scanned pool code rest sites is h.1 (subst (λ (l : List Site). Scanned pool code behind l) (append-nil sites) one)
+    plain_scanned pool code rest sites is h.1 (subst (λ (l : List Site). Scanned pool code later l) (append-nil sites) one)
 plain_scanned pool code rest sites (_ ∷ is) h s = absurd h.0
 
-pub KeptSoFar-plain : (pool : Pool) (code rest after : List ℕ) (before now : List KeptSite) → KeptSoFar pool code rest before now → IsBehindPlain rest after
+pub KeptSoFar-plain : (pool : Pool) (code rest after : List ℕ) (before now : List KeptSite) → KeptSoFar pool code rest before now → IsAfterPlain rest after
     → KeptSoFar pool code after before now
 KeptSoFar-plain pool code rest after before now s h = record {
   made = s.made;
-  behind = s.behind;
+  later = s.later;
   sites = s.sites;
   kept = s.kept;
   scanned = plain_scanned pool code after s.sites h.is h.plain (subst (λ (x : List ℕ). Scanned pool code x s.sites) h.bytes_are s.scanned);

@@ -15,7 +15,7 @@ use Rattle.jl_class.specs.Operands.{operand_at}
 use Rattle.jl_class.specs.Special.{begins_special}
 use Rattle.jl_code.specs.Faults.{is_opcode, begins_opcode}
 
--- ---- how many bytes stand behind each opcode
+-- ---- how many bytes follow each opcode
 
 -- of the opcodes 0 to 201, each; of those that have a length of their own, and of the five invocations, nothing
 abbrev operand_counts : List (Option ℕ)
@@ -41,7 +41,7 @@ operand_counts =
 fixed_lengths : map (operands_in plain_opcodes) (range_with_len 0 256) ≡ operand_counts ++ replicate 54 None
 fixed_lengths = refl
 
--- behind the two bytes of the number
+-- after the two bytes of the number
 invocation_lengths : map (tail_in invoke_rows) (range_with_len 0 256)
     ≡ replicate 182 None ++ (Some 0 ∷ Some 0 ∷ Some 0 ∷ Some 2 ∷ Some 2 ∷ []) ++ replicate 69 None
 invocation_lengths = refl
@@ -72,7 +72,7 @@ wide_begins : map (λ b. begins_opcode (196 ∷ b ∷ [])) (21 ∷ 58 ∷ 132 �
     ≡ true ∷ true ∷ true ∷ true ∷ false ∷ false ∷ false ∷ false ∷ false ∷ false ∷ false ∷ []
 wide_begins = refl
 
--- nothing is said of what ends behind wide, and of no byte
+-- nothing is said of what ends after a wide, and of no byte
 wide_alone : begins_opcode (196 ∷ []) ≡ true
 wide_alone = refl
 
@@ -81,7 +81,7 @@ no_byte = refl
 
 -- ---- switches
 
--- at each of the four places behind a multiple of 4: what makes the default begin at one
+-- at each of the four places from a multiple of 4 on: what makes the default begin at one
 padded_at_0 : Pads (0 ∷ 0 ∷ 0 ∷ []) 0
 padded_at_0 = record { few = omega arith; aligned = refl }
 
@@ -183,8 +183,8 @@ slots : map most_slots (182 ∷ 183 ∷ 184 ∷ 185 ∷ 186 ∷ []) ≡ 254 ∷ 
 slots = refl
 
 -- of two slots: the count of invokeinterface has the receiver's
-behind : map (λ opcode. tail_of opcode 2) (182 ∷ 183 ∷ 184 ∷ 185 ∷ 186 ∷ []) ≡ [] ∷ [] ∷ [] ∷ (3 ∷ 0 ∷ []) ∷ (0 ∷ 0 ∷ []) ∷ []
-behind = refl
+later : map (λ opcode. tail_of opcode 2) (182 ∷ 183 ∷ 184 ∷ 185 ∷ 186 ∷ []) ≡ [] ∷ [] ∷ [] ∷ (3 ∷ 0 ∷ []) ∷ (0 ∷ 0 ∷ []) ∷ []
+later = refl
 
 invocation_text : instruction_text (Invoke 185 0x102 (3 ∷ 0 ∷ [])) ≡ 185 ∷ 1 ∷ 2 ∷ 3 ∷ 0 ∷ []
 invocation_text = refl

@@ -6,6 +6,7 @@ use Rattle.std.specs.Option.{option_map_or, option_and_then}
 use Rattle.std.specs.Str.{bytes_eq}
 use Rattle.std.proofs.lemmas.Bool.Decides.{nat_tests}
 use Rattle.std.proofs.lemmas.Slice.Eq.{bytes_eq-Decides}
+use Rattle.std.proofs.lemmas.Bool.{and_parts}
 use Rattle.jl_names.specs.MethodTypes.{TakesSlots}
 use Rattle.jl_pool.specs.declared.constant.Constant.{Constant}
 use Rattle.jl_pool.specs.declared.constant.Constant.TheVariants.{Methodref, InterfaceMethodref, InvokeDynamic}
@@ -19,7 +20,7 @@ use Rattle.jl_code.specs.Codes.{operand_name, operand_type, may_name, most_slots
 use Rattle.jl_class.specs.Operands.{either_operand}
 use Rattle.jl_pool.specs.ForProofs.Forms.{method_slots}
 use Rattle.jl_code.specs.ForProofs.Sites.{may_name_tag, fits, signed_fits, names_method, is_invoked_of, is_invoked}
-use Rattle.jl_pool.proofs.FormLaws.{and_true, SlotsAre, method_slots-is, one_slots}
+use Rattle.jl_pool.proofs.FormLaws.{SlotsAre, method_slots-is, one_slots}
 
 -- ---- tests
 
@@ -56,8 +57,8 @@ module _ (pool : Pool) (opcode number : ℕ) (tail : List ℕ) where
   invokes c o is may there e =
       let row = mapped (λ row. list_any (λ t. t == tag c) row.tags) (invoke_row_in invoke_rows opcode) may in
       let counted = mapped (fits opcode tail (operand_name o)) (method_slots (operand_type o)) e in
-      let named = and_true (may_name opcode (operand_name o)) (nat_le counted.0 (most_slots opcode) && bytes_eq tail (tail_of opcode counted.0)) counted.2 in
-      let few = and_true (nat_le counted.0 (most_slots opcode)) (bytes_eq tail (tail_of opcode counted.0)) named.1 in
+      let named = and_parts (may_name opcode (operand_name o)) (nat_le counted.0 (most_slots opcode) && bytes_eq tail (tail_of opcode counted.0)) counted.2 in
+      let few = and_parts (nat_le counted.0 (most_slots opcode)) (bytes_eq tail (tail_of opcode counted.0)) named.1 in
       record {
         row = row.0;
         found = row.1;
@@ -68,7 +69,7 @@ module _ (pool : Pool) (opcode number : ℕ) (tail : List ℕ) where
         slots = counted.0;
         counted = takes_found (operand_type o) (method_slots (operand_type o)) counted.0 (method_slots-is (operand_type o)) counted.1;
         few = below counted.0 (most_slots opcode) few.0;
-        behind = (bytes_eq-Decides tail (tail_of opcode counted.0)).0 few.1;
+        later = (bytes_eq-Decides tail (tail_of opcode counted.0)).0 few.1;
       }
 
   method_named : (itf : Bool) (owner : Option (List ℕ)) (s : Option Signed) → (is_some owner && signed_fits opcode tail s) ≡ true
@@ -85,13 +86,13 @@ module _ (pool : Pool) (opcode number : ℕ) (tail : List ℕ) where
 
   of_constant : (c : Constant) → constant_at pool number ≡ Some c → is_invoked_of pool opcode tail c ≡ true → Invokes pool opcode number tail
   of_constant (Methodref owner nt) is e =
-      let may = and_true (may_name_tag opcode 10) (names_method pool opcode tail owner nt) e in
+      let may = and_parts (may_name_tag opcode 10) (names_method pool opcode tail owner nt) e in
       let m = method_named false (class_text_at pool owner) (signed_at pool nt) may.1 in invokes (Methodref owner nt) m.0 is may.0 m.1 m.2
   of_constant (InterfaceMethodref owner nt) is e =
-      let may = and_true (may_name_tag opcode 11) (names_method pool opcode tail owner nt) e in
+      let may = and_parts (may_name_tag opcode 11) (names_method pool opcode tail owner nt) e in
       let m = method_named true (class_text_at pool owner) (signed_at pool nt) may.1 in invokes (InterfaceMethodref owner nt) m.0 is may.0 m.1 m.2
   of_constant (InvokeDynamic bootstrap nt) is e =
-      let may = and_true (may_name_tag opcode 18) (signed_fits opcode tail (signed_at pool nt)) e in
+      let may = and_parts (may_name_tag opcode 18) (signed_fits opcode tail (signed_at pool nt)) e in
       let k = call_site_named bootstrap (signed_at pool nt) may.1 in invokes (InvokeDynamic bootstrap nt) k.0 is may.0 k.1 k.2
   of_constant _ is e = absurd cc
 
@@ -105,7 +106,7 @@ module _ (pool : Pool) (opcode number : ℕ) (tail : List ℕ) where
       found_takes (operand_type h.operand) (method_slots (operand_type h.operand)) h.slots (method_slots-is (operand_type h.operand))
       (let most = few_most opcode in omega (arith, most, h.few)) h.counted
       in
-      let tail_same : bytes_eq tail (tail_of opcode h.slots) ≡ true = (bytes_eq-Decides tail (tail_of opcode h.slots)).1 h.behind in
+      let tail_same : bytes_eq tail (tail_of opcode h.slots) ≡ true = (bytes_eq-Decides tail (tail_of opcode h.slots)).1 h.later in
       let few : nat_le h.slots (most_slots opcode) ≡ true = above h.slots (most_slots opcode) h.few in
       let may : may_name opcode (operand_name h.operand) ≡ true = h.named in
       rw (slots, may, few, tail_same) refl

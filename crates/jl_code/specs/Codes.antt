@@ -59,15 +59,15 @@ operand_type (CallSite c) = c.ty
 abbrev pub may_name : ℕ → List ℕ → Bool
 may_name opcode name = not (begins_special name) || ((opcode == 183) && bytes_eq name (codes "<init>"))
 
--- the bytes behind the number: invokeinterface tells the slots with the receiver's and a zero, invokedynamic two zeros
+-- the bytes after the number: those of invokeinterface are the slots with the receiver's and a zero, those of invokedynamic two zeros
 abbrev pub tail_of : ℕ → ℕ → List ℕ
 tail_of opcode slots = if opcode == 185 then (slots + 1) ∷ 0 ∷ [] else (if opcode == 186 then 0 ∷ 0 ∷ [] else [])
 
--- a receiver takes one of 255 slots
+-- the most slots of parameters: a receiver takes one of 255
 abbrev pub most_slots : ℕ → ℕ
 most_slots opcode = if (opcode == 184) || (opcode == 186) then 255 else 254
 
--- what an invocation names, and the bytes behind it
+-- what an invocation names, and the bytes after the number of it
 pub record Invokes (pool : Pool) (opcode number : ℕ) (tail : List ℕ) : Type 0 where
   pub row : InvokeRow
   pub found : invoke_row_in invoke_rows opcode ≡ Some row
@@ -78,7 +78,7 @@ pub record Invokes (pool : Pool) (opcode number : ℕ) (tail : List ℕ) : Type 
   pub slots : ℕ
   pub counted : TakesSlots (operand_type operand) slots
   pub few : slots ≤ most_slots opcode
-  pub behind : tail ≡ tail_of opcode slots
+  pub later : tail ≡ tail_of opcode slots
 
 abbrev pub OperandFits : Pool → Instruction → Type 0
 OperandFits pool (Invoke opcode number tail) = Invokes pool opcode number tail

@@ -25,7 +25,7 @@ begins_opcode [] = true
 begins_opcode (b ∷ []) = is_opcode b
 begins_opcode (b ∷ c ∷ rest) = is_opcode b && (not (b == 196) || is_some (operands_in wide_opcodes c))
 
--- a switch stands there as far as the numbers that give its size, and they can't be
+-- a switch stands there up to the numbers that give its size, and these can't be
 abbrev pub IsBadSwitch : ℕ → List ℕ → Type 0
 IsBadSwitch pc left = (padding : List ℕ) × (default : ℕ) × (rest : List ℕ) × Pads padding pc
     × (((low : ℕ) × (high : ℕ) × (left ≡ 170 ∷ (padding ++ (u4 default ++ (u4 low ++ (u4 high ++ rest))))) × (low < 2 ^ 32) × (high < 2 ^ 32)

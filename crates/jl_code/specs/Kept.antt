@@ -11,8 +11,8 @@ pub record IsKeptOf (pool : Pool) (kept : List KeptSite) (sites : List Site) : T
   pub named : list_all (is_named pool) kept ≡ true
   pub shown : map (site_in pool) kept ≡ sites
 
--- what is kept of the invocations is added behind what was there
+-- what is kept of the invocations is added after what was there
 pub record Adds (pool : Pool) (before after : List KeptSite) (sites : List Site) : Type 0 where
   pub made : List KeptSite
-  pub behind : after ≡ before ++ made
+  pub later : after ≡ before ++ made
   pub kept : IsKeptOf pool made sites

@@ -39,11 +39,11 @@ plain_opcodes =
     ∷ opcodes 200 201 4
     ∷ []
 
--- behind a wide (196)
+-- after a wide (196)
 abbrev pub wide_opcodes : List Opcodes
 wide_opcodes = opcodes 21 25 2 ∷ opcodes 54 58 2 ∷ opcodes 169 169 2 ∷ opcodes 132 132 4 ∷ []
 
--- invocations: the opcode, the tags of what it may name, and how many bytes come behind the number
+-- invocations: the opcode, the tags of what it may name, and how many bytes come after the number
 pub record InvokeRow : Type 0 where
   pub opcode : ℕ
   pub tags : List ℕ

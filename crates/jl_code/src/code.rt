@@ -18,7 +18,7 @@ ghost use Rattle.jl_code.specs.ForProofs.Sites.{may_name_tag, signed_fits, names
 
 use crate::code_fault::CodeFault;
 use crate::instruction::{Instruction, Stop, instruction_at};
-use crate::plain::behind_plain;
+use crate::plain::after_plain;
 use jl_class::{KeptSite, Kind, begins_special};
 use jl_pool::{Constant, Pool};
 
@@ -48,7 +48,8 @@ fn may_name_tag(opcode: u8, tag: u8) -> bool
     }
 }
 
-/// Whether an invocation may name this: a name that begins with `<` only as `<init>` by invokespecial.
+/// Whether an invocation may name something of this name. Of the names that begin with `<` only `<init>` may be named, by
+/// invokespecial.
 fn may_name(opcode: u8, name: &[u8]) -> bool
     ensures { result ≡ may_name opcode name.now }
 {
@@ -66,8 +67,8 @@ fn most_slots(opcode: u8) -> u8
     }
 }
 
-/// Whether the bytes behind the number are as they have to be: invokeinterface tells the slots with the receiver's,
-/// and a zero; invokedynamic has two zeros.
+/// Whether the bytes after the number are as they have to be. invokeinterface tells the slots with the receiver's, and then
+/// has a zero. invokedynamic has two zeros. The others have no such bytes.
 fn tail_fits(opcode: u8, slots: u8, tail: &[u8]) -> bool
     ensures { result ≡ bytes_eq tail.now (tail_of opcode slots) }
 {
@@ -91,7 +92,7 @@ fn slots_at(pool: &Pool, number: u16) -> Option<u8>
     }
 }
 
-/// Whether an invocation may name something of the name and type at a number, with these bytes behind its own number.
+/// Whether an invocation may name something of the name and type at a number, with these bytes after its own number.
 fn signed_fits(pool: &Pool, opcode: u8, number: u16, tail: &[u8]) -> bool
     ensures { result ≡ signed_fits opcode tail.now (signed_at pool.now number) }
 {
@@ -115,7 +116,7 @@ fn names_method(pool: &Pool, opcode: u8, owner: u16, signed: u16, tail: &[u8]) -
     pool.class_text(owner).is_some() && signed_fits(pool, opcode, signed, tail)
 }
 
-/// Whether an invocation may name what the entry at a number names, with these bytes behind the number.
+/// Whether an invocation may name what the entry at a number names, with these bytes after the number.
 fn is_invoked(pool: &Pool, opcode: u8, number: u16, tail: &[u8]) -> bool
     ensures { result ≡ is_invoked pool.now opcode number tail.now }
 {
@@ -133,7 +134,7 @@ fn is_invoked(pool: &Pool, opcode: u8, number: u16, tail: &[u8]) -> bool
     }
 }
 
-/// The site of an instruction, where it is an invocation.
+/// The site of an instruction, if it is an invocation.
 fn site_of(
     pool: &Pool,
     pc: u16,
@@ -155,11 +156,19 @@ fn site_of(
     }
 }
 
-/// The invocations of a code (JVMS SE 17 §4.7.3, §4.9), in order, each at its place in bytes from the code's start. What is kept of them
-/// is added to these; an error adds nothing. The code takes fewer than 65,536 bytes, as a Code attribute has. Where instructions end
-/// before the place that it names, an error is `BadOpcode` where no instruction begins so, `BadSwitch` where a switch's bounds or number
-/// of pairs can't be, `CutShort` where the bytes end within the instruction, and `BadOperand` where an invocation may not name what it
-/// names; or want of memory. `BadLayout` is none of them.
+/// Adds to `sites` what is kept of the invocations of a code (JVMS SE 17 §4.7.3, §4.9), in order, each at its place in bytes from the
+/// code's start. The code takes fewer than 65,536 bytes, as a Code attribute has.
+///
+/// # Errors
+///
+/// An error adds nothing. It is `Memory`, or one of these, which tells the place up to which there are whole instructions:
+///
+/// - `BadOpcode`: no instruction begins so.
+/// - `BadSwitch`: the bounds or the number of pairs of a switch can't be.
+/// - `CutShort`: the bytes end within the instruction.
+/// - `BadOperand`: the invocation may not name what it names.
+///
+/// It is never `BadLayout`.
 pub fn scan(code: &[u8], pool: &Pool, sites: &mut Vec<KeptSite>) -> Result<(), CodeFault>
     requires { length code.now < 2 ^ 16 }
     ensures ok { OnOk result ((is : List Instruction) × IsCode pool.now code.now is
@@ -177,15 +186,15 @@ pub fn scan(code: &[u8], pool: &Pool, sites: &mut Vec<KeptSite>) -> Result<(), C
     }
 }
 
-/// The same; an error may have added some.
+/// Adds to `sites` what is kept of the invocations of a code, as `scan` does. An error may have added some.
 fn scan_onto(code: &[u8], pool: &Pool, sites: &mut Vec<KeptSite>) -> Result<(), CodeFault>
     requires { length code.now < 2 ^ 16 }
     ensures ok { OnOk result ((is : List Instruction) × IsCode pool.now code.now is
         × Adds pool.now sites.old.items sites.new.items (sites_from pool.now 0 is)) }
     ensures fault { IfErr result (IsScanFault pool.now code.now) }
-    ensures behind { (made : List KeptSite) × (sites.new.items ≡ sites.old.items ++ made) }
+    ensures later { (made : List KeptSite) × (sites.new.items ≡ sites.old.items ++ made) }
 {
-    let mut rest = behind_plain(code);
+    let mut rest = after_plain(code);
     while !rest.is_empty() {
         let pc = (code.len() - rest.len()) as u16;
         match instruction_at(pc, rest) {
@@ -193,7 +202,7 @@ fn scan_onto(code: &[u8], pool: &Pool, sites: &mut Vec<KeptSite>) -> Result<(), 
                 if let Some(site) = site_of(pool, pc, &instruction)? {
                     sites.push(site)?;
                 }
-                rest = behind_plain(after);
+                rest = after_plain(after);
             }
             Err(Stop::Cut) => return Err(CodeFault::CutShort(pc)),
             Err(Stop::Opcode) => return Err(CodeFault::BadOpcode(pc)),

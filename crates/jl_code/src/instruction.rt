@@ -15,9 +15,9 @@ use jl_pool::{bytes_at, u2_at, u4_at};
 pub enum Instruction<'a> {
     /// An opcode and its operand bytes.
     Plain(u8, Text<'a>),
-    /// The same behind a wide.
+    /// An opcode and its operand bytes, after a wide.
     Wide(u8, Text<'a>),
-    /// An invocation: its opcode, the number of what it names, and the bytes behind that.
+    /// An invocation: its opcode, the number of what it names, and the bytes after that.
     Invoke(u8, u16, Text<'a>),
     /// The padding, default, low and high, and the offsets.
     TableSwitch(Text<'a>, u32, u32, u32, Text<'a>),
@@ -50,7 +50,7 @@ fn operand_count(opcode: u8) -> Option<u8>
     }
 }
 
-/// How many bytes an invocation has behind the number of what it names.
+/// How many bytes an invocation has after the number of what it names.
 fn tail_count(opcode: u8) -> Option<u8>
     ensures { result ≡ tail_in invoke_rows opcode }
 {
@@ -61,7 +61,7 @@ fn tail_count(opcode: u8) -> Option<u8>
     }
 }
 
-/// An invocation behind its opcode, and what comes after it.
+/// An invocation, read from the bytes after its opcode; and what comes after it.
 fn invocation_at(opcode: u8, tail: u8, bytes: &[u8]) -> Option<(Instruction<'_>, &[u8])>
     ensures { Finds (λ x. (x.0, x.1.now)) result (invocation_at opcode tail bytes.now) }
 {
@@ -70,7 +70,7 @@ fn invocation_at(opcode: u8, tail: u8, bytes: &[u8]) -> Option<(Instruction<'_>,
     Some((Instruction::Invoke(opcode, number, Text::of(tail)), rest))
 }
 
-/// An instruction of a fixed length behind its opcode, and what comes after it.
+/// An instruction of a fixed length, read from the bytes after its opcode; and what comes after it.
 fn plain_at(opcode: u8, count: u8, bytes: &[u8]) -> Option<(Instruction<'_>, &[u8])>
     ensures { Finds (λ x. (x.0, x.1.now)) result (plain_at opcode count bytes.now) }
 {
@@ -78,7 +78,7 @@ fn plain_at(opcode: u8, count: u8, bytes: &[u8]) -> Option<(Instruction<'_>, &[u
     Some((Instruction::Plain(opcode, Text::of(operands)), rest))
 }
 
-/// An instruction that is no switch and no wide, behind its opcode, and what comes after it.
+/// An instruction that is no switch and no wide, read from the bytes after its opcode; and what comes after it.
 #[tactic(auto, unfolding(crate::specs::ForProofs::Instructions::fixed_at))]
 fn fixed_at(opcode: u8, bytes: &[u8]) -> Result<(Instruction<'_>, &[u8]), Stop>
     ensures { Gives (λ x. (x.0, x.1.now)) result (fixed_at opcode bytes.now) }
@@ -92,7 +92,7 @@ fn fixed_at(opcode: u8, bytes: &[u8]) -> Result<(Instruction<'_>, &[u8]), Stop>
     }
 }
 
-/// An instruction behind a wide, and what comes after it.
+/// The instruction that follows a wide, and what comes after it.
 #[tactic(auto, unfolding(crate::specs::ForProofs::Instructions::wide_at))]
 fn wide_at(bytes: &[u8]) -> Result<(Instruction<'_>, &[u8]), Stop>
     ensures { Gives (λ x. (x.0, x.1.now)) result (wide_at bytes.now) }
@@ -112,7 +112,8 @@ fn wide_at(bytes: &[u8]) -> Result<(Instruction<'_>, &[u8]), Stop>
     Ok((Instruction::Wide(opcode, Text::of(operands)), rest))
 }
 
-/// The padding of a switch up to a multiple of 4 from the code's start, its default, and low or the number of pairs, and what comes after them.
+/// The padding of a switch up to a multiple of 4 from the code's start, its default, and low or the number of pairs; and what comes
+/// after them.
 #[tactic(auto, unfolding(crate::specs::ForProofs::Instructions::head_at, crate::specs::ForProofs::Instructions::padding_at))]
 fn head_at(pc: u16, bytes: &[u8]) -> Option<((Text<'_>, u32, u32), &[u8])>
     ensures { Finds (λ x. (x.0, x.1.now)) result (head_at pc bytes.now) }
@@ -134,7 +135,7 @@ fn from_least(bits: u32) -> u32
     }
 }
 
-/// A tableswitch behind its opcode, and what comes after it.
+/// A tableswitch, read from the bytes after its opcode; and what comes after it.
 #[tactic(auto, unfolding(crate::specs::ForProofs::Instructions::table_switch_at))]
 fn table_switch_at(pc: u16, bytes: &[u8]) -> Result<(Instruction<'_>, &[u8]), Stop>
     ensures { Gives (λ x. (x.0, x.1.now)) result (table_switch_at pc bytes.now) }
@@ -158,7 +159,7 @@ fn table_switch_at(pc: u16, bytes: &[u8]) -> Result<(Instruction<'_>, &[u8]), St
     Ok((switch, rest))
 }
 
-/// A lookupswitch behind its opcode, and what comes after it.
+/// A lookupswitch, read from the bytes after its opcode; and what comes after it.
 #[tactic(auto, unfolding(crate::specs::ForProofs::Instructions::lookup_switch_at))]
 fn lookup_switch_at(pc: u16, bytes: &[u8]) -> Result<(Instruction<'_>, &[u8]), Stop>
     ensures { Gives (λ x. (x.0, x.1.now)) result (lookup_switch_at pc bytes.now) }

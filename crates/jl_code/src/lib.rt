@@ -1,7 +1,6 @@
 //! The instructions of a code, and its invocations (JVMS SE 17 §4.7.3, §4.9, §6.5).
 //!
-//! What a code is, and why bytes are none, stands in `specs/`, in reading order: `Known`, `Instructions`, `Codes`,
-//! `Faults`.
+//! `specs/` says what a code is, and why bytes are none. In reading order: `Known`, `Instructions`, `Codes`, `Faults`.
 #![tactic(auto)]
 
 mod code;

@@ -1,9 +1,9 @@
 //! Plain instructions: of a fixed length, and no invocations.
 
 ghost use Rattle.std.specs.Prelude.{◌≡◌, ◌+◌, ◌<◌, length, IfSome};
-ghost use Rattle.jl_code.specs.ForProofs.Plain.{plain_length, IsBehindPlain};
+ghost use Rattle.jl_code.specs.ForProofs.Plain.{plain_length, IsAfterPlain};
 
-/// How many bytes a plain instruction takes, by its opcode (JVMS SE 17 §6.5), and 0 where none has it.
+/// How many bytes a plain instruction takes, by its opcode (JVMS SE 17 §6.5); 0 if no plain instruction has the opcode.
 static LENGTHS: [u8; 256] = [
     1, 1, 1, 1, 1, 1, 1, 1, 1, 1, 1, 1, 1, 1, 1, 1, 2, 3, 2, 3, 3, 2, 2, 2, 2, 2, 1, 1, 1, 1, 1, 1,
     1, 1, 1, 1, 1, 1, 1, 1, 1, 1, 1, 1, 1, 1, 1, 1, 1, 1, 1, 1, 1, 1, 2, 2, 2, 2, 2, 1, 1, 1, 1, 1,
@@ -15,23 +15,23 @@ static LENGTHS: [u8; 256] = [
     0, 0, 0, 0, 0, 0, 0, 0, 0, 0, 0, 0, 0, 0, 0, 0, 0, 0, 0, 0, 0, 0, 0, 0, 0, 0, 0, 0, 0, 0, 0, 0,
 ];
 
-/// How many bytes a plain instruction of this opcode takes, and 0 where none has it.
+/// How many bytes a plain instruction of this opcode takes; 0 if no plain instruction has it.
 fn plain_length(opcode: u8) -> u8
     ensures { result ≡ plain_length opcode }
 {
     LENGTHS[usize::from(opcode)]
 }
 
-/// What stands behind the plain instruction at the front, where one stands there whole.
-fn behind_one(bytes: &[u8]) -> Option<&[u8]>
-    ensures stands { IfSome result (λ rest. IsBehindPlain bytes.now rest.now) }
+/// What follows the plain instruction at the front, if a whole one stands there.
+fn after_one(bytes: &[u8]) -> Option<&[u8]>
+    ensures stands { IfSome result (λ rest. IsAfterPlain bytes.now rest.now) }
     ensures shorter { IfSome result (λ rest. length rest.now < length bytes.now) }
 {
     let [opcode, after @ ..] = bytes else {
         return None;
     };
     let length = plain_length(*opcode);
-    // Most take one byte. A branch that is foreseen is gone on behind, where a length that is looked up is waited for.
+    // Most take one byte. A branch that is foreseen needs no wait, while a length that is looked up has to be waited for.
     if length == 1 {
         return Some(after);
     }
@@ -42,13 +42,13 @@ fn behind_one(bytes: &[u8]) -> Option<&[u8]>
     Some(&bytes[length..])
 }
 
-/// What stands behind the plain instructions at the front, none or more.
-pub(crate) fn behind_plain(bytes: &[u8]) -> &[u8]
-    ensures { IsBehindPlain bytes.now result.now }
+/// What follows the plain instructions at the front, none or more.
+pub(crate) fn after_plain(bytes: &[u8]) -> &[u8]
+    ensures { IsAfterPlain bytes.now result.now }
 {
     let mut rest = bytes;
-    while let Some(behind) = behind_one(rest) {
-        rest = behind;
+    while let Some(later) = after_one(rest) {
+        rest = later;
     }
     rest
 }

@@ -18,14 +18,14 @@ use Rattle.jl_hierarchy.specs.ForProofs.Kept.{HasRoom, HasRoomForOne, Rises, Are
 
 -- ---- one list is changed
 
--- the elements of all lists stay where those of the changed one do
+-- the elements of all lists stay if those of the changed one do
 pub same_lists : (below : List (Vec ℕ Global)) (i : ℕ) (d v : Vec ℕ Global) → v.items ≡ (get_or below i d).items
     → lists (slice_set below i v) ≡ lists below
 same_lists [] i d v e = refl
 same_lists (x ∷ below) zero d v e = ap (λ (l : List ℕ). l ∷ lists below) e
 same_lists (x ∷ below) (suc i) d v e = ap (λ (ls : List (List ℕ)). x.items ∷ ls) (same_lists below i d v e)
 
--- room where the changed list has some, and elsewhere where there was
+-- the list at c has room, if it is the changed one and that has room, or if it is another and had room
 pub room_set : (below : List (Vec ℕ Global)) (i c : ℕ) (v : Vec ℕ Global) → i < length below → ((i == c) ≡ true → HasRoomForOne v)
     → ((i == c) ≡ false → HasRoom below c) → HasRoom (slice_set below i v) c
 room_set below i c v lt room old d = by_test (i == c) refl
@@ -37,7 +37,7 @@ room_set below i c v lt room old d = by_test (i == c) refl
     by_test false e = subst (λ (w : Vec ℕ Global). HasRoomForOne w)
         (sym (get_or-set_other below i c v d (λ same. both_ways (i == c) e ((Decides-eqb i c).1 (sym same))))) (old e d)
 
--- the lists that were written in place, and one behind them
+-- the lists that were written in place, and one after them
 pub with_own : (n : ℕ) (old new : List (Vec ℕ Global)) (own : Vec ℕ Global) → length new ≡ n
     → lists (take n (new ++ drop (length new) old) ++ own ∷ []) ≡ lists new ++ own.items ∷ []
 with_own n old new own e =
@@ -47,11 +47,11 @@ with_own n old new own e =
 
 -- ---- one list more is changed
 
--- what the list at c comes to
+-- the list at c after the change
 abbrev changed : List ℕ → (List ℕ → List ℕ) → List (List ℕ) → ℕ → List ℕ
 changed classes f old c = if list_any (λ k. k == c) classes then f (get_or old c []) else get_or old c []
 
--- what a test over one class more comes to
+-- whether c is among the first n + 1 classes
 has_more : (classes : List ℕ) (n c d : ℕ) → n < length classes
     → list_any (λ k. k == c) (take (n + 1) classes) ≡ (list_any (λ k. k == c) (take n classes) || (get_or classes n d == c))
 has_more classes n c d lt =

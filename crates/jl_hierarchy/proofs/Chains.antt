@@ -11,7 +11,7 @@ use Rattle.jl_types.proofs.Ancestors.{superclasses_is, superclass_below}
 use Rattle.jl_types.proofs.Lists.{element_at}
 
 module _ (cs : Classes) (o : AreOrdered cs.rows) (c : ℕ) where
-  -- a class has its row, where it has a superclass
+  -- a class that has a superclass has its row
   row_of : (s : ℕ) → superclass_of cs c ≡ Some s → (row : Class) × (slice_get cs.rows c ≡ Some row) × (row.superclass ≡ Some s)
   row_of s e = by_row (slice_get cs.rows c) refl e
     where

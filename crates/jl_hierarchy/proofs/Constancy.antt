@@ -120,7 +120,7 @@ adds_receiver cs o loader file c =
     by_test true = refl
     by_test false = append-nil (receivers cs c)
 
--- the same of what the classes are then
+-- what stays, for classes that are equal to those after the definition
 module _ (cs new : Classes) (before : AreInOrder cs) (loader : ℕ) (file : ClassFile) (now : new ≡ defined cs loader file) where
   pub stays_after : Stays cs new
   stays_after = subst (Stays cs) (sym now) (stays_defined cs (record { there = before.there; ordered = before.ordered }) loader file)

@@ -6,10 +6,11 @@ use Rattle.std.specs.Bool.{then_some}
 use Rattle.std.specs.List.{position_or_len, list_any}
 use Rattle.std.specs.Str.{bytes_eq}
 use Rattle.std.proofs.Common.{refl, ap, sym, ◌∙◌, arith}
-use Rattle.jl_types.proofs.Firsts.{test_none, first_none}
+use Rattle.jl_types.proofs.Firsts.{test_none, first_none, first_here, first_later}
 use Rattle.std.proofs.lemmas.Grind.{common_steps}
 use Rattle.std.proofs.lemmas.List.Folds.{find_at}
 use Rattle.std.proofs.lemmas.Option.{slice_get_past}
+use Rattle.std.proofs.lemmas.Bool.{or_parts}
 use Rattle.jl_class.specs.Class.{ClassFile}
 use Rattle.jl_class.specs.Flags.{object}
 use Rattle.jl_types.specs.declared.refusal.DefineFault.{DefineFault}
@@ -25,12 +26,6 @@ use Rattle.jl_hierarchy.specs.declared.faults.FaultAt.TheVariants as found
 use Rattle.jl_hierarchy.specs.ForProofs.Faults.{first_faults, superclass_faults, parent_faults, first_place, fault_of, IsThere}
 use Rattle.jl_hierarchy.specs.ForProofs.Faults.{is_fit_superclass, is_fit_interface, has_unfit_parent}
 use Rattle.jl_hierarchy.proofs.PrintLaws.{none_yet}
-
-first_here : {A : Type 0} (p : A → Bool) (x : A) (xs : List A) → p x ≡ true → position p (x ∷ xs) ≡ Some 0
-first_here p x xs e = grind (arith, common_steps)
-
-first_later : {A : Type 0} (p : A → Bool) (x : A) (xs : List A) → p x ≡ false → position p (x ∷ xs) ≡ option_map (λ n. n + 1) (position p xs)
-first_later p x xs e = grind (arith, common_steps)
 
 -- the first place among the parents
 pub place_is : (p : List ℕ → Bool) (o : Option (List ℕ)) (xs : List (List ℕ))
@@ -54,7 +49,7 @@ first_element p xs = find_at p xs ∙ by_test (nat_lt (position_or_len p xs) (le
 none_at : {A : Type 0} (p : A → Bool) (xs : List A) → position p xs ≡ None → find p xs ≡ None
 none_at p xs e = first_element p xs ∙ ap (option_and_then (slice_get xs)) e
 
--- an element is found where a place is
+-- an element is found exactly if a place is
 as_found : {A : Type 0} (p : A → Bool) (xs : List A) → is_none (find p xs) ≡ is_none (position p xs)
 as_found p [] = refl
 as_found p (x ∷ xs) = by_test (p x) refl (as_found p xs)
@@ -104,16 +99,12 @@ is_fault file (found.Missing i) at = there MissingParent (parent_names file) i a
 is_fault file (found.NoInterface i) at = there NotAnInterface file.interfaces i at
 is_fault file (found.Closed i) at = there InaccessibleParent (parent_names file) i at
 
--- the definition has a fault where one is found
+-- the definition has a fault exactly if one is found
 pub none_where : (most_classes : ℕ) (cs : Classes) (loader : ℕ) (file : ClassFile) (found : Option FaultAt)
     → define_fault most_classes cs loader file ≡ option_and_then (fault_of file) found → IfSome found (IsThere file)
     → is_none found ≡ is_none (define_fault most_classes cs loader file)
 none_where most_classes cs loader file None e at = ap is_none (sym e)
 none_where most_classes cs loader file (Some found) e at = sym (ap is_none e ∙ is_fault file found at)
-
-or_parts : (a b : Bool) → (a || b) ≡ false → (a ≡ false) × (b ≡ false)
-or_parts true b e = cc
-or_parts false b e = (refl, e)
 
 -- what no element passes, of two tests of which the second is weaker
 none_found : {A : Type 0} (p q : A → Bool) → ((x : A) → q x ≡ false → p x ≡ false) → (xs : List A) → list_any q xs ≡ false → position p xs ≡ None
@@ -128,7 +119,7 @@ none_at_all p q weaker (x ∷ xs) e =
     let both = or_parts (q x) (list_any q xs) e in
     ap (λ t. t || list_any p xs) (weaker x both.0) ∙ none_at_all p q weaker xs both.1
 
--- the same of the superclass and the superinterfaces, each with a test of its own
+-- no parent passes p, if the superclass doesn't pass q and no superinterface passes r, which are weaker
 none_of_both : {A : Type 0} (p q r : A → Bool) → ((x : A) → q x ≡ false → p x ≡ false) → ((x : A) → r x ≡ false → p x ≡ false)
     → (o : Option A) (xs : List A) → list_any q (option_to_list o) ≡ false → list_any r xs ≡ false → position p (option_to_list o ++ xs) ≡ None
 none_of_both p q r weaker also None xs e f = none_found p r also xs f
@@ -206,7 +197,7 @@ module _ (cs : Classes) (loader : ℕ) (file : ClassFile) where
   abbrev unfit_interface : List ℕ → Bool
   unfit_interface name = not (is_fit_interface cs loader file name)
 
-  -- where no parent is unfit, none has a fault
+  -- if no parent is unfit, none has a fault
   fit_superclass : (name : List ℕ) → not (is_fit_superclass cs loader file name) ≡ false
       → (is_missing name ≡ false) × (named_test (is_interface cs) cs loader name ≡ false)
       × (named_test (is_final cs) cs loader name ≡ false) × (is_closed name ≡ false)
@@ -269,7 +260,7 @@ third_none None None c rest e = (first_none c rest e).0
 third_none None (Some x) c rest e = cc
 third_none (Some x) b c rest e = cc
 
--- the name is new to the loader where the definition has no fault
+-- the name is new to the loader if the definition has no fault
 pub is_new : (cs : Classes) (loader : ℕ) (file : ClassFile) → MayDefine cs loader file → lookup cs loader file.name ≡ None
 is_new cs loader file free =
     none_yet (lookup cs loader file.name) (test_none (is_some (lookup cs loader file.name)) AlreadyRecorded (third_none

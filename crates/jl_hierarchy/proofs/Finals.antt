@@ -1,4 +1,4 @@
--- No class extends a FINAL one where each came by its definition.
+-- No class extends a FINAL one, if each class came by its definition.
 use Rattle.std.proofs.Common.{◌≡◌, ◌∙◌, sym, ap, subst, refl, arith, inl, inr, eq-or-lt_of_le, ◌⊎◌, ℕ, ◌<◌, ◌==◌, ◌&&◌, ◌||◌, cond, List, []}
 use Rattle.std.proofs.Common.{◌∷◌, ◌++◌, length}
 use Rattle.std.specs.Prelude.{Bool, true, false, not, is_some, is_none, find, filter_map, slice_get, Option, Some, None}
@@ -23,7 +23,7 @@ use Rattle.jl_types.specs.Linkage.Resolution.{first_of}
 use Rattle.jl_types.specs.Events.Definitions.{FINAL, is_final, named_test, parent_names, is_unknown, class_made, defined}
 use Rattle.jl_types.proofs.Firsts.{first_none, test_none}
 use Rattle.jl_types.proofs.Lists.{before_end, at_end}
-use Rattle.jl_types.proofs.Orders.{IsGood, defined_good, none_behind}
+use Rattle.jl_types.proofs.Orders.{IsGood, defined_good, none_after}
 use Rattle.jl_hierarchy.specs.Constancy.{may_be_extended, ExtendNoFinal, MayDefine}
 
 -- ---- the faults that a definition doesn't have
@@ -146,7 +146,7 @@ module _ (cs : Classes) (good : IsGood cs) (free : ExtendNoFinal cs) (loader : �
   still_extended c p row at is =
       let below =
       parent_below c p (parents row) (recursion_from_All (λ q. q < c) (parents row) ((defined_good cs good loader file).ordered c row at)) is in
-      let le = none_behind cs.rows made row c at in
+      let le = none_after cs.rows made row c at in
       same_extended p (omega arith) ∙ by_place (eq-or-lt_of_le le)
     where
       by_place : (c ≡ n) ⊎ (c < n) → may_be_extended cs p ≡ true

@@ -32,7 +32,7 @@ gone_more gone ls n l lt is =
     ∙ sym (gone_last gone (take n ls) (get_or ls n l))
     ∙ ap (gone_with gone) (sym (take_more ls n l lt))
 
--- a set inserts the same
+-- an insert into the set of loaders adds one loader
 pub inserted : (gone : List ℕ) (l : ℕ) → (if list_any (λ k. l == k) gone then gone else gone ++ l ∷ []) ≡ with_one gone l
 inserted gone l = ap (λ (b : Bool). if b then gone else gone ++ l ∷ []) (any_turned l gone)
 
@@ -41,7 +41,7 @@ inserted_all gone [] = refl
 inserted_all gone (l ∷ ls) =
     inserted_all (if list_any (λ k. l == k) gone then gone else gone ++ l ∷ []) ls ∙ ap (λ (ks : List ℕ). gone_with ks ls) (inserted gone l)
 
--- those that are listed, each once, add the same
+-- to add the listed loaders each once is to add them as they are listed
 pub gone_once : (gone done ls : List ℕ) → gone_with gone (gone_with done ls) ≡ gone_with (gone_with gone done) ls
 gone_once gone done [] = refl
 gone_once gone done (l ∷ ls) = by_test (is_listed done l) refl (gone_once gone done ls) (gone_once gone (done ++ l ∷ []) ls)

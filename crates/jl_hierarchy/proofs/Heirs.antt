@@ -22,7 +22,7 @@ module _ (q p : ℕ → Bool) (later : IsLater q p) where
       by_order (inr (inl less)) = before k less
       by_order (inr (inr more)) = absurd (omega arith)
 
-  -- what is found from a on, where q passes of none before it
+  -- p finds nothing from a on, if q finds nothing there and holds of nothing before a
   pub none_later : (a n : ℕ) → ((k : ℕ) → k < a → q k ≡ false) → find q (range_with_len a n) ≡ None → find p (range_with_len a n) ≡ None
   none_later a zero before e = refl
   none_later a (suc n) before e = by_test (q a) refl e (none_later (a + 1) n)
@@ -70,4 +70,5 @@ pub heirs_are_later : (cs : Classes) (loaders : List ℕ) (loader : ℕ) → IsL
 heirs_are_later cs loaders loader k none = and_right (is_present cs k) _ (and_right (not (is_of_any cs loaders k)) _ (none_above cs (is_of cs loader) k none))
 
 pub heirs_of_any_are_later : (cs : Classes) (loaders : List ℕ) → IsLater (is_of_any cs loaders) (inherits_any cs loaders)
-heirs_of_any_are_later cs loaders k none = and_right (is_present cs k) _ (and_right (not (is_of_any cs loaders k)) _ (none_above cs (is_of_any cs loaders) k none))
+heirs_of_any_are_later cs loaders k none =
+    and_right (is_present cs k) _ (and_right (not (is_of_any cs loaders k)) _ (none_above cs (is_of_any cs loaders) k none))

@@ -16,7 +16,7 @@ use Rattle.jl_types.specs.Values.Ancestry.{IsAncestor, itself, over, superclasse
 use Rattle.jl_types.proofs.Ancestors.{superclass_below, superclasses_is, ancestor_decides}
 use Rattle.jl_types.proofs.Grown.{above, among_ancestors, old_within}
 use Rattle.jl_types.proofs.Lists.{before_end, at_end}
-use Rattle.jl_types.proofs.Orders.{none_behind}
+use Rattle.jl_types.proofs.Orders.{none_after}
 use Rattle.jl_hierarchy.specs.Redeclared.{of_rows, Marked, is_marked, has_method, declares_print, sees_print, line_above, line_from}
 use Rattle.jl_hierarchy.specs.Redeclared.{is_above, is_on, AreMarked, AreLines, IsIndexed, IsTold}
 
@@ -91,7 +91,7 @@ module _ (rows : List Class) (row : Class) (ordered : AreOrdered (rows ++ row �
       by_superclass None is = refl
       by_superclass (Some s) is =
           let below = superclass_below more ordered x r e s is in
-          let last = none_behind rows row r x e in
+          let last = none_after rows row r x e in
           line_stays s (omega arith)
 
   on_there : (s : ℕ) (xs : List ℕ) → AllByRecursion (λ x. x < n) xs → is_on s xs ≡ true → s < n
@@ -151,7 +151,7 @@ module _ (rows : List Class) (row : Class) (ordered : AreOrdered (rows ++ row �
             by_place : (b : Bool) → (d == n) ≡ b → is_marked new s p ≡ true
             by_place true is = by_new s p d ((Decides-eqb d n).0 is) apart below declares sees_it
             by_place false other =
-                by_old s p d (lt_of_le-ne (none_behind rows row r d e) (λ same. both_ways (d == n) other ((Decides-eqb d n).1 same))) apart below declares
+                by_old s p d (lt_of_le-ne (none_after rows row r d e) (λ same. both_ways (d == n) other ((Decides-eqb d n).1 same))) apart below declares
                 sees_it
 
     module _ (proper : List ℕ) (listed : proper ++ n ∷ [] ≡ ancestors more n) (still : still_lines ≡ true → are_superclass_chains ≡ true)
@@ -194,7 +194,7 @@ module _ (rows : List Class) (row : Class) (ordered : AreOrdered (rows ++ row �
       lines_now known x a up plain =
           let ancestor = (ancestor_decides (of_rows more) ordered a x).0 up in
           let r = row_of a ancestor in
-          by_place (above more ordered a ancestor) (none_behind rows row r.0 x r.1) (x == n) refl
+          by_place (above more ordered a ancestor) (none_after rows row r.0 x r.1) (x == n) refl
         where
           by_place : a ≤ x → x ≤ n → (b : Bool) → (x == n) ≡ b → is_subclass (of_rows more) x a ≡ true
           by_place le last true is =

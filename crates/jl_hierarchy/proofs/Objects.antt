@@ -19,7 +19,7 @@ use Rattle.jl_types.specs.Linkage.Resolution.{first_of}
 use Rattle.jl_types.specs.declared.refusal.DefineFault.TheVariants.{UnknownLoader, SecondObject, MissingParent}
 use Rattle.jl_types.proofs.Firsts.{test_none}
 use Rattle.jl_types.proofs.Lists.{before_end, at_end}
-use Rattle.jl_types.proofs.Orders.{none_behind}
+use Rattle.jl_types.proofs.Orders.{none_after}
 use Rattle.jl_hierarchy.specs.Constancy.{has_object, ObjectComesFirst, MayDefine}
 use Rattle.jl_hierarchy.proofs.Constancy.{with_record_stays}
 
@@ -78,9 +78,9 @@ record_apart name other loaders loader d k apart = by_loader (slice_get loaders 
 
 -- ---- and one of that name is found
 
-found_behind : (name : List ℕ) (e : List ℕ × ℕ) (records : List (List ℕ × ℕ)) → bytes_eq e.0 name ≡ true → is_some (recorded name (records ++ e ∷ [])) ≡ true
-found_behind name e [] same = ap (λ (b : Bool). is_some (option_map (λ r. r.1) (cond b (Some e) None))) same
-found_behind name e (r ∷ records) same = by_test (bytes_eq r.0 name) (found_behind name e records same)
+found_after : (name : List ℕ) (e : List ℕ × ℕ) (records : List (List ℕ × ℕ)) → bytes_eq e.0 name ≡ true → is_some (recorded name (records ++ e ∷ [])) ≡ true
+found_after name e [] same = ap (λ (b : Bool). is_some (option_map (λ r. r.1) (cond b (Some e) None))) same
+found_after name e (r ∷ records) same = by_test (bytes_eq r.0 name) (found_after name e records same)
   where
     by_test : (b : Bool) → is_some (recorded name (records ++ e ∷ [])) ≡ true
         → is_some (option_map (λ r. r.1) (cond b (Some r) (find (λ r. bytes_eq r.0 name) (records ++ e ∷ [])))) ≡ true
@@ -90,7 +90,7 @@ found_behind name e (r ∷ records) same = by_test (bytes_eq r.0 name) (found_be
 first_set : (name : List ℕ) (e : List ℕ × ℕ) (loaders : List (List (List ℕ × ℕ))) → 0 < length loaders → bytes_eq e.0 name ≡ true
     → is_some (option_and_then (recorded name) (slice_get (with_record loaders 0 e.0 e.1) 0)) ≡ true
 first_set name e [] lt same = absurd (omega arith)
-first_set name e (records ∷ loaders) lt same = found_behind name e records same
+first_set name e (records ∷ loaders) lt same = found_after name e records same
 
 -- ---- the changes
 
@@ -200,7 +200,7 @@ module _ (cs : Classes) (first : ObjectComesFirst cs) (loader : ℕ) (file : Cla
           before_or_at : (c : ℕ) (o : Option Class) → slice_get new.rows c ≡ o → option_map_or (λ row. has_flag row.file.flags INTERFACE) o false ≡ true
               → (c ≡ length cs.rows) ⊎ (c < length cs.rows)
           before_or_at c None at is = cc
-          before_or_at c (Some row) at is = eq-or-lt_of_le (none_behind cs.rows (class_made cs loader file) row c at)
+          before_or_at c (Some row) at is = eq-or-lt_of_le (none_after cs.rows (class_made cs loader file) row c at)
 
           by_place : (c : ℕ) → is_interface new c ≡ true → (c ≡ length cs.rows) ⊎ (c < length cs.rows) → has_object cs 0 ≡ true
           by_place c is (inr lt) =

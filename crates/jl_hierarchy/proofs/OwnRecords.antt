@@ -77,14 +77,14 @@ found_last : (loaders : List (List (List ℕ × ℕ))) (loader : ℕ) (name : Li
 found_last [] loader name n lt none = absurd (omega arith)
 found_last (records ∷ loaders) zero name n lt none = recorded_last name n records none
 found_last (records ∷ loaders) (suc loader) name n lt none =
-    behind (slice_get loaders loader) refl ∙ found_last loaders loader name n (omega arith) none
+    by_loader (slice_get loaders loader) refl ∙ found_last loaders loader name n (omega arith) none
   where
-    behind : (o : Option (List (List ℕ × ℕ))) → slice_get loaders loader ≡ o
+    by_loader : (o : Option (List (List ℕ × ℕ))) → slice_get loaders loader ≡ o
         → option_and_then (recorded name)
         (slice_get (option_map_or (λ rs. slice_set (records ∷ loaders) (suc loader) (rs ++ (name, n) ∷ [])) o (records ∷ loaders)) (suc loader))
         ≡ option_and_then (recorded name) (slice_get (option_map_or (λ rs. slice_set loaders loader (rs ++ (name, n) ∷ [])) o loaders) loader)
-    behind None e = refl
-    behind (Some rs) e = refl
+    by_loader None e = refl
+    by_loader (Some rs) e = refl
 
 module _ (cs : Classes) (good : IsGood cs) (own : AreRecorded cs) (loader : ℕ) (file : ClassFile) (none : MayDefine cs loader file) where
   abbrev new : Classes

@@ -75,12 +75,12 @@ module _ {X : Type 0} (q t : X → Bool) where
       by_first rest false b e = rest
 
   -- none of those before the place passes the first one
-  found_behind : (n : ℕ) (xs : List X) → ((k : ℕ) (d : X) → k < n → k < length xs → q (get_or xs k d) ≡ false)
+  found_after : (n : ℕ) (xs : List X) → ((k : ℕ) (d : X) → k < n → k < length xs → q (get_or xs k d) ≡ false)
       → find (λ e. q e && t e) (drop n xs) ≡ find (λ e. q e && t e) xs
-  found_behind zero xs none = refl
-  found_behind (suc n) [] none = refl
-  found_behind (suc n) (x ∷ xs) none =
-      found_behind n xs (λ k d lt within. none (suc k) d (omega arith) (omega arith))
+  found_after zero xs none = refl
+  found_after (suc n) [] none = refl
+  found_after (suc n) (x ∷ xs) none =
+      found_after n xs (λ k d lt within. none (suc k) d (omega arith) (omega arith))
       ∙ sym (ap (λ (b : Bool). cond (b && t x) (Some x) (find (λ e. q e && t e) xs)) (none 0 x (omega arith) (omega arith)))
 
   -- none passes it
@@ -173,16 +173,16 @@ module _ (name ty : List ℕ) (ms : List Method) where
   -- those below the print may be left out
   pub found_from_start : (entries : List Printed) (start : ℕ) → AllWithin (λ (e : Printed). e.print < sought) entries 0 start
       → found (drop start entries) ≡ found entries
-  found_from_start entries start below = ap places (found_behind (has_print sought) has_texts start entries others)
+  found_from_start entries start below = ap places (found_after (has_print sought) has_texts start entries others)
     where
       others : (k : ℕ) (d : Printed) → k < start → k < length entries → has_print sought (get_or entries k d) ≡ false
       others k d lt within = let less = below k d (omega arith) lt in ne_eqb (get_or entries k d).print sought (λ e. omega (arith, e, less))
 
-  -- none is found from one on that has another print, where none is below it
-  pub none_behind : (entries rest : List Printed) (start n : ℕ) (d : Printed) → IsNonDecreasingBy (λ (e : Printed). e.print) entries
+  -- none is found from an entry of another print on, if none there is below the sought print
+  pub none_after : (entries rest : List Printed) (start n : ℕ) (d : Printed) → IsNonDecreasingBy (λ (e : Printed). e.print) entries
       → AllWithin (λ (e : Printed). sought ≤ e.print) entries start (length entries) → rest ≡ drop start entries
       → n < length rest → ((get_or rest n d).print ≡ sought → ⊥) → None ≡ found (drop n rest)
-  none_behind entries rest start n d rise others is lt other = sym (ap places (none_found (has_print sought) has_texts (drop n rest) above))
+  none_after entries rest start n d rise others is lt other = sym (ap places (none_found (has_print sought) has_texts (drop n rest) above))
     where
       in_rest : (k : ℕ) (e : Printed) → get_or rest k e ≡ get_or entries (start + k) e
       in_rest k e = ap (λ (xs : List Printed). get_or xs k e) is ∙ get_or-drop start entries k e

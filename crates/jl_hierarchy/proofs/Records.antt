@@ -40,7 +40,7 @@ named_end : {A : Type 0} (entries : List (Vec ℕ A × ℕ)) (e : Vec ℕ A × �
 named_end [] e = refl
 named_end {A = A} (x ∷ entries) e = ap (λ (rs : List (List ℕ × ℕ)). (x.0.items, x.1) ∷ rs) (named_end entries e)
 
--- a name that isn't recorded comes behind the others
+-- a name that isn't recorded comes after the others
 pub new_entry : {A S : Type 0} (m : IndexMap (Vec ℕ A) ℕ S) (key : Vec ℕ A) (v : ℕ) → recorded key.items (named m.entries) ≡ None
     → named (insert_entry (λ k j. bytes_eq k.items j.items) m.entries key v) ≡ named m.entries ++ (key.items, v) ∷ []
 new_entry m key v e =
@@ -59,7 +59,7 @@ module _ (loaders : List (List (List ℕ × ℕ))) (loader : ℕ) (records d : L
   pub none_there : (name : List ℕ) → option_and_then (recorded name) (slice_get loaders loader) ≡ None → recorded name records ≡ None
   none_there name e = sym (ap (option_and_then (recorded name)) there) ∙ e
 
--- ---- the same records once more
+-- ---- copies of the records
 
 -- each entry has the same name and class
 abbrev pub AreCopies : {A : Type 0} → List (Vec ℕ A × ℕ) → List (Vec ℕ A × ℕ) → Type 0

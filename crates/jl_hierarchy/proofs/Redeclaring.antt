@@ -54,7 +54,7 @@ module _ (cs : Classes) (name ty : List ℕ) where
     | inr there ↦ or_left (declares_print cs (print_of name ty) x) (list_any (declares_print cs (print_of name ty)) xs) there
   ]
 
-  -- where the print isn't marked, no proper subclass declares the method
+  -- if the print isn't marked, no proper subclass declares the method
   pub not_redeclared : (marks : Marked) → AreMarked cs.rows marks → (c : ℕ) → sees cs name ty c ≡ true
       → is_marked marks c (print_of name ty) ≡ false → IsNotRedeclared cs name ty c
   not_redeclared marks are c seen unmarked x apart below = elim (by_declared x) [

@@ -1,4 +1,4 @@
--- What the classes keep beside their definition: a means of proof.
+-- Contracts cite `Constancy`, and parts of `Prints`, `Redeclared` and `Retiring`. The rest has means of proof.
 pub mod Constancy
 pub mod Prints
 pub mod Redeclared

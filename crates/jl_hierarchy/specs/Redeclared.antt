@@ -11,7 +11,7 @@ use Rattle.jl_types.specs.Linkage.Resolution.{declared_upward}
 use Rattle.jl_hierarchy.specs.declared.marks.Mark.{Mark}
 use Rattle.jl_hierarchy.specs.Prints.{print_of_method}
 
--- what is said of classes hangs on these alone
+-- classes of these rows: what is said of classes here rests on their rows alone
 abbrev pub of_rows : List Class → Classes
 of_rows rows = record { loaders = []; rows = rows; retired = [] }
 
@@ -34,7 +34,7 @@ is_every every s = get_or every s false
 abbrev pub is_marked : Marked → ℕ → ℕ → Bool
 is_marked marks s p = is_every marks.1 s || is_listed marks.0 s p
 
--- the class or one above it declares such a method
+-- the class or one above it declares a method of this name and descriptor
 abbrev pub sees : Classes → List ℕ → List ℕ → ℕ → Bool
 sees cs name ty s = is_some (declared_upward cs name ty s)
 
@@ -46,7 +46,7 @@ has_method p ms = list_any (λ m. print_of_method m == p) ms
 abbrev pub declares_print : Classes → ℕ → ℕ → Bool
 declares_print cs p c = has_method p (option_map_or (λ r. r.file.methods) (slice_get cs.rows c) [])
 
--- the class or one above it does
+-- the class or one above it declares a method of the print
 abbrev pub sees_print : Classes → ℕ → ℕ → Bool
 sees_print cs p s = list_any (declares_print cs p) (superclasses cs s)
 
@@ -74,7 +74,7 @@ IsRedeclared cs p s = (d : ℕ) × ((d == s) ≡ false) × (is_subclass cs d s �
 abbrev pub AreMarked : List Class → Marked → Type 0
 AreMarked rows marks = (s p : ℕ) → IsRedeclared (of_rows rows) p s → sees_print (of_rows rows) p s ≡ true → is_marked marks s p ≡ true
 
--- the print is told at s by this test, or s had such a subclass before
+-- this test tells the print at s, or a proper subclass of s declares a method of it already
 abbrev pub IsTold : Classes → ℕ → (ℕ → ℕ → Bool) → ℕ → Type 0
 IsTold cs p told s = (told s p ≡ true) ⊎ IsRedeclared cs p s
 
@@ -86,6 +86,6 @@ pub record IsIndexed (rows : List Class) (marks : Marked) (are_superclass_chains
   pub marked : AreMarked rows marks
   pub lines : are_superclass_chains ≡ true → AreLines rows
 
--- no proper subclass of the class declares such a method
+-- no proper subclass of the class declares a method of this name and descriptor
 abbrev pub IsNotRedeclared : Classes → List ℕ → List ℕ → ℕ → Type 0
 IsNotRedeclared cs name ty c = (x : ℕ) → (x == c) ≡ false → is_subclass cs x c ≡ true → declared cs name ty x ≡ None

@@ -12,7 +12,7 @@ is_row_of rows loader c = option_map_or (λ row. row.loader == loader) (slice_ge
 abbrev pub is_row_of_any : List Class → List ℕ → ℕ → Bool
 is_row_of_any rows loaders c = option_map_or (λ row. is_listed loaders row.loader) (slice_get rows c) false
 
--- those that none of the loaders has defined
+-- those of the classes that none of the loaders has defined
 abbrev pub without : List Class → List ℕ → List ℕ → List ℕ
 without rows loaders xs = filter (λ c. not (is_row_of_any rows loaders c)) xs
 
@@ -20,7 +20,7 @@ without rows loaders xs = filter (λ c. not (is_row_of_any rows loaders c)) xs
 abbrev pub own_recorded : List Class → ℕ → List (List ℕ × ℕ) → List ℕ
 own_recorded rows loader records = filter (is_row_of rows loader) (map (λ r. r.1) records)
 
--- the classes that the loader has defined, in the order in which it recorded them; none of a retired one
+-- the classes that the loader has defined, in the order in which it recorded them; a retired loader has none
 abbrev pub own_classes : Classes → ℕ → List ℕ
 own_classes cs loader =
     if is_retired cs loader then [] else option_map_or (own_recorded cs.rows loader) (slice_get cs.loaders loader) []

@@ -23,7 +23,7 @@ impl Model for AncestorList {
 }
 
 impl AncestorList {
-    /// These ancestors, and the class itself. Want of memory is an error.
+    /// These ancestors, and the class itself.
     pub(crate) fn of(
         alloc: Global,
         proper: &[ClassId],

@@ -19,8 +19,8 @@ impl Classes {
         self.above.at(class.number() as usize).as_slice()
     }
 
-    /// Whether the first class is among the ancestors of the second one, as that itself is. A search in the ancestors that
-    /// are kept. A class that isn't there has none.
+    /// Whether the first class is the second one or an ancestor of it, by a search in the ancestors that are kept. A class that
+    /// isn't there has no ancestors.
     pub fn is_ancestor(&self, ancestor: ClassId, class: ClassId) -> bool
         ensures { result ≡ ancestry.is_ancestor self.now ancestor class }
     {
@@ -30,7 +30,7 @@ impl Classes {
         self.ancestors(class).binary_search(&ancestor).is_ok()
     }
 
-    /// The same, but not of a class and itself.
+    /// Whether the first class is an ancestor of the second one, and not that itself.
     pub fn is_proper_ancestor(&self, ancestor: ClassId, class: ClassId) -> bool
         ensures { result ≡ ancestry.is_proper_ancestor self.now ancestor class }
     {
@@ -47,8 +47,8 @@ impl Classes {
         }
     }
 
-    /// The classes that objects may be of which are of the class: those that are neither an interface nor abstract nor retired
-    /// and have it among their ancestors.
+    /// The receivers of the class: the classes that have it among their ancestors, as it has itself, and that are neither an
+    /// interface, nor abstract, nor retired.
     pub fn receivers(&self, class: ClassId) -> &[ClassId]
         requires { class < length self.now.rows }
         ensures { result.now ≡ ancestry.receivers self.now class }

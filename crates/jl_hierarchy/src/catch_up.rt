@@ -7,8 +7,8 @@ use crate::classes::Classes;
 use std::alloc::{AllocError, Global};
 
 impl Classes {
-    /// Adds the class that the other classes have next, whose row both share from then on. Every growth comes before the first
-    /// change, or is it.
+    /// Adds the class that the other classes have next. Both share its row from then on. Every growth comes before the first
+    /// change, or is that change.
     ///
     /// # Errors
     ///

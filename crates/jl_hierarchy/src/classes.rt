@@ -67,7 +67,7 @@ impl Model for Classes {
 }
 
 impl Classes {
-    /// No classes, and loader 0, which has found nothing. Want of memory is an error.
+    /// No classes, and loader 0, which has found nothing.
     pub fn new(alloc: Global) -> Result<Self, AllocError>
         ensures { IfOk result (λ classes. classes ≡ nothing_yet.classes) }
     {
@@ -130,7 +130,7 @@ impl Classes {
         self.loaders.len()
     }
 
-    /// Whether a class of this number was defined, be it retired or not.
+    /// Whether a class of this number was defined. It may be retired.
     pub fn has_class(&self, class: ClassId) -> bool
         ensures { result ≡ members.has_class self.now class }
     {

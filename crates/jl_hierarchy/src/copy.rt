@@ -15,7 +15,8 @@ use std::alloc::{AllocError, Global};
 use std::sync::Arc;
 
 impl Classes {
-    /// The same classes once more. Want of memory is an error.
+    /// A copy of the classes, which shares with them the classes themselves, what loaders have recorded, and the marks. Want of memory
+    /// is an error, and so are too many copies.
     pub fn copy(&self, alloc: Global) -> Result<Classes, AllocError>
         ensures { IfOk result (λ copy. copy ≡ self.now) }
     {
@@ -34,7 +35,7 @@ impl Classes {
     }
 }
 
-/// The same loaders and retired loaders once more. Want of memory is an error.
+/// Copies of the loaders, and a copy of the set of retired ones.
 fn copy_loaders_and_retired(
     alloc: Global,
     loaders: &Vec<Loader>,
@@ -46,7 +47,7 @@ fn copy_loaders_and_retired(
     Ok((loaders, retired.clone()?))
 }
 
-/// The same classes and ancestors once more. Want of memory is an error.
+/// Copies of the list of classes and of the list of their ancestors.
 fn copy_rows_and_ancestors(
     alloc: Global,
     rows: &Paged<Row>,
@@ -58,7 +59,7 @@ fn copy_rows_and_ancestors(
     Ok((rows, above.copy(alloc)?))
 }
 
-/// The same loaders once more. Want of memory is an error.
+/// Copies of the loaders, which share what these have recorded.
 fn copy_loaders(alloc: Global, loaders: &[Loader]) -> Result<Vec<Loader>, AllocError>
     ensures { IfOk result (λ made. made.items ≡ loaders.now) }
 {
@@ -69,7 +70,7 @@ fn copy_loaders(alloc: Global, loaders: &[Loader]) -> Result<Vec<Loader>, AllocE
     Ok(made)
 }
 
-/// The same lists of receivers once more. Want of memory is an error.
+/// Copies of the lists of receivers.
 fn copy_below(alloc: Global, below: &[Receivers]) -> Result<Vec<Receivers>, AllocError>
     ensures { IfOk result (λ made. lists made.items ≡ lists below.now) }
 {

@@ -9,8 +9,8 @@ use crate::name_and_type::NameAndType;
 use jl_types::{Chosen, ClassId, MethodId};
 
 impl Classes {
-    /// The method of the name and the descriptor that are sought of the superinterface of least number, among those that superinterfaces
-    /// of the class declare and that are neither private nor static.
+    /// The method of the sought name and descriptor that a superinterface of the class declares, neither private nor static. Of several
+    /// it is that of the superinterface of least number.
     pub fn first_candidate_by(&self, class: ClassId, sought: &NameAndType<'_>) -> Option<MethodId>
         requires { class < length self.now.rows }
         ensures { result ≡ first_element (candidates self.now sought.now.name sought.now.ty class) }
@@ -23,8 +23,8 @@ impl Classes {
         None
     }
 
-    /// The one maximally-specific superinterface method of the name and the descriptor that are sought that isn't abstract, or that there
-    /// are several or none.
+    /// The maximally-specific superinterface method of the sought name and descriptor that isn't abstract; or that there are several, or
+    /// none.
     pub fn default_by(&self, class: ClassId, sought: &NameAndType<'_>) -> Chosen
         requires { class < length self.now.rows }
         ensures { result ≡ pick (defaults self.now sought.now.name sought.now.ty class) }
@@ -45,7 +45,7 @@ impl Classes {
         }
     }
 
-    /// The method that the ancestor declares, where it is a superinterface of the class and the method is neither private nor
+    /// The method that the ancestor declares, if it is a superinterface of the class and the method is neither private nor
     /// static.
     fn candidate(
         &self,
@@ -65,7 +65,7 @@ impl Classes {
         Some(method)
     }
 
-    /// The candidate that the ancestor declares, where it isn't abstract and no subinterface of the ancestor declares another
+    /// The candidate that the ancestor declares, if it isn't abstract and no subinterface of the ancestor declares another
     /// one.
     fn default_of(
         &self,

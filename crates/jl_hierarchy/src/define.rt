@@ -39,15 +39,15 @@ pub(crate) struct NewClass {
     with_itself: AncestorList,
     /// The receivers of the class: itself or none.
     own: Receivers,
-    /// What is marked of the superclasses. None, where every method is to be marked at each ancestor.
+    /// What is marked of the superclasses. None, if every method is to be marked at each ancestor.
     marks: Option<Vec<Mark>>,
     /// Whether each ancestor that isn't an interface is one of the superclasses.
     is_line: bool,
 }
 
 impl Classes {
-    /// The loader defines the class of the file, which gets the next number (JVMS SE 17 §5.3.5), if there are fewer than
-    /// `most_classes` so far. The classes that are there stay as they are, and what is known of them; the new one comes last among the
+    /// The loader defines the class of the file (JVMS SE 17 §5.3.5), if there are fewer than `most_classes` so far. The class gets
+    /// the next number. The other classes stay as they are, and so does what is known of them. The new one comes last among the
     /// receivers of its ancestors.
     ///
     /// # Errors
@@ -78,8 +78,8 @@ impl Classes {
         }
     }
 
-    /// The loader defines the class of a file that it may define, the second half of [`define`](Classes::define). Every
-    /// growth comes before the first change, or is it.
+    /// The loader defines the class of a file that it may define: the second half of [`define`](Classes::define). Every
+    /// growth comes before the first change, or is that change.
     ///
     /// # Errors
     ///
@@ -106,7 +106,7 @@ impl Classes {
         Ok(class)
     }
 
-    /// Adds the class of the row, which its loader may define. Every growth comes before the first change, or is it.
+    /// Adds the class of the row, which its loader may define. Every growth comes before the first change, or is that change.
     ///
     /// # Errors
     ///
@@ -136,7 +136,7 @@ impl Classes {
         Ok(class)
     }
 
-    /// What a class adds, which its loader makes of its file. Want of memory is an error.
+    /// What the class of the row adds, which its loader makes of its file.
     fn new_class(&self, alloc: Global, row: Row) -> Result<NewClass, AllocError>
         requires { row ≡ definitions.class_made self.now row.loader row.file }
         ensures { IfOk result (IsNewClass self.now row) }
@@ -161,11 +161,11 @@ impl Classes {
     }
 }
 
-/// Adds the class behind the others, and its loader records it. Every growth comes before the first change, or is it.
+/// Adds the class after the others, and its loader records it. Every growth comes before the first change, or is that change.
 ///
 /// # Errors
 ///
-/// Want of memory. Nothing has changed then, but that more may be marked.
+/// Want of memory. Nothing has changed then, except that more may be marked.
 fn add_all(
     alloc: Global,
     loaders: &mut Vec<Loader>,
@@ -195,11 +195,11 @@ fn add_all(
     Ok(())
 }
 
-/// All that can fail where the class is added: makes room for it, marks what it marks, and at last its loader records it.
+/// Does all that can fail when the class is added: makes room for it, marks what it marks, and at last lets its loader record it.
 ///
 /// # Errors
 ///
-/// Want of memory. Nothing has changed then, but that there may be more room, and more may be marked.
+/// Want of memory. Nothing has changed then, except that there may be more room, and more may be marked.
 fn make_ready(
     alloc: Global,
     loaders: &mut Vec<Loader>,
@@ -239,8 +239,7 @@ fn make_ready(
     record_in(loaders, loader, name, new_class.class)
 }
 
-/// Makes room for one class more: for its row, its ancestors and its receivers, and in the list of each of these. Want of
-/// memory is an error.
+/// Makes room for one class more: for its row, its ancestors and its receivers, and in the list of each class that gets it as a receiver.
 fn reserve_all(
     alloc: Global,
     rows: &mut Paged<Row>,
@@ -264,7 +263,7 @@ fn reserve_all(
     Ok(())
 }
 
-/// Adds a class behind the others, all of which have room for it.
+/// Adds a class after the others. There is room for it everywhere.
 fn push_all(
     rows: &mut Paged<Row>,
     above: &mut Paged<AncestorList>,

@@ -30,7 +30,7 @@ impl Classes {
     ///
     /// # Errors
     ///
-    /// `Full` where there are so many loaders already, else want of memory. Nothing has changed then.
+    /// `Full` if there are so many loaders already; else want of memory. Nothing has changed then.
     pub fn new_loader(&mut self, alloc: Global, most_loaders: u32) -> Result<LoaderId, LoaderFault>
         requires { most_loaders ≤ 2 ^ 20 }
         ensures number { IfOk result (λ loader. loader ≡ length self.old.loaders) }
@@ -58,7 +58,7 @@ impl Classes {
         self.loaders.len() >= most_loaders as usize
     }
 
-    /// A new loader, which has found nothing, by its number, where there are fewer than 2^20: the second half of
+    /// A new loader, which has found nothing, by its number. There have to be fewer than 2^20 so far. This is the second half of
     /// [`new_loader`](Classes::new_loader).
     ///
     /// # Errors
@@ -105,8 +105,8 @@ impl Classes {
         }
     }
 
-    /// The loader finds the class that the other one has recorded under the name, from now on, where nothing speaks against it:
-    /// the second half of [`delegate`](Classes::delegate).
+    /// The loader finds the class that the other one has recorded under the name, from now on. Nothing may speak against it. This
+    /// is the second half of [`delegate`](Classes::delegate).
     ///
     /// # Errors
     ///

@@ -17,8 +17,8 @@ use jl_class::{ClassFile, FINAL, INTERFACE, PUBLIC, has_flag};
 use jl_names::{Name, package_of};
 use jl_types::{Class, DefineFault, LoaderId};
 
-/// A fault of a definition, where a parent stands for its name: by its place among the superclass, if there is one, and the
-/// superinterfaces behind it.
+/// A fault of a definition, which tells a parent not by its name but by its place among the parents: the superclass, if there is
+/// one, and then the superinterfaces.
 #[derive(Drop)]
 enum FaultAt {
     /// One that names no parent.
@@ -32,9 +32,11 @@ enum FaultAt {
 }
 
 impl Classes {
-    /// The file of a class that the loader may define (JVMS SE 17 §5.3.5), where there may be so many classes: the first half of
-    /// [`define`](Classes::define), for a caller that makes room of its own between the two. Takes no memory. It finds each parent
-    /// once by its name, where the class has no fault.
+    /// The file, if the loader may define its class (JVMS SE 17 §5.3.5) and there are fewer than `most_classes` so far. Takes no
+    /// memory.
+    ///
+    /// This is the first half of [`define`](Classes::define), for a caller that makes room of its own between the two. If the class
+    /// has no fault, each parent is looked up only once by its name.
     ///
     /// # Errors
     ///
@@ -64,8 +66,8 @@ impl Classes {
         }
     }
 
-    /// Whether the loader may define the class of the file, where there may be so many classes, for a caller that keeps the file:
-    /// what [`admitted`](Classes::admitted) says of a file that it takes. Takes no memory.
+    /// Whether the loader may define the class of the file and there are fewer than `most_classes` so far. It is what
+    /// [`admitted`](Classes::admitted) tells, for a caller that keeps the file. Takes no memory.
     pub fn admits(&self, loader: LoaderId, file: &ClassFile, most_classes: u32) -> bool
         ensures { result ≡ is_none (definitions.define_fault most_classes self.now loader file.now) }
     {
@@ -89,7 +91,7 @@ impl Classes {
         None
     }
 
-    /// The first fault of a parent. Which one it is comes to be asked only where there is one.
+    /// The first fault of a parent. Which one it is is looked for only if there is one.
     fn parent_fault(&self, loader: LoaderId, file: &ClassFile) -> Option<FaultAt>
         ensures first { first_of (parent_faults self.now loader file.now) ≡ option_and_then (fault_of file.now) result }
         ensures there { IfSome result (IsThere file.now) }
@@ -291,8 +293,8 @@ fn is_open_to(row: &Class, loader: LoaderId, file: &ClassFile) -> bool
             && package_of(row.file().name().as_slice()) == package_of(file.name().as_slice())
 }
 
-/// The first place among the parents, where the superclass, if there is one, is so or not, and this is the first place among
-/// the superinterfaces.
+/// The first place among the parents that passes a test, from whether the superclass, if there is one, passes it, and from the
+/// first place among the superinterfaces that does.
 fn place_of_parent(superclass: Option<bool>, interface: Option<usize>) -> Option<usize>
     requires { IfSome interface (λ place. place + 1 < 2 ^ 64) }
     ensures { result ≡ first_place superclass interface }

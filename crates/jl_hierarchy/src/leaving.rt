@@ -11,7 +11,7 @@ use std::marker::Model;
 /// Loaders that are to go at once, with a look-up by number. A clause sees them as they were listed.
 pub struct Leaving {
     pub(crate) listed: Vec<LoaderId>,
-    /// The same, each once.
+    /// The listed loaders, each once.
     pub(crate) loaders: IndexSet<LoaderId>,
 }
 
@@ -37,7 +37,7 @@ impl Model for Leaving {
 }
 
 impl Leaving {
-    /// These loaders, of which one may come twice. Want of memory is an error.
+    /// These loaders, of which one may come twice.
     pub fn new(alloc: Global, listed: &[LoaderId]) -> Result<Self, AllocError>
         ensures { IfOk result (λ leaving. leaving ≡ listed.now) }
     {
@@ -58,7 +58,7 @@ impl Leaving {
     }
 }
 
-/// The loaders, each once. Want of memory is an error.
+/// The loaders, each once.
 pub(crate) fn each_once(
     alloc: Global,
     listed: &[LoaderId],

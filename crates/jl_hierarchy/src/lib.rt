@@ -1,9 +1,10 @@
 //! The classes that are defined, by their loaders (JVMS SE 17 §5.3): what a loader finds by name, packages, nests, ancestors,
 //! receivers and declarations.
 //!
-//! The contract of each question is its definition in jl_types (`Members`, `Ancestry`, `Access` and `Resolution`), and
-//! that of a definition or a delegation is its fault and its step there (`Definitions`). What a class and those above and
-//! below it declare is said in `specs/Redeclared`. `specs/Prints`, `Retiring` and `ForProofs` are means of proof.
+//! The contract of each question is its definition in jl_types (`Members`, `Ancestry`, `Access` and `Resolution`). The
+//! contract of a definition or a delegation is its fault and its step there (`Definitions`). `specs/Constancy` says what
+//! stays as it was. `specs/Redeclared` says what a class and those above and below it declare. `specs/Retiring` says which
+//! classes a loader has defined. `specs/Prints` and `ForProofs` are means of proof.
 #![tactic(auto)]
 
 mod ancestor_list;

@@ -23,11 +23,11 @@ const MOST_RECENT: usize = 256;
 /// The names under which a loader finds classes, each with its class (JVMS SE 17 §5.3). A clause sees the pairs, in the order in
 /// which they were recorded.
 ///
-/// Copies of the loader share the records. The recent ones are kept apart, so that a loader that records more, while copies share
-/// what it has, copies those alone, and all of them once in 256 times.
+/// Copies of the loader share the records. The recent ones are kept apart. So a loader that records more, while copies share what it
+/// has, copies only the recent ones, and all of them once in 256 times.
 pub(crate) struct Loader {
     older: Arc<Records>,
-    /// Those behind the older ones: 256 at the most.
+    /// Those after the older ones: 256 at the most.
     recent: Arc<Records>,
 }
 
@@ -53,7 +53,7 @@ impl Model for Loader {
 }
 
 impl Loader {
-    /// A loader that has found nothing. Want of memory is an error.
+    /// A loader that has found nothing.
     pub(crate) fn new(alloc: Global) -> Result<Self, AllocError>
         ensures { IfOk result (λ loader. loader ≡ []) }
     {
@@ -85,7 +85,7 @@ impl Loader {
         self.older.has_any_of(rows, leaving) || self.recent.has_any_of(rows, leaving)
     }
 
-    /// Adds the classes that are recorded and of the loader behind these. Want of memory is an error.
+    /// Adds to `own` the recorded classes that the loader has defined.
     pub(crate) fn add_own(
         &self,
         rows: &Paged<Row>,
@@ -98,7 +98,7 @@ impl Loader {
         self.recent.add_own(rows, loader, own)
     }
 
-    /// The same loader once more, which both share. Too many copies are an error.
+    /// A copy of the loader, which shares its records. Too many copies are an error.
     pub(crate) fn copy(&self) -> Result<Loader, AllocError>
         ensures { IfOk result (λ copy. copy ≡ self.now) }
     {
@@ -108,8 +108,8 @@ impl Loader {
         })
     }
 
-    /// Records the class under the name, which is new. Recent records that copies share are copied first. So are the older ones,
-    /// but only where there are as many recent ones as there may be, which move behind them then.
+    /// Records the class under the name, which is new. Recent records that copies share are copied first. If there are as many recent
+    /// ones as there may be, they move after the older ones, and older ones that copies share are copied first, too.
     ///
     /// # Errors
     ///
@@ -119,17 +119,17 @@ impl Loader {
         ensures ok { OnOk result (self.new ≡ self.old ++ (name.items, class) ∷ []) }
         ensures err { OnErr result (self.new ≡ self.old) }
     {
-        record_behind(&mut self.older, &mut self.recent, name, class)
+        record_after(&mut self.older, &mut self.recent, name, class)
     }
 }
 
-/// Records the class under the name, which is new to both, behind the recent ones. Where there are as many of these as there may
-/// be, they move behind the older ones first.
+/// Records the class under the name, which is new to both, after the recent ones. If there are as many of these as there may be,
+/// they move after the older ones first.
 ///
 /// # Errors
 ///
 /// Want of memory. Both together are as they were then, though the recent ones may have moved.
-fn record_behind(
+fn record_after(
     older: &mut Arc<Records>,
     recent: &mut Arc<Records>,
     name: Vec<u8>,
@@ -146,8 +146,8 @@ fn record_behind(
     record_shared(recent, name, class)
 }
 
-/// Moves the recent records behind the older ones, to which they are new, where there are as many as there may be. Records that
-/// others hold, too, are copied first.
+/// Moves the recent records after the older ones, to which they are new, if there are as many as there may be. Records that others
+/// hold, too, are copied first.
 ///
 /// # Errors
 ///
@@ -260,7 +260,7 @@ impl Records {
         false
     }
 
-    /// Adds the classes of the loader behind these. Want of memory is an error.
+    /// Adds to `own` the classes of these records that the loader has defined.
     fn add_own(
         &self,
         rows: &Paged<Row>,
@@ -294,7 +294,7 @@ impl Records {
         Ok(())
     }
 
-    /// Moves the other names behind these, to which they are new.
+    /// Moves the other names after these, to which they are new.
     ///
     /// # Errors
     ///
@@ -329,7 +329,7 @@ pub(crate) fn record_in(
     record_at(loaders.as_mut_slice(), loader, name, class)
 }
 
-/// The same in a slice.
+/// The loader of this number in a slice of loaders records the class under the name, which is new to it.
 fn record_at(
     loaders: &mut [Loader],
     loader: LoaderId,

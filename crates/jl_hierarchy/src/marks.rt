@@ -79,7 +79,7 @@ impl Redeclared {
         }
     }
 
-    /// Adds the mark, where it isn't there. Want of memory is an error; nothing has changed then.
+    /// Adds the mark, if it isn't there. On an error nothing has changed.
     fn add(&mut self, mark: Mark) -> Result<(), AllocError>
         ensures kept { (s p : ℕ) → is_marked self.old s p ≡ true → is_marked self.new s p ≡ true }
         ensures added { OnOk result ((s p : ℕ) → tells s p mark ≡ true → is_marked self.new s p ≡ true) }
@@ -88,7 +88,7 @@ impl Redeclared {
         Ok(())
     }
 
-    /// Marks every method at the class. Want of memory is an error.
+    /// Marks every method at the class.
     fn add_every(&mut self, class: ClassId) -> Result<(), AllocError>
         ensures kept { (s p : ℕ) → is_marked self.old s p ≡ true → is_marked self.new s p ≡ true }
         ensures added { OnOk result ((p : ℕ) → is_marked self.new class p ≡ true) }
@@ -97,7 +97,7 @@ impl Redeclared {
     }
 }
 
-/// Sets the test of this number, and makes those before it where they aren't there. Want of memory is an error.
+/// Sets the test of this number, and makes those before it that aren't there.
 fn set_every(every: &mut Vec<bool>, number: usize) -> Result<(), AllocError>
     ensures kept { (s : ℕ) → is_every every.old.items s ≡ true → is_every every.new.items s ≡ true }
     ensures added { OnOk result (is_every every.new.items number ≡ true) }
@@ -109,8 +109,8 @@ fn set_every(every: &mut Vec<bool>, number: usize) -> Result<(), AllocError>
     Ok(())
 }
 
-/// Adds the marks, where they aren't there; where none are given, marks every method at each of these classes. Marks that others
-/// hold, too, are copied before the first that is new. Want of memory is an error; some of them are added then.
+/// Adds the marks that aren't there. If no list of marks is given, it marks every method at each of these classes. Marks that
+/// others hold, too, are copied before the first new one. On an error some of the marks are added.
 pub(crate) fn add_marks(
     shared: &mut Arc<Redeclared>,
     marks: &Option<Vec<Mark>>,
@@ -126,7 +126,7 @@ pub(crate) fn add_marks(
     }
 }
 
-/// Adds these marks, where they aren't there. Want of memory is an error; some of them are added then.
+/// Adds those of these marks that aren't there. On an error some of them are added.
 fn add_each(shared: &mut Arc<Redeclared>, marks: &[Mark]) -> Result<(), AllocError>
     ensures kept { (s p : ℕ) → is_marked shared.old.value s p ≡ true → is_marked shared.new.value s p ≡ true }
     ensures added { OnOk result ((s p : ℕ) → is_listed marks.now s p ≡ true → is_marked shared.new.value s p ≡ true) }
@@ -141,7 +141,7 @@ fn add_each(shared: &mut Arc<Redeclared>, marks: &[Mark]) -> Result<(), AllocErr
     Ok(())
 }
 
-/// Marks every method at each of these classes. Want of memory is an error; some of them are done then.
+/// Marks every method at each of these classes. On an error some of them are done.
 fn add_every(shared: &mut Arc<Redeclared>, classes: &[ClassId]) -> Result<(), AllocError>
     ensures kept { (s p : ℕ) → is_marked shared.old.value s p ≡ true → is_marked shared.new.value s p ≡ true }
     ensures added { OnOk result ((s p : ℕ) → is_on s classes.now ≡ true → is_marked shared.new.value s p ≡ true) }

@@ -55,7 +55,7 @@ impl Classes {
         self.declared_by(class, &NameAndType::of(name, ty))
     }
 
-    /// The same of a name and a descriptor that are sought in many classes.
+    /// The method of the sought name and descriptor that the class itself declares, for a caller that looks in many classes.
     pub fn declared_by(&self, class: ClassId, sought: &NameAndType<'_>) -> Option<MethodId>
         ensures { result ≡ members.declared self.now sought.now.name sought.now.ty class }
     {

@@ -19,7 +19,7 @@ use jl_types::{Class, ClassId, LoaderId};
 use std::alloc::{AllocError, Global};
 
 impl Classes {
-    /// The class that the loader makes of the file, as it is kept. Want of memory is an error.
+    /// The class that the loader makes of the file, as it is kept.
     pub(crate) fn row_made(
         &self,
         alloc: Global,
@@ -43,7 +43,7 @@ impl Classes {
         self.lookup(loader, file.superclass()?.as_slice())
     }
 
-    /// The classes that the loader has recorded under these names, in order. Want of memory is an error.
+    /// The classes that the loader has recorded under these names, in order.
     fn found_all(
         &self,
         alloc: Global,
@@ -62,8 +62,7 @@ impl Classes {
         Ok(found)
     }
 
-    /// The ancestors of the class that comes next, without itself: those of its parents, each once, by rising number. Want of
-    /// memory is an error.
+    /// The ancestors of the class that comes next, without itself: those of its parents, each once, by rising number.
     pub(crate) fn proper_ancestors(
         &self,
         alloc: Global,
@@ -82,8 +81,8 @@ impl Classes {
         Ok(proper)
     }
 
-    /// The classes that would get one receiver more if the loader defined the class of the file, by rising number: its ancestors
-    /// and itself, which would get the next number; and none if no object may be of it. Want of memory is an error.
+    /// The classes that would get one receiver more if the loader defined the class of the file, by rising number. They are its
+    /// ancestors and itself, which would get the next number. If no object may be of it, there are none.
     pub fn gaining_receiver(
         &self,
         alloc: Global,
@@ -101,8 +100,7 @@ impl Classes {
         Ok(gaining)
     }
 
-    /// The ancestors, by rising number, of the class that the loader would make of the file, and itself as the last. Want of
-    /// memory is an error.
+    /// The ancestors, by rising number, of the class that the loader would make of the file, and itself as the last.
     fn ancestors_if_defined(
         &self,
         alloc: Global,
@@ -121,7 +119,7 @@ impl Classes {
         Ok(all)
     }
 
-    /// The ancestors of these classes, each once, by rising number. Want of memory is an error.
+    /// The ancestors of these classes, each once, by rising number.
     pub(crate) fn joined_ancestors(
         &self,
         alloc: Global,
@@ -139,7 +137,7 @@ impl Classes {
         Ok(joined)
     }
 
-    /// The ancestors of these classes, one class after another. Want of memory is an error.
+    /// The ancestors of these classes, one class after another.
     fn ancestors_of_all(
         &self,
         alloc: Global,
@@ -156,7 +154,7 @@ impl Classes {
     }
 }
 
-/// The superclass, if there is one, and then the superinterfaces. Want of memory is an error.
+/// The superclass, if there is one, and then the superinterfaces.
 fn parents_of(
     alloc: Global,
     superclass: Option<ClassId>,

@@ -9,7 +9,7 @@ use crate::classes::Classes;
 use jl_types::{LoaderId, MethodId};
 
 impl Classes {
-    /// The method of this name and descriptor that java/lang/Object itself declares, where it is public and not static.
+    /// The method of this name and descriptor that java/lang/Object itself declares, if it is public and not static.
     pub fn declared_in_object(&self, name: &[u8], ty: &[u8]) -> Option<MethodId>
         ensures { result ≡ resolution.declared_in_object self.now name.now ty.now }
     {

@@ -25,7 +25,7 @@ pub(crate) fn receiving<'a>(is_concrete: bool, ancestors: &'a [ClassId]) -> &'a 
 /// The receivers of a class, rising.
 pub(crate) type Receivers = Vec<ClassId>;
 
-/// The receivers of a class that has none below it. Want of memory is an error.
+/// The receivers of a class that has none below it.
 pub(crate) fn own_receivers(
     alloc: Global,
     is_concrete: bool,
@@ -40,7 +40,7 @@ pub(crate) fn own_receivers(
     Ok(own)
 }
 
-/// Makes room for one class more in the list of each of these. Want of memory is an error.
+/// Makes room for one class more in the list of each of these.
 pub(crate) fn reserve_each(below: &mut [Receivers], classes: &[ClassId]) -> Result<(), AllocError>
     requires { All (λ c. c < length below.old) classes.now }
     ensures lists { lists below.new ≡ lists below.old }

@@ -23,8 +23,10 @@ const LOOKS_BESIDES: usize = 256;
 
 impl Classes {
     /// What the definition of the class marks: each method's print at its superclasses, up to the first that declares one of that
-    /// print. What sees it above that one was marked when that one was defined. Nothing, where every method is to be marked at each
-    /// ancestor: where this takes too many looks, or did so a class or two above and the class is as deep. Want of memory is an error.
+    /// print. The classes above that one that see such a method were marked when that one was defined.
+    ///
+    /// None, if every method is to be marked at each ancestor. It is so if the marks take too many looks; or if they did so a class
+    /// or two above, and the class is as deep.
     pub(crate) fn marks_of(
         &self,
         alloc: Global,
@@ -64,7 +66,7 @@ impl Classes {
         true
     }
 
-    /// The marks of each of these methods, or none where that takes too many looks. Want of memory is an error.
+    /// The marks of each of these methods. None, if they take too many looks.
     fn marks_of_each(
         &self,
         alloc: Global,
@@ -90,8 +92,8 @@ impl Classes {
         Ok(Some(marks))
     }
 
-    /// Marks the print at the class and upward, to the first that declares a method of it; at none of them where none does. It gives
-    /// how many looks are left, or none where there were too few. Want of memory is an error.
+    /// Marks the print at the class and upward, to the first that declares a method of it. If none does, it marks none of them. It
+    /// answers how many looks are left, or None if there were too few.
     fn mark_upward(
         &self,
         class: ClassId,
@@ -148,8 +150,8 @@ impl Classes {
         self.are_superclass_chains
     }
 
-    /// Whether each ancestor of the class that is made which isn't an interface is an ancestor of its superclass. So it is where the
-    /// same is known of the classes that are there, and the superclass of each direct superinterface is one.
+    /// Whether each ancestor of the class that is made, unless it is an interface, is an ancestor of its superclass. It is so if this
+    /// is known of the classes that are there, and the superclass of each direct superinterface is an ancestor of its superclass.
     pub(crate) fn is_line(&self, row: &Class) -> bool
         ensures { result ≡ true → (a : ℕ) → list_any (λ p. ancestry.is_ancestor self.now a p) (ancestry.parents row.now) ≡ true
             → members.is_interface self.now a ≡ false → is_above self.now row.now a ≡ true }
@@ -165,7 +167,7 @@ impl Classes {
         true
     }
 
-    /// Whether it is an interface, and its superclass is an ancestor of the superclass of the class that is made.
+    /// Whether `interface` is an interface, and its superclass is an ancestor of the superclass of the class that is made.
     fn is_on_line(&self, row: &Class, interface: ClassId) -> bool
         ensures { result ≡ true → AreLines self.now.rows → (a : ℕ) → ancestry.is_ancestor self.now a interface ≡ true
             → members.is_interface self.now a ≡ false → is_above self.now row.now a ≡ true }

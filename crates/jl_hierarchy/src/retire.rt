@@ -79,8 +79,9 @@ impl Classes {
         }
     }
 
-    /// Why the loader can't go where all of these go at once, by the classes alone: a walk over all classes, and over the ancestors of
-    /// those that came after the loader's first, and over all that loaders record. Takes no memory.
+    /// Why the loader can't go, if all of these go at once: the first fault that the classes alone show. Takes no memory.
+    ///
+    /// It walks over all classes, over the ancestors of those that came after the loader's first one, and over all that loaders record.
     pub fn retire_fault(&self, loaders: &[LoaderId], loader: LoaderId) -> Option<RetireFault>
         ensures { result ≡ retirement.classes_fault self.now loaders.now loader }
     {
@@ -140,7 +141,7 @@ impl Classes {
         classes.iter().any(|class| self.is_of(loader, *class))
     }
 
-    /// The number of the least loader that stays and records a class of this one: a present one, since a retired one records nothing.
+    /// The number of the least loader that stays and records a class of this one. It isn't retired, since a retired loader records nothing.
     fn first_recorder(&self, loaders: &[LoaderId], loader: LoaderId) -> Option<u32>
         ensures { result ≡ find (retirement.records_from self.now loaders.now loader) (range_with_len 0 (length self.now.loaders)) }
     {
@@ -160,8 +161,10 @@ impl Classes {
         }
     }
 
-    /// Whether nothing speaks against it that these loaders go at once, by the classes alone: one walk over all classes, and over the
-    /// ancestors of those that came after the loaders' first, and one over all that the loaders record that stay. Takes no memory.
+    /// Whether these loaders may go at once, as far as the classes alone show. Takes no memory.
+    ///
+    /// One walk goes over all classes, and over the ancestors of those that came after the loaders' first one. Another goes over all
+    /// that the loaders that stay record.
     pub fn spares(&self, leaving: &Leaving) -> bool
         ensures { result ≡ true → retirement.MayRetire self.now leaving.now }
     {
@@ -248,8 +251,8 @@ impl Classes {
         }
     }
 
-    /// The classes that lose a receiver where the loaders go, by rising number: a walk over what the loaders have recorded, and over
-    /// the ancestors of their own classes. Want of memory is an error.
+    /// The classes that lose a receiver if the loaders go, by rising number. It walks over what the loaders have recorded, and over
+    /// the ancestors of their own classes.
     pub fn losing_receivers(
         &self,
         alloc: Global,
@@ -265,8 +268,8 @@ impl Classes {
         Ok(losing)
     }
 
-    /// The classes that these loaders have defined, one loader after another, and none of a retired one: a walk over what they have
-    /// recorded. Want of memory is an error.
+    /// The classes that these loaders have defined, one loader after another. A retired loader gives none. It walks over what they have
+    /// recorded.
     pub fn classes_of_all(
         &self,
         alloc: Global,
@@ -283,8 +286,8 @@ impl Classes {
         Ok(all)
     }
 
-    /// The classes that the loader has defined, in the order in which it recorded them, and none of a retired one: a walk over what it
-    /// has recorded. Want of memory is an error.
+    /// The classes that the loader has defined, in the order in which it recorded them. A retired loader gives none. It walks over what
+    /// the loader has recorded.
     pub fn own_classes(&self, alloc: Global, loader: LoaderId) -> Result<Vec<ClassId>, AllocError>
         ensures members { IfOk result (λ own. (c : ℕ) → list_any (λ k. k == c) own.items
             ≡ (members.is_present self.now c && retirement.is_of self.now loader c)) }
@@ -299,7 +302,7 @@ impl Classes {
         Ok(own)
     }
 
-    /// The classes that the loader has recorded and defined. Want of memory is an error.
+    /// The classes that the loader has recorded and defined.
     fn own_recorded(&self, alloc: Global, loader: LoaderId) -> Result<Vec<ClassId>, AllocError>
         ensures { IfOk result (λ own. own.items ≡ option_map_or (own_recorded self.now.rows loader) (slice_get self.now.loaders loader) []) }
     {
@@ -310,7 +313,7 @@ impl Classes {
         Ok(own)
     }
 
-    /// Those of the classes that objects may be of. Want of memory is an error.
+    /// Those of the classes that objects may be of.
     fn concrete_among(&self, alloc: Global, classes: &[ClassId]) -> Result<Vec<ClassId>, AllocError>
         ensures { IfOk result (λ concrete. concrete.items ≡ filter (members.is_concrete self.now) classes.now) }
     {
@@ -322,9 +325,11 @@ impl Classes {
         Ok(concrete)
     }
 
-    /// The loaders go, with all that they have defined and all that they find, where nothing speaks against it: they find nothing any
-    /// more, and their classes are no receivers. Their numbers aren't given again. A walk over what the loaders have recorded, and over
-    /// the receivers of the ancestors of their own classes, each once; every growth comes before the first change, or is it.
+    /// The loaders go, with all that they have defined. They find nothing any more, and their classes are no receivers. Their numbers
+    /// aren't given again. Nothing may speak against it.
+    ///
+    /// It walks over what the loaders have recorded, and over the receivers of the ancestors of their own classes, each once. Every
+    /// growth comes before the first change, or is that change.
     ///
     /// # Errors
     ///
@@ -344,7 +349,7 @@ impl Classes {
     }
 }
 
-/// Adds the class, if so. Want of memory is an error.
+/// Adds the class, if so.
 pub(crate) fn push_if(
     classes: &mut Vec<ClassId>,
     is_one: bool,
@@ -376,7 +381,7 @@ fn add_all(
     Ok(())
 }
 
-/// So many loaders that find nothing. Want of memory is an error.
+/// So many loaders that find nothing.
 fn bare_loaders(alloc: Global, count: usize) -> Result<Vec<Loader>, AllocError>
     ensures { IfOk result (λ bare. bare.items ≡ replicate count []) }
 {
@@ -388,7 +393,7 @@ fn bare_loaders(alloc: Global, count: usize) -> Result<Vec<Loader>, AllocError>
     Ok(bare)
 }
 
-/// These loaders find nothing any more: each comes to be one of the bare ones, of which there are as many.
+/// Makes these loaders find nothing any more: puts one of the bare loaders, of which there are as many, in the place of each.
 fn empty_all(loaders: &mut Vec<Loader>, leaving: &[LoaderId], bare: Vec<Loader>)
     requires there { All (λ l. l < length loaders.old.items) leaving.now }
     requires bare { bare.items ≡ replicate (length leaving.now) [] }
@@ -397,7 +402,7 @@ fn empty_all(loaders: &mut Vec<Loader>, leaving: &[LoaderId], bare: Vec<Loader>)
     empty_each(loaders.as_mut_slice(), leaving, bare);
 }
 
-/// The same in a slice.
+/// Puts one of the bare loaders in the place of each of the leaving ones, in a slice of all loaders.
 fn empty_each(loaders: &mut [Loader], leaving: &[LoaderId], bare: Vec<Loader>)
     requires there { All (λ l. l < length loaders.old) leaving.now }
     requires bare { bare.items ≡ replicate (length leaving.now) [] }
@@ -409,7 +414,7 @@ fn empty_each(loaders: &mut [Loader], leaving: &[LoaderId], bare: Vec<Loader>)
     }
 }
 
-/// The last of the bare loaders, which goes from them.
+/// Takes the last of the bare loaders.
 fn next_bare(bare: &mut Vec<Loader>) -> Loader
     requires some { 1 ≤ length bare.old.items }
     requires bare { bare.old.items ≡ replicate (length bare.old.items) [] }
@@ -435,7 +440,7 @@ fn drop_own_receivers(
     drop_receivers(alloc, rows, below.as_mut_slice(), retired, losing);
 }
 
-/// The same in a slice.
+/// Takes the classes of retired loaders out of the receivers of each losing class, in a slice of the receivers of all classes.
 fn drop_receivers(
     alloc: Global,
     rows: &Paged<Row>,
@@ -452,7 +457,7 @@ fn drop_receivers(
     }
 }
 
-/// Takes the classes of retired loaders out of the list, which keeps no room where nothing is left.
+/// Takes the classes of retired loaders out of the list. If nothing is left, the list keeps no room.
 fn drop_from(
     alloc: Global,
     rows: &Paged<Row>,

@@ -38,7 +38,7 @@ impl Drop for Row {
 }
 
 impl Row {
-    /// The class as it is kept. Want of memory is an error.
+    /// The class as it is kept.
     pub(crate) fn new(alloc: Global, class: Class) -> Result<Row, AllocError>
         ensures { IfOk result (λ row. row ≡ class) }
     {
@@ -55,7 +55,7 @@ impl Row {
         &self.kept.class
     }
 
-    /// The same class once more, which both share. Too many copies are an error.
+    /// A copy of the row, which shares the class. Too many copies are an error.
     pub(crate) fn copy(&self) -> Result<Row, AllocError>
         ensures { IfOk result (λ copy. copy ≡ self.now) }
     {
@@ -111,7 +111,7 @@ impl Model for Indexed {
     ghost invariant = { λ r. AreSorted r.prints.items r.class.file.methods };
 }
 
-/// Written out, as a row's is.
+/// Written out, so that what drops one makes one call of it and doesn't take apart what it holds.
 impl Drop for Indexed {
     fn drop(self) {
         let Indexed {
@@ -122,7 +122,7 @@ impl Drop for Indexed {
 }
 
 impl Indexed {
-    /// The class with the prints of its methods. Want of memory is an error.
+    /// The class with the prints of its methods.
     fn new(alloc: Global, class: Class) -> Result<Indexed, AllocError>
         ensures { IfOk result (λ indexed. indexed ≡ class) }
     {
@@ -139,7 +139,7 @@ pub(crate) fn methods_of(row: &Class) -> Methods<'_>
     row.file().methods()
 }
 
-/// The prints of these methods in order, those of one print by their places. Want of memory is an error.
+/// The prints of these methods in order, those of one print by their places.
 fn sorted_prints(alloc: Global, methods: &Methods<'_>) -> Result<Vec<Printed>, AllocError>
     requires { length methods.now < 2 ^ 16 }
     ensures { IfOk result (λ prints. AreSorted prints.items methods.now) }
@@ -149,7 +149,7 @@ fn sorted_prints(alloc: Global, methods: &Methods<'_>) -> Result<Vec<Printed>, A
     Ok(prints)
 }
 
-/// The prints of these methods. Want of memory is an error.
+/// The prints of these methods.
 fn prints_of(alloc: Global, methods: &Methods<'_>) -> Result<Vec<Printed>, AllocError>
     requires { length methods.now < 2 ^ 16 }
     ensures { IfOk result (λ prints. prints.items ≡ printed_from 0 methods.now) }
@@ -173,7 +173,7 @@ pub(crate) fn print_of_method(method: &Method<'_>) -> u64
     print_of(method.name().as_slice(), method.ty().as_slice())
 }
 
-/// The place of the method of this name and descriptor, where these are the methods' prints.
+/// The place of the method of the sought name and descriptor. `prints` has the methods' prints.
 fn place_in(prints: &[Printed], methods: &Methods<'_>, sought: &NameAndType<'_>) -> Option<u16>
     requires { AreSorted prints.now methods.now }
     ensures { result ≡ position (members.is_called sought.now.name sought.now.ty) methods.now }
@@ -201,7 +201,7 @@ fn is_among(prints: &[Printed], print: u64) -> bool
     }
 }
 
-/// Where the prints that aren't below this one begin.
+/// The place at which the prints that aren't below this one begin.
 fn first_not_below(prints: &[Printed], print: u64) -> usize
     requires { IsNonDecreasingBy (λ (e : Printed). e.print) prints.now }
     ensures within { result ≤ length prints.now }

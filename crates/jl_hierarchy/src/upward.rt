@@ -34,7 +34,7 @@ impl Classes {
         class != other && self.is_subclass(class, other)
     }
 
-    /// The same of a name and a descriptor that are sought in many classes.
+    /// The first method of the sought name and descriptor that the class and its superclasses upward declare.
     pub fn declared_upward_by(&self, class: ClassId, sought: &NameAndType<'_>) -> Option<MethodId>
         ensures { result ≡ resolution.declared_upward self.now sought.now.name sought.now.ty class }
     {

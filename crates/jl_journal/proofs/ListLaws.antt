@@ -6,17 +6,17 @@ use Rattle.std.proofs.Math.Seq.{drop-append-add}
 
 module _ {X : Type 0} where
   -- what stands after a first part
-  pub drop_behind : (first rest : List X) (n : ℕ) → length first ≤ n → drop n (first ++ rest) ≡ drop (n - length first) rest
-  drop_behind first rest n le =
+  pub drop_front : (first rest : List X) (n : ℕ) → length first ≤ n → drop n (first ++ rest) ≡ drop (n - length first) rest
+  drop_front first rest n le =
       let all : n ≡ length first + (n - length first) = omega (arith, le) in
       ap (λ k. drop k (first ++ rest)) all ∙ drop-append-add first rest (n - length first)
 
-  pub get_behind : (first rest : List X) (n : ℕ) → length first ≤ n → slice_get (first ++ rest) n ≡ slice_get rest (n - length first)
-  get_behind [] rest n le = ap (slice_get rest) (omega arith)
-  get_behind (x ∷ first) rest zero le = absurd (omega (arith, le))
-  get_behind (x ∷ first) rest (suc n) le =
+  pub get_rest : (first rest : List X) (n : ℕ) → length first ≤ n → slice_get (first ++ rest) n ≡ slice_get rest (n - length first)
+  get_rest [] rest n le = ap (slice_get rest) (omega arith)
+  get_rest (x ∷ first) rest zero le = absurd (omega (arith, le))
+  get_rest (x ∷ first) rest (suc n) le =
       let same : n - length first ≡ suc n - length (x ∷ first) = omega arith in
-      get_behind first rest n (omega (arith, le)) ∙ ap (slice_get rest) same
+      get_rest first rest n (omega (arith, le)) ∙ ap (slice_get rest) same
 
   pub get_from : (xs : List X) (n k : ℕ) → slice_get (drop n xs) k ≡ slice_get xs (n + k)
   get_from xs zero k = ap (slice_get xs) (omega arith)

@@ -1,4 +1,4 @@
--- What a journal's parts come to.
+-- The laws of a journal's parts.
 use Rattle.std.specs.Prelude.{◌≡◌, ◌≤◌, ◌<◌, ◌+◌, ◌-◌, ℕ, Bool, List, [], ◌∷◌, ◌++◌, length, take, drop, filter, slice_get}
 use Rattle.std.proofs.Common.{ap, sym, inl, inr, ◌∙◌, arith, length-append, length-drop}
 use Rattle.std.proofs.Math.Nat.{lt_of_not-le, eq-or-lt_of_le}
@@ -6,7 +6,7 @@ use Rattle.std.proofs.lemmas.List.{take-append-le, take-append-drop, length-take
 use Rattle.std.proofs.lemmas.Option.{slice_get_past}
 use Rattle.std.proofs.lemmas.List.Elements.{filter-append}
 use Rattle.jl_journal.specs.ForProofs.Parts.{AreParts}
-use Rattle.jl_journal.proofs.ListLaws.{drop_behind, get_behind, get_from, filter_again, few_left, take_front}
+use Rattle.jl_journal.proofs.ListLaws.{drop_front, get_rest, get_from, filter_again, few_left, take_front}
 
 module _ {X : Type 0} {keeps : X → Bool} {past elements : List X} {noted count : ℕ} (k : AreParts keeps past elements noted count) where
   -- how many there are
@@ -16,7 +16,7 @@ module _ {X : Type 0} {keeps : X → Bool} {past elements : List X} {noted count
       let d = length-drop noted elements in
       omega (arith, k.counted, k.within, e, d)
 
-  -- one that is not past, where there is any
+  -- there is an element that is not past, if there is any
   pub has_last : 0 < count → noted < length elements
   has_last some = lt_of_not-le (λ le. let none = k.last le in omega (arith, none, le, k.counted, some))
 
@@ -25,7 +25,7 @@ module _ {X : Type 0} {keeps : X → Bool} {past elements : List X} {noted count
   is_last place below above =
       let some = has_last (omega (arith, below)) in
       let same : noted + (place - length past) ≡ length elements - 1 = omega (arith, k.counted, below, above, some) in
-      sym (get_behind past (drop noted elements) place (omega (arith, k.counted, below, above, some))
+      sym (get_rest past (drop noted elements) place (omega (arith, k.counted, below, above, some))
       ∙ get_from elements noted (place - length past) ∙ ap (slice_get elements) same)
 
   pub last_there : slice_get elements (length elements - 1) ≡ slice_get (past ++ drop noted elements) (count - 1)
@@ -45,7 +45,7 @@ module _ {X : Type 0} {keeps : X → Bool} {past elements : List X} {noted count
   pub from_later : (place at : ℕ) → length past ≤ place → at + length past ≡ noted + place → drop at elements ≡ drop place (past ++ drop noted elements)
   from_later place at le is =
       let same : at ≡ noted + (place - length past) = omega (arith, le, is) in
-      sym (drop_behind past (drop noted elements) place le ∙ drop-drop (place - length past) noted elements ∙ ap (λ n. drop n elements) (sym same))
+      sym (drop_front past (drop noted elements) place le ∙ drop-drop (place - length past) noted elements ∙ ap (λ n. drop n elements) (sym same))
 
   -- what is there
   pub there : elements ≡ filter keeps past ++ drop noted elements

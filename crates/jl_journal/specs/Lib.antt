@@ -1,2 +1,2 @@
--- `ForProofs` is a means of proof.
+-- `ForProofs` has means of proof.
 pub mod ForProofs

@@ -15,7 +15,7 @@ pub trait Keep: Sized + Drop {
 
 /// A value that several owners can share.
 pub trait Share: Sized + Drop {
-    /// The same value for one owner more.
+    /// A copy of the value, which shares it with one owner more.
     ///
     /// # Errors
     ///

@@ -44,7 +44,7 @@ pub(crate) fn keep_from<T: Keep>(elements: &mut Vec<T>, place: usize) -> usize
     kept
 }
 
-/// The same elements once more. Want of memory is an error.
+/// The elements in order, shared with one owner more.
 pub(crate) fn shared<T: Share>(alloc: Global, elements: &[T]) -> Result<Vec<T>, AllocError>
     ensures { IfOk result (λ copy. copy.items ≡ elements.now) }
 {

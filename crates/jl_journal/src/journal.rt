@@ -136,7 +136,7 @@ impl<T: Keep> Journal<T> {
 }
 
 impl<T: Keep + Share> Journal<T> {
-    /// The same journal once more, which shares the elements.
+    /// A copy of the journal, which shares the elements.
     ///
     /// # Errors
     ///

@@ -33,7 +33,7 @@ impl<T> Past<T> {
         Past { of: PhantomData }
     }
 
-    /// The same once more.
+    /// A copy of what is past.
     pub(crate) fn again(&self) -> Past<T>
         ensures { result.items ≡ self.now.items }
     {

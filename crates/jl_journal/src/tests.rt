@@ -19,7 +19,7 @@ impl Share for u32 {
     }
 }
 
-/// Numbers that are pushed, where all but the last one is forgotten between each two batches, and what is there then.
+/// Numbers that are pushed in batches, and what is there then. Between each two batches all but the last number are forgotten.
 #[derive(Clone, Copy, Debug)]
 struct Row {
     batches: &'static [&'static [u32]],

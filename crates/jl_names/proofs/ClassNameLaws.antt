@@ -23,7 +23,7 @@ prefixed-longer front b (Err e) = refl
 
 module _ (text : List ℕ) (i : ℕ) (fresh : Bool) (total : Result (List ℕ × List ℕ) (List ℕ))
     (so_far : prefixed (take i text) (class_at fresh (drop i text)) ≡ total) where
-  -- the byte there, and the bytes behind it
+  -- the byte there, and the bytes after it
   abbrev here : ℕ
   here = get_or text i 0
 
@@ -62,7 +62,7 @@ module _ (text : List ℕ) (i : ℕ) (fresh : Bool) (total : Result (List ℕ ×
 
 -- ---- class names
 
--- The same test, byte by byte. `fresh`: a part begins here.
+-- The test of a class name, byte by byte. `fresh`: a part begins here.
 abbrev pub is_name : Bool → List ℕ → Bool
 is_name fresh [] = not fresh
 is_name fresh (b ∷ bs) = not (is_stop fresh b) && is_name (eqb b slash) bs
@@ -205,20 +205,20 @@ is_name-parts (b ∷ bs) =
 
 -- ---- packages
 
--- the bytes behind a package's name: a slash, and none after it
+-- the bytes after a package's name: a slash, and none after it
 pub package_of-slash : (name : List ℕ) (i : ℕ) → i < length name → get_or name i 0 ≡ slash
     → ((k : ℕ) → i + 1 ≤ k → k < length name → get_or name k 0 ≢ slash) → package_of name ≡ take i name
 package_of-slash name i within here after =
     let last : i + 1 - 1 ≡ i = omega arith in
-    let behind : suffix_len (λ b. not (eqb b slash)) name ≡ length name - (i + 1) =
+    let after : suffix_len (λ b. not (eqb b slash)) name ≡ length name - (i + 1) =
     suffix_len_is _ name (i + 1) 0 (omega arith) (λ k above below. rw (ne_eqb _ _ (after k above below)) refl)
     (λ _. rw (last, here) refl) in
-    ap (λ (n : ℕ). take n name) (omega (arith, behind))
+    ap (λ (n : ℕ). take n name) (omega (arith, after))
 
 pub package_of-no_slash : (name : List ℕ) → ((k : ℕ) → k < length name → get_or name k 0 ≢ slash) → package_of name ≡ []
 package_of-no_slash name none =
-    let behind : suffix_len (λ b. not (eqb b slash)) name ≡ length name - 0 =
+    let after : suffix_len (λ b. not (eqb b slash)) name ≡ length name - 0 =
     suffix_len_is _ name 0 0 (omega arith) (λ k above below. rw (ne_eqb _ _ (none k below)) refl)
     (λ some. absurd (omega arith)) in
-    let front : length name - suffix_len (λ b. not (eqb b slash)) name - 1 ≡ 0 = omega (arith, behind) in
+    let front : length name - suffix_len (λ b. not (eqb b slash)) name - 1 ≡ 0 = omega (arith, after) in
     ap (λ (n : ℕ). take n name) front

@@ -13,7 +13,7 @@ use Rattle.jl_names.specs.Descriptors.{element_text, field_text, IsElement, IsFi
 use Rattle.jl_names.specs.ForProofs.Steps.{◌>>=◌}
 use Rattle.jl_names.proofs.ClassNameLaws.{class_again, class_takes, class_stops, is_name-parts}
 use Rattle.jl_names.proofs.Bytes.{semicolon, bracket, letter_l, letter_a, chosen, bind_ok, bind_err, ok_is, err_is}
-use Rattle.jl_names.specs.ForProofs.Descriptors.{class_at, letter, element_behind, element_at, brackets_within, brackets, as_array, field_at}
+use Rattle.jl_names.specs.ForProofs.Descriptors.{class_at, letter, element_after, element_at, brackets_within, brackets, as_array, field_at}
 
 -- ---- brackets
 
@@ -43,7 +43,7 @@ within-le (suc most) (b ∷ bs) =
 pub brackets_few : (text : List ℕ) → (brackets text ≤ 255) × (brackets text ≤ length text)
 brackets_few text = within-le 255 text
 
--- behind the brackets no bracket stands, or the most are there
+-- after the brackets no bracket stands, or the most are there
 within-rest : (most : ℕ) (text : List ℕ)
     → brackets_within (most - brackets_within most text) (drop (brackets_within most text) text) ≡ 0
 within-rest zero text = refl
@@ -93,13 +93,13 @@ element_again (Class name) rest h =
 letter_takes : (b : ℕ) (e : Element) → letter b ≡ Some e → (element_text e ≡ b ∷ []) × IsElement e
 letter_takes b e h = grind (arith, nat_tests)
 
-behind_takes : (o : Option Element) (b : ℕ) (bs : List ℕ) (x : Element × List ℕ) → letter b ≡ o
-    → element_behind o b bs ≡ Ok x → (b ∷ bs ≡ element_text x.0 ++ x.1) × IsElement x.0
-behind_takes (Some t) b bs x l e =
+after_takes : (o : Option Element) (b : ℕ) (bs : List ℕ) (x : Element × List ℕ) → letter b ≡ o
+    → element_after o b bs ≡ Ok x → (b ∷ bs ≡ element_text x.0 ++ x.1) × IsElement x.0
+after_takes (Some t) b bs x l e =
     let t-is = letter_takes b t l in
     subst (λ (y : Element × List ℕ). (b ∷ bs ≡ element_text y.0 ++ y.1) × IsElement y.0)
     (ok_is {E = List ℕ} (t, bs) x e) (rw t-is.0 refl, t-is.1)
-behind_takes None b bs x l e =
+after_takes None b bs x l e =
     elim (chosen (eqb b letter_l) (class_at true bs >>= λ y. Ok (Class y.0, y.1)) (Err (b ∷ bs)) (Ok x) e) [
       | inl p ↦
           let r = bind_ok (class_at true bs) (λ y. Ok (Class y.0, y.1)) x p.1 in
@@ -117,7 +117,7 @@ element_takes : (text : List ℕ) (x : Element × List ℕ) → element_at text 
     → (text ≡ element_text x.0 ++ x.1) × IsElement x.0
 unfolding element_at
 element_takes [] x e = absurd cc
-element_takes (b ∷ bs) x e = behind_takes (letter b) b bs x refl e
+element_takes (b ∷ bs) x e = after_takes (letter b) b bs x refl e
 
 record ElementStops (text left : List ℕ) : Type 0 where
   front : List ℕ
@@ -125,11 +125,11 @@ record ElementStops (text left : List ℕ) : Type 0 where
   alive : (more : List ℕ) × (e : Element) × IsElement e × (front ++ more ≡ element_text e)
   dead : (b : ℕ) (old more : List ℕ) → left ≡ b ∷ old → element_at (front ++ b ∷ more) ≡ Err (b ∷ more)
 
-behind_stops : (o : Option Element) (b : ℕ) (bs left : List ℕ) → letter b ≡ o → element_behind o b bs ≡ Err left
+after_stops : (o : Option Element) (b : ℕ) (bs left : List ℕ) → letter b ≡ o → element_after o b bs ≡ Err left
     → ElementStops (b ∷ bs) left
 unfolding element_at
-behind_stops (Some t) b bs left l e = absurd cc
-behind_stops None b bs left l e =
+after_stops (Some t) b bs left l e = absurd cc
+after_stops None b bs left l e =
     elim (chosen (eqb b letter_l) (class_at true bs >>= λ y. Ok (Class y.0, y.1)) (Err (b ∷ bs)) (Err left) e) [
       | inl p ↦
           elim (bind_err (class_at true bs) (λ y. Ok (Class y.0, y.1)) left p.1) [
@@ -168,7 +168,7 @@ element_stops [] left e = record {
   alive = (codes "B", Byte, tt, refl);
   dead = λ b old more h. absurd cc;
 }
-element_stops (b ∷ bs) left e = behind_stops (letter b) b bs left refl e
+element_stops (b ∷ bs) left e = after_stops (letter b) b bs left refl e
 
 -- ---- types
 
@@ -257,16 +257,16 @@ abbrev nothing : List ℕ
 nothing = []
 
 -- where the beginnings that go on end
-stops_behind : (IsKind : List ℕ → Type 0) (front left : List ℕ) → CanGoOn IsKind front
+stops_after : (IsKind : List ℕ → Type 0) (front left : List ℕ) → CanGoOn IsKind front
     → ((b : ℕ) (old more : List ℕ) → left ≡ b ∷ old → ¬ IsKind (front ++ b ∷ more)) → ¬ IsKind (front ++ left)
     → StopsAt IsKind (front ++ left) (length front)
-stops_behind IsKind front [] alive dead none = record {
+stops_after IsKind front [] alive dead none = record {
   within = omega (arith, length-append front nothing);
   before = rw (take_at front [] (length front) refl) alive;
   here = λ lt. absurd (omega (arith, length-append front nothing));
   none = none;
 }
-stops_behind IsKind front (b ∷ old) alive dead none =
+stops_after IsKind front (b ∷ old) alive dead none =
     let regrouped : front ++ b ∷ old ≡ (front ++ b ∷ []) ++ old = sym (append_assoc front (b ∷ []) old) in
     let more : take (length front + 1) (front ++ b ∷ old) ≡ front ++ b ∷ [] =
     rw regrouped (take_at (front ++ b ∷ []) old (length front + 1) (length-append front (b ∷ []))) in
@@ -285,7 +285,7 @@ stops_at IsKind text front left whole alive dead none =
     let at : length front ≡ length text - length left = omega (arith, ap length whole, length-append front left) in
     subst (λ (n : ℕ). StopsAt IsKind text n) at
     (subst (λ (t : List ℕ). StopsAt IsKind t (length front)) (sym whole)
-    (stops_behind IsKind front left alive dead (subst (λ (t : List ℕ). ¬ IsKind t) whole none)))
+    (stops_after IsKind front left alive dead (subst (λ (t : List ℕ). ¬ IsKind t) whole none)))
 
 abbrev read : FieldType × List ℕ → Result (FieldType × List ℕ) (List ℕ)
 read x = Ok x

@@ -12,7 +12,7 @@ use Rattle.jl_names.specs.Descriptors.{element_text, field_text, IsFieldType, St
 use Rattle.jl_names.specs.MethodTypes.{Signature, return_text, method_text, IsSignature, IsMethodText, IsMethodDescriptor, IsMethodFault, slots}
 use Rattle.jl_names.specs.ForProofs.Steps.{◌>>=◌}
 use Rattle.jl_names.specs.ForProofs.Descriptors.{field_at, element_at}
-use Rattle.jl_names.specs.ForProofs.MethodTypes.{behind, Stand, StopsBehind, return_at, MethodStands, IsBroken, IsStopped}
+use Rattle.jl_names.specs.ForProofs.MethodTypes.{after_byte, Stand, StopsAfter, return_at, MethodStands, IsBroken, IsStopped}
 use Rattle.jl_names.specs.declared.method_type.Broken.{Broken}
 use Rattle.jl_names.specs.declared.method_type.Broken.TheVariants as broken
 use Rattle.jl_names.specs.declared.fault.NameFault.{NameFault}
@@ -45,7 +45,7 @@ field_first : (t : FieldType) (ts : List FieldType) (y : List ℕ) → IsFieldTy
 field_first t ts y h = ap field_at (append_assoc (field_text t) (flat_map field_text ts) y)
     ∙ field_again t (flat_map field_text ts ++ y) h
 
--- where no type follows the second list, the first is a part of it
+-- if no type follows the second list, the first is a part of it
 pub types_front : (ts us : List FieldType) (x y : List ℕ) → AllByRecursion IsFieldType ts
     → AllByRecursion IsFieldType us → NoField y
     → flat_map field_text ts ++ x ≡ flat_map field_text us ++ y
@@ -201,21 +201,21 @@ tail_of : (x y : List ℕ) → closing ∷ x ≡ closing ∷ y → x ≡ y
 tail_of x y e = cc
 
 -- the first byte decides whether it opens
-opened : (text : List ℕ) (m : Signature) → text ≡ method_text m → behind opening text ≢ None
-unfolding behind
-opened text m e = λ h. let some = ap (behind opening) e in absurd (let clash = sym some ∙ h in cc)
+opened : (text : List ℕ) (m : Signature) → text ≡ method_text m → after_byte opening text ≢ None
+unfolding after_byte
+opened text m e = λ h. let some = ap (after_byte opening) e in absurd (let clash = sym some ∙ h in cc)
 
-no_open : (b : ℕ) (old more : List ℕ) → behind opening (b ∷ old) ≡ None → behind opening (b ∷ more) ≡ None
-unfolding behind
+no_open : (b : ℕ) (old more : List ℕ) → after_byte opening (b ∷ old) ≡ None → after_byte opening (b ∷ more) ≡ None
+unfolding after_byte
 no_open b old more h = elim (chosen (eqb b opening) (Some old) None None h) [ inl p ↦ absurd cc | inr p ↦ rw p.0 refl ]
 
-opens_with : (middle ret : List ℕ) → middle ≡ closing ∷ ret → behind closing middle ≢ None
-unfolding behind
-opens_with middle ret e = λ h. let some = ap (behind closing) e in absurd (let clash = sym some ∙ h in cc)
+opens_with : (middle ret : List ℕ) → middle ≡ closing ∷ ret → after_byte closing middle ≢ None
+unfolding after_byte
+opens_with middle ret e = λ h. let some = ap (after_byte closing) e in absurd (let clash = sym some ∙ h in cc)
 
-no_head : (front : List ℕ) (b : ℕ) (old more ret : List ℕ) → behind closing (front ++ b ∷ old) ≡ None
+no_head : (front : List ℕ) (b : ℕ) (old more ret : List ℕ) → after_byte closing (front ++ b ∷ old) ≡ None
     → front ++ b ∷ more ≢ closing ∷ ret
-unfolding behind
+unfolding after_byte
 no_head [] b old more ret h = λ e. let same : b ≡ closing = cc in absurd (let some = rw same at h in cc)
 no_head (c ∷ front) b old more ret h = λ e. let same : c ≡ closing = cc in absurd (let some = rw same at h in cc)
 
@@ -233,18 +233,18 @@ trailing_none m n x hm hn e =
     (tail_of _ _ same.1 ∙ sym (append-nil (return_text n.returns)))).1
 
 -- nothing opens
-pub open_stops : (text : List ℕ) → behind opening text ≡ None → StopsAt IsMethodText text (length text - length text)
-unfolding behind
+pub open_stops : (text : List ℕ) → after_byte opening text ≡ None → StopsAt IsMethodText text (length text - length text)
+unfolding after_byte
 open_stops text e =
     stops_at IsMethodText text [] text refl
     (codes "()V", (record { parameters = []; returns = None }, record { parameters = tt; returns = tt }, refl))
     (λ b old more h m.
-    let same : behind opening (b ∷ more) ≡ None = no_open b old more (ap (behind opening) (sym h) ∙ e) in
+    let same : after_byte opening (b ∷ more) ≡ None = no_open b old more (ap (after_byte opening) (sym h) ∙ e) in
     opened (b ∷ more) m.0 m.2 same)
     (λ m. opened text m.0 m.2 e)
 
 -- a parameter stops
-pub parameter_stops : (text inner left : List ℕ) → text ≡ opening ∷ inner → StopsBehind inner left
+pub parameter_stops : (text inner left : List ℕ) → text ≡ opening ∷ inner → StopsAfter inner left
     → StopsAt IsMethodText text (length text - length left)
 parameter_stops text inner left e s =
     let ts = s.types in
@@ -271,7 +271,7 @@ parameter_stops text inner left e s =
     let same = same_rest m.0 ts (f.front ++ b ∷ more) m.1 s.stand.each
     (no_ok (f.front ++ b ∷ more) b more (f.dead b old more h)) whole in
     no_head f.front b old more (return_text m.0.returns)
-    (ap (behind closing) (sym (f.whole ∙ ap (λ (x : List ℕ). f.front ++ x) h)) ∙ s.goes_on) same.1)
+    (ap (after_byte closing) (sym (f.whole ∙ ap (λ (x : List ℕ). f.front ++ x) h)) ∙ s.goes_on) same.1)
     (λ m.
     let whole : opening ∷ (before ++ s.middle) ≡ method_text m.0 =
     ap (λ (x : List ℕ). opening ∷ x) (sym s.stand.bytes) ∙ sym e ∙ m.2 in
@@ -327,7 +327,7 @@ method_stands text inner middle left ts r e s h =
           ∙ sym (split (record { parameters = ts; returns = r }) left);
     }
 
--- bytes stand behind it
+-- bytes stand after it
 pub method_trailing : (text left : List ℕ) (m : Signature) → MethodStands text m left → eqb (length left) 0 ≡ false
     → StopsAt IsMethodText text (length text - length left)
 method_trailing text left m s some =
@@ -345,16 +345,16 @@ method_whole text left m s none = (
 
 -- ---- what the functions need
 
-pub behind_is : (byte : ℕ) (text rest : List ℕ) → behind byte text ≡ Some rest → text ≡ byte ∷ rest
-unfolding behind
-behind_is byte [] rest e = absurd cc
-behind_is byte (b ∷ bs) rest e =
+pub after_byte_is : (byte : ℕ) (text rest : List ℕ) → after_byte byte text ≡ Some rest → text ≡ byte ∷ rest
+unfolding after_byte
+after_byte_is byte [] rest e = absurd cc
+after_byte_is byte (b ∷ bs) rest e =
     elim (chosen (eqb b byte) (Some bs) None (Some rest) e)
     [ inl p ↦ let same : b ≡ byte = eqb-true b byte p.0 in cc (same, p.1) | inr p ↦ absurd cc ]
 
 pub Stand-closed : (text : List ℕ) (ts : List FieldType) (rest after : List ℕ) → Stand text ts rest
-    → behind closing rest ≡ Some after → Stand text ts (closing ∷ after)
-Stand-closed text ts rest after s e = subst (λ (x : List ℕ). Stand text ts x) (behind_is closing rest after e) s
+    → after_byte closing rest ≡ Some after → Stand text ts (closing ∷ after)
+Stand-closed text ts rest after s e = subst (λ (x : List ℕ). Stand text ts x) (after_byte_is closing rest after e) s
 
 pub broken_stops : (text inner : List ℕ) (e : Broken) → text ≡ opening ∷ inner → IsBroken inner e → IsStopped text e
 broken_stops text inner (broken.At left) e s = (

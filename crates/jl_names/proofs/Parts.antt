@@ -6,7 +6,7 @@ use Rattle.std.proofs.lemmas.List.{drop-drop, drop-take, length-drop, length-tak
 pub length_of_part : (block : List ℕ) (at len : ℕ) → at + len ≤ length block → length (take len (drop at block)) ≡ len
 length_of_part block at len held = length-take-le len (drop at block) (omega (arith, length-drop at block))
 
--- what a part has behind its first bytes
+-- what a part has after its first bytes
 pub rest_of_part : (block : List ℕ) (at len count : ℕ) → count ≤ len
     → take (len - count) (drop (at + count) block) ≡ drop count (take len (drop at block))
 rest_of_part block at len count held =

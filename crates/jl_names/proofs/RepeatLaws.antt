@@ -2,7 +2,7 @@
 use Rattle.std.proofs.Common.{◌≡◌, ℕ, ◌+◌, ◌<◌, ◌≤◌, suc, zero, Bool, true, false, cond, ◌&&◌, nat_eq, not, get_or, List, [], ◌∷◌}
 use Rattle.std.proofs.Common.{◌++◌, length, Option, Some, None, Result, Ok, Err, IfOk, MatchOption, refl, sym, ap, ◌∙◌, inl, inr, ◌⊎◌, arith}
 use Rattle.std.proofs.Common.{length-append}
-use Rattle.std.proofs.lemmas.Bool.{cases_lt, eqb-true, eq-eqb}
+use Rattle.std.proofs.lemmas.Bool.{cases_lt, eqb-true, eq-eqb, and_parts}
 use Rattle.std.proofs.lemmas.Option.{option_and_then_some, slice_get_within, slice_get-get_or}
 use Rattle.std.specs.Borrow.{Bor}
 use Rattle.std.specs.Cmp.Lexicographic.{pointwise, bytes_decides}
@@ -179,18 +179,10 @@ same_pair x y = nat_eq x.0 y.0 && nat_eq x.1 y.1
 pair_itself : (x : ℕ × ℕ) → same_pair x x ≡ true
 pair_itself x = rw (eq-eqb x.0 x.0 refl, eq-eqb x.1 x.1 refl) refl
 
-and_left : (a b : Bool) → (a && b) ≡ true → a ≡ true
-and_left true b e = refl
-and_left false b e = e
-
-and_right : (a b : Bool) → (a && b) ≡ true → b ≡ true
-and_right true b e = e
-and_right false b e = absurd cc
-
 pair_same : (x y : ℕ × ℕ) → same_pair x y ≡ true → x ≡ y
 pair_same x y e =
-    let one : x.0 ≡ y.0 = eqb-true x.0 y.0 (and_left (nat_eq x.0 y.0) (nat_eq x.1 y.1) e) in
-    let other : x.1 ≡ y.1 = eqb-true x.1 y.1 (and_right (nat_eq x.0 y.0) (nat_eq x.1 y.1) e) in
+    let one : x.0 ≡ y.0 = eqb-true x.0 y.0 (and_parts (nat_eq x.0 y.0) (nat_eq x.1 y.1) e).0 in
+    let other : x.1 ≡ y.1 = eqb-true x.1 y.1 (and_parts (nat_eq x.0 y.0) (nat_eq x.1 y.1) e).1 in
     ap (λ (a : ℕ). (a, x.1)) one ∙ ap (λ (b : ℕ). (y.0, b)) other
 
 met_kept : (after before b : Bool) → after ≡ cond b true before → before ≡ true → after ≡ true

@@ -7,8 +7,8 @@ use Rattle.jl_names.specs.declared.descriptor.FieldType.{FieldType}
 use Rattle.jl_names.specs.Descriptors.{field_text, IsFieldType}
 use Rattle.jl_names.specs.MethodTypes.{Signature, return_text, slots_of, IsMethodText, IsMethodDescriptor, TakesSlots}
 use Rattle.jl_names.specs.ForProofs.Descriptors.{field_at}
-use Rattle.jl_names.specs.ForProofs.MethodTypes.{behind, return_at, Stand, SlotsStand, FewSlots, MethodStands}
-use Rattle.jl_names.proofs.MethodLaws.{Stand-more, Stand-closed, types_front, no_close, no_err, no_types, behind_is, open_stops, result_stops}
+use Rattle.jl_names.specs.ForProofs.MethodTypes.{after_byte, return_at, Stand, SlotsStand, FewSlots, MethodStands}
+use Rattle.jl_names.proofs.MethodLaws.{Stand-more, Stand-closed, types_front, no_close, no_err, no_types, after_byte_is, open_stops, result_stops}
 use Rattle.jl_names.proofs.MethodLaws.{method_stands, method_trailing, method_whole}
 
 pub SlotsStand-more : (text : List ℕ) (n : ℕ) (rest : List ℕ) (t : FieldType) (after : List ℕ)
@@ -22,7 +22,7 @@ SlotsStand-more text n rest t after s e fits = record {
 }
 
 pub SlotsStand-closed : (text : List ℕ) (n : ℕ) (rest after : List ℕ) → SlotsStand text n rest
-    → behind closing rest ≡ Some after → SlotsStand text n (closing ∷ after)
+    → after_byte closing rest ≡ Some after → SlotsStand text n (closing ∷ after)
 SlotsStand-closed text n rest after s e = record {
   types = s.types;
   stand = Stand-closed text s.types rest after s.stand e;
@@ -43,14 +43,14 @@ front_of text ts rest s few =
     (f.0, f.1, f.3, omega (arith, sum_by-append slots_of ts f.0, sums, all.slots_is))
 
 pub stopped_none : (text : List ℕ) (n : ℕ) (rest left : List ℕ) → SlotsStand text n rest
-    → behind closing rest ≡ None → field_at rest ≡ Err left → ¬ FewSlots text
-unfolding behind
+    → after_byte closing rest ≡ None → field_at rest ≡ Err left → ¬ FewSlots text
+unfolding after_byte
 stopped_none text n rest left s b e = λ few.
     let f = front_of text s.types rest s.stand few in
     let none = no_types f.0 rest (closing ∷ few.1) f.1 (no_err rest left e) f.2 in
     let here : rest ≡ closing ∷ few.1 =
     f.2 ∙ ap (λ (vs : List FieldType). flat_map field_text vs ++ (closing ∷ few.1)) none in
-    absurd (let clash = sym (ap (behind closing) here) ∙ b in cc)
+    absurd (let clash = sym (ap (after_byte closing) here) ∙ b in cc)
 
 pub over_none : (text : List ℕ) (n : ℕ) (rest : List ℕ) (t : FieldType) (after : List ℕ) → SlotsStand text n rest
     → field_at rest ≡ Ok (t, after) → 255 < n + slots_of t → ¬ FewSlots text
@@ -81,34 +81,34 @@ few_of text inner e d =
 grammar_of : (text : List ℕ) → IsMethodDescriptor text → IsMethodText text
 grammar_of text d = (d.2.0, d.2.1, d.2.2)
 
-pub unopened_none : (text : List ℕ) → behind opening text ≡ None → ¬ IsMethodDescriptor text
+pub unopened_none : (text : List ℕ) → after_byte opening text ≡ None → ¬ IsMethodDescriptor text
 unopened_none text e = λ d. (open_stops text e).none (grammar_of text d)
 
-pub many_none : (text inner : List ℕ) → behind opening text ≡ Some inner → ¬ FewSlots inner → ¬ IsMethodDescriptor text
-many_none text inner e many = λ d. many (few_of text inner (behind_is opening text inner e) d)
+pub many_none : (text inner : List ℕ) → after_byte opening text ≡ Some inner → ¬ FewSlots inner → ¬ IsMethodDescriptor text
+many_none text inner e many = λ d. many (few_of text inner (after_byte_is opening text inner e) d)
 
-pub result_none : (text inner middle left : List ℕ) (n : ℕ) → behind opening text ≡ Some inner
+pub result_none : (text inner middle left : List ℕ) (n : ℕ) → after_byte opening text ≡ Some inner
     → SlotsStand inner n (closing ∷ middle) → return_at middle ≡ Err left → ¬ IsMethodDescriptor text
 result_none text inner middle left n e s h =
-    λ d. (result_stops text inner middle left s.types (behind_is opening text inner e) s.stand h).none
+    λ d. (result_stops text inner middle left s.types (after_byte_is opening text inner e) s.stand h).none
     (grammar_of text d)
 
 -- the types that were read
-stands_of : (text inner middle left : List ℕ) (n : ℕ) (r : Option FieldType) → behind opening text ≡ Some inner
+stands_of : (text inner middle left : List ℕ) (n : ℕ) (r : Option FieldType) → after_byte opening text ≡ Some inner
     → (s : SlotsStand inner n (closing ∷ middle)) → return_at middle ≡ Ok (r, left)
     → MethodStands text (record { parameters = s.types; returns = r }) left
 stands_of text inner middle left n r e s h =
-    method_stands text inner middle left s.types r (behind_is opening text inner e) s.stand h
+    method_stands text inner middle left s.types r (after_byte_is opening text inner e) s.stand h
 
 pub trailing_none : (text inner middle left : List ℕ) (n : ℕ) (r : Option FieldType)
-    → behind opening text ≡ Some inner → SlotsStand inner n (closing ∷ middle) → return_at middle ≡ Ok (r, left)
+    → after_byte opening text ≡ Some inner → SlotsStand inner n (closing ∷ middle) → return_at middle ≡ Ok (r, left)
     → eqb (length left) 0 ≡ false → ¬ IsMethodDescriptor text
 trailing_none text inner middle left n r e s h some = λ d.
     (method_trailing text left (record { parameters = s.types; returns = r })
     (stands_of text inner middle left n r e s h) some).none (grammar_of text d)
 
 pub whole_slots : (text inner middle left : List ℕ) (n : ℕ) (r : Option FieldType)
-    → behind opening text ≡ Some inner → SlotsStand inner n (closing ∷ middle) → return_at middle ≡ Ok (r, left)
+    → after_byte opening text ≡ Some inner → SlotsStand inner n (closing ∷ middle) → return_at middle ≡ Ok (r, left)
     → eqb (length left) 0 ≡ true → (n ≤ 255) × TakesSlots text n
 whole_slots text inner middle left n r e s h none =
     let m : Signature = record { parameters = s.types; returns = r } in

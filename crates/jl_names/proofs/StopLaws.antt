@@ -4,7 +4,7 @@ use Rattle.std.specs.Prelude.{nat_le}
 use Rattle.std.specs.List.{range_with_len}
 use Rattle.std.proofs.lemmas.List.FromFn.{get_or-map-range_with_len}
 use Rattle.jl_names.specs.ForProofs.Descriptors.{weight}
-use Rattle.jl_names.specs.declared.descriptor.TheConstants.{WEIGHTS}
+use Rattle.jl_names.specs.declared.class_name.TheConstants.{WEIGHTS}
 
 table : WEIGHTS ≡ map weight (range_with_len 0 256)
 table = refl

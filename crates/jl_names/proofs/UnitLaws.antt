@@ -51,7 +51,7 @@ unit_sound u rest lt = λ h. grind (arith, nat_tests)
 abbrev read : ℕ × List ℕ → Result (ℕ × List ℕ) Broken
 read x = Ok x
 
--- where one text has two units at the front, they are one
+-- if one text has two units at the front, they are one
 pub unit_one : (u v : ℕ) (x y : List ℕ) → u < 2 ^ 16 → v < 2 ^ 16 → unit_bytes u ++ x ≡ unit_bytes v ++ y
     → (u ≡ v) × (x ≡ y)
 unit_one u v x y hu hv e =
@@ -102,7 +102,7 @@ Begins-bad text us (a ∷ rest) h some e =
 unit_some : (u : ℕ) (rest : List ℕ) → unit_bytes u ++ rest ≢ []
 unit_some u rest = λ e. let short : length (unit_bytes u ++ rest) ≡ 0 = ap length e in grind (arith, nat_tests)
 
--- what is left behind the first units of a text of units is a text of units
+-- what is left after the first units of a text of units is a text of units
 units_left : (us vs left : List ℕ) → AreUnits us → AreUnits vs → mutf8 us ++ left ≡ mutf8 vs
     → (ws : List ℕ) × AreUnits ws × (left ≡ mutf8 ws) × (vs ≡ us ++ ws)
 units_left [] vs left hu hv e = (vs, hv, e, refl)

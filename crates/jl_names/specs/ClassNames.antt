@@ -16,6 +16,6 @@ is_unqualified (b ∷ bs) = list_all (λ c. not (is_reserved c)) (b ∷ bs)
 abbrev pub is_class_name : List ℕ → Bool
 is_class_name name = list_all is_unqualified (slice_split (λ b. b == byte "/") name)
 
--- the name of a class's package: what stands before the last slash, and nothing where there is none
+-- the name of a class's package: what stands before the last slash, and nothing if there is no slash
 abbrev pub package_of : List ℕ → List ℕ
 package_of name = before_last (λ b. b == byte "/") name

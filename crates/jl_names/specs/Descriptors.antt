@@ -42,7 +42,7 @@ IsFieldDescriptor text = (ty : FieldType) × IsFieldType ty × (text ≡ field_t
 abbrev pub CanGoOn : (List ℕ → Type 0) → List ℕ → Type 0
 CanGoOn IsKind front = (more : List ℕ) × IsKind (front ++ more)
 
--- The text is none of this kind: it can go on up to this place, and not with the byte there. Where the place
+-- The text is none of this kind: it can go on up to this place, and not with the byte there. If the place
 -- is the text's length, the text ends too early.
 pub record StopsAt (IsKind : List ℕ → Type 0) (text : List ℕ) (at : ℕ) : Type 0 where
   pub within : at ≤ length text

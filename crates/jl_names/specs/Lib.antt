@@ -1,4 +1,4 @@
--- What the contracts cite, in reading order. `Reading` is for the private clauses alone.
+-- What the contracts cite, in reading order. `ForProofs` is for the private clauses alone.
 pub mod Mutf8
 pub mod ClassNames
 pub mod Descriptors

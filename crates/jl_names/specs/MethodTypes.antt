@@ -46,7 +46,7 @@ slots m = sum_by slots_of m.parameters
 abbrev pub IsMethodText : List ℕ → Type 0
 IsMethodText text = (m : Signature) × IsSignature m × (text ≡ method_text m)
 
--- the same, and the parameters take so many slots
+-- the text is a method descriptor by the grammar, and its parameters take so many slots
 abbrev pub TakesSlots : List ℕ → ℕ → Type 0
 TakesSlots text n = (m : Signature) × IsSignature m × (text ≡ method_text m) × (slots m ≡ n)
 
@@ -55,7 +55,7 @@ IsMethodDescriptor text = (n : ℕ) × (n ≤ 255) × TakesSlots text n
 
 -- ---- faults
 
--- Why the text is no method descriptor: a break of the grammar comes before too many slots. Want of memory
+-- Why the text is no method descriptor: a break of the grammar is told before too many slots. Want of memory
 -- says nothing of the text.
 abbrev pub IsMethodFault : List ℕ → NameFault → Type 0
 IsMethodFault text (BadDescriptor at) = StopsAt IsMethodText text at

@@ -36,7 +36,7 @@ pub record Begins (text units left : List ℕ) : Type 0 where
   pub in_range : AreUnits units
   pub bytes : text ≡ mutf8 units ++ left
 
--- how many bytes a unit has whose first byte this is; 0 where no unit's bytes begin so
+-- how many bytes a unit has whose first byte this is; 0 if no unit's bytes begin so
 abbrev pub bytes_asked : ℕ → ℕ
 bytes_asked first =
     if nat_le 0x01 first && nat_le first 0x7f then 1

@@ -1,5 +1,5 @@
--- Pairs of texts by their numbers, of which no two are to be the same: a class has no two fields, and no two
--- methods, of the same name and descriptor (JVMS SE 17 §4.5, §4.6).
+-- Pairs of texts by their numbers. No two are to be the same: a class has no two fields, and no two methods, of
+-- the same name and descriptor (JVMS SE 17 §4.5, §4.6).
 use Rattle.std.specs.Prelude.{◌≡◌, ℕ, ◌<◌, List, Option, Some}
 use Rattle.std.specs.List.{slice_get}
 use Rattle.std.specs.Option.{option_and_then, option_map}

@@ -5,9 +5,10 @@ ghost use Rattle.jl_names.specs.declared.descriptor.FieldType.{FieldType};
 ghost use Rattle.jl_names.specs.declared.fault.NameFault.{NameFault};
 ghost use Rattle.jl_names.specs.Descriptors.{field_text, IsFieldType, IsFieldDescriptor};
 ghost use Rattle.jl_names.specs.Descriptors.{IsFieldFault};
-ghost use Rattle.jl_names.specs.ForProofs.Descriptors.{Stops, weight, is_stop, is_end, class_at};
+ghost use Rattle.jl_names.specs.ForProofs.Descriptors.{Stops, is_end, class_at};
 ghost use Rattle.jl_names.specs.ForProofs.Descriptors.{element_at, brackets, field_at};
 
+use crate::class_name::is_stop;
 use crate::fault::NameFault;
 use crate::text::Text;
 
@@ -46,8 +47,8 @@ pub struct FieldType<'a> {
 impl<'a> FieldType<'a> {
     /// The type that the field descriptor gives. Takes no memory.
     ///
-    /// The only error is `BadDescriptor` of the first byte at which the text can't go on, or of the
-    /// text's length where it ends too early. An array has 255 dimensions at most.
+    /// An array has 255 dimensions at most. The only error is `BadDescriptor`, of the first byte at
+    /// which the text can't go on, or of the text's length if it ends too early.
     pub fn parse(text: &'a [u8]) -> Result<FieldType<'a>, NameFault>
         ensures ok { IfOk result (λ ty. IsFieldType ty × (text.now ≡ field_text ty)) }
         ensures fault { IfErr result (IsFieldFault text.now) }
@@ -67,33 +68,6 @@ impl<'a> FieldType<'a> {
 
 // ---- read at the front
 
-/// What each byte weighs in a class name: 2 where no name has it, 1 for a slash, which stands between parts.
-static WEIGHTS: [u8; 256] = [
-    0, 0, 0, 0, 0, 0, 0, 0, 0, 0, 0, 0, 0, 0, 0, 0, 0, 0, 0, 0, 0, 0, 0, 0, 0, 0, 0, 0, 0, 0, 0, 0,
-    0, 0, 0, 0, 0, 0, 0, 0, 0, 0, 0, 0, 0, 0, 2, 1, 0, 0, 0, 0, 0, 0, 0, 0, 0, 0, 0, 2, 0, 0, 0, 0,
-    0, 0, 0, 0, 0, 0, 0, 0, 0, 0, 0, 0, 0, 0, 0, 0, 0, 0, 0, 0, 0, 0, 0, 0, 0, 0, 0, 2, 0, 0, 0, 0,
-    0, 0, 0, 0, 0, 0, 0, 0, 0, 0, 0, 0, 0, 0, 0, 0, 0, 0, 0, 0, 0, 0, 0, 0, 0, 0, 0, 0, 0, 0, 0, 0,
-    0, 0, 0, 0, 0, 0, 0, 0, 0, 0, 0, 0, 0, 0, 0, 0, 0, 0, 0, 0, 0, 0, 0, 0, 0, 0, 0, 0, 0, 0, 0, 0,
-    0, 0, 0, 0, 0, 0, 0, 0, 0, 0, 0, 0, 0, 0, 0, 0, 0, 0, 0, 0, 0, 0, 0, 0, 0, 0, 0, 0, 0, 0, 0, 0,
-    0, 0, 0, 0, 0, 0, 0, 0, 0, 0, 0, 0, 0, 0, 0, 0, 0, 0, 0, 0, 0, 0, 0, 0, 0, 0, 0, 0, 0, 0, 0, 0,
-    0, 0, 0, 0, 0, 0, 0, 0, 0, 0, 0, 0, 0, 0, 0, 0, 0, 0, 0, 0, 0, 0, 0, 0, 0, 0, 0, 0, 0, 0, 0, 0,
-];
-
-/// What a byte weighs in a class name.
-fn weight(byte: u8) -> u8
-    ensures { result ≡ weight byte }
-{
-    WEIGHTS[usize::from(byte)]
-}
-
-/// Whether a class name ends before this byte, or can't go on with it. `fresh`: a part of the name
-/// begins here.
-pub(crate) fn is_stop(fresh: bool, byte: u8) -> bool
-    ensures { result ≡ is_stop fresh byte }
-{
-    weight(byte) + u8::from(fresh) >= 2
-}
-
 /// Whether a class name ends before this byte.
 fn is_end(fresh: bool, byte: u8) -> bool
     ensures { result ≡ is_end fresh byte }
@@ -101,7 +75,7 @@ fn is_end(fresh: bool, byte: u8) -> bool
     byte == b';' && !fresh
 }
 
-/// The name of a class up to its semicolon, and what comes after that; else where it can't go on.
+/// The name of a class up to its semicolon, and what comes after that; else the place at which it can't go on.
 fn class_at(text: &[u8]) -> Result<(&[u8], &[u8]), &[u8]>
     ensures { Stops (λ x. (x.0.now, x.1.now)) result (class_at true text.now) }
 {

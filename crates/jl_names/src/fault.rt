@@ -16,11 +16,11 @@ pub enum NameFault {
     /// The text ends within a unit's bytes.
     #[error("Truncated")]
     Truncated,
-    /// A descriptor can't go on with the byte at this place, or ends too early where the place is
-    /// the text's length (JVMS SE 17 §4.3).
+    /// A descriptor can't go on with the byte at this place. If the place is the text's length, it
+    /// ends too early (JVMS SE 17 §4.3).
     #[error("BadDescriptor")]
     BadDescriptor(usize),
-    /// Else a method descriptor, but its parameters take over 255 slots (JVMS SE 17 §4.3.3).
+    /// A method descriptor by its grammar, but its parameters take over 255 slots (JVMS SE 17 §4.3.3).
     #[error("TooManySlots")]
     TooManySlots,
     /// An allocation was refused. Says nothing of the text.

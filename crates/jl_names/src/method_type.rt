@@ -9,7 +9,7 @@ ghost use Rattle.jl_names.specs.declared.fault.NameFault.TheVariants.{Memory};
 ghost use Rattle.jl_names.specs.MethodTypes.{Signature, method_text, slots_of, IsSignature};
 ghost use Rattle.jl_names.specs.MethodTypes.{IsMethodDescriptor, TakesSlots, IsMethodFault};
 ghost use Rattle.jl_names.specs.ForProofs.Descriptors.{Stops};
-ghost use Rattle.jl_names.specs.ForProofs.MethodTypes.{behind, return_at, Stand, MethodStands};
+ghost use Rattle.jl_names.specs.ForProofs.MethodTypes.{after_byte, return_at, Stand, MethodStands};
 ghost use Rattle.jl_names.specs.ForProofs.MethodTypes.{IsBroken, IsStopped, SlotsStand, FewSlots};
 
 use crate::descriptor::{Element, FieldType, field_at};
@@ -55,9 +55,12 @@ impl<'a> MethodType<'a> {
 
     /// The types that the method descriptor gives.
     ///
-    /// Else `BadDescriptor` of the first byte at which the text can't go on, or of the text's
-    /// length where it ends too early; `TooManySlots` where it is else a method descriptor, but its
-    /// parameters take over 255 slots; or `Memory`.
+    /// # Errors
+    ///
+    /// - `BadDescriptor`: of the first byte at which the text can't go on, or of the text's length
+    ///   if it ends too early.
+    /// - `TooManySlots`: a method descriptor by its grammar, but its parameters take over 255 slots.
+    /// - `Memory`: want of memory.
     pub fn parse(alloc: Global, text: &'a [u8]) -> Result<MethodType<'a>, NameFault>
         ensures ok { IfOk result (λ m.
             IsSignature m × (text.now ≡ method_text m) × (slots m ≤ 255)) }
@@ -89,13 +92,13 @@ impl<'a> MethodType<'a> {
     }
 }
 
-/// The slots that the parameters of the method descriptor take, and None where the text is none; so
-/// it is where they take over 255. One pass, and no memory.
+/// The slots that the parameters of the method descriptor take. None if the text is no method
+/// descriptor, or if they take over 255 slots. One pass, and no memory.
 pub fn method_slots(text: &[u8]) -> Option<u8>
     ensures { MatchOption result (¬ IsMethodDescriptor text.now)
         (λ n. (n ≤ 255) × TakesSlots text.now n) }
 {
-    let inner = behind(text, b'(')?;
+    let inner = after_byte(text, b'(')?;
     let (slots, rest) = slots_at(inner)?;
     let Ok((_, rest)) = return_at(rest) else {
         return None;
@@ -105,7 +108,7 @@ pub fn method_slots(text: &[u8]) -> Option<u8>
 
 // ---- read at the front
 
-/// Where parameters can't go on, or want of memory.
+/// The place at which parameters can't go on, or want of memory.
 #[derive(Drop)]
 enum Broken<'a> {
     At(&'a [u8]),
@@ -123,10 +126,10 @@ impl<'a, T: Drop> From<AllocFailed<T>> for Broken<'a> {
     }
 }
 
-/// What comes behind this byte, if it stands at the front.
-#[tactic(auto, unfolding(crate::specs::ForProofs::MethodTypes::behind))]
-fn behind(text: &[u8], byte: u8) -> Option<&[u8]>
-    ensures { option_map (λ rest. rest.now) result ≡ behind byte text.now }
+/// What comes after this byte, if it stands at the front.
+#[tactic(auto, unfolding(crate::specs::ForProofs::MethodTypes::after_byte))]
+fn after_byte(text: &[u8], byte: u8) -> Option<&[u8]>
+    ensures { option_map (λ rest. rest.now) result ≡ after_byte byte text.now }
 {
     match text {
         [first, rest @ ..] => { if *first == byte { Some(rest) } else { None } }
@@ -145,7 +148,7 @@ fn parameters_at<'a>(
     let mut parameters = Vec::new(alloc);
     let mut rest = text;
     loop {
-        if let Some(after) = behind(rest, b')') {
+        if let Some(after) = after_byte(rest, b')') {
             return Ok((parameters, after));
         }
         match field_at(rest) {
@@ -167,7 +170,7 @@ fn method_at<'a>(
         MethodStands text.now (record { parameters = x.0.items; returns = x.1 }) x.2.now) }
     ensures stopped { IfErr result (IsStopped text.now) }
 {
-    let Some(inner) = behind(text, b'(') else {
+    let Some(inner) = after_byte(text, b'(') else {
         return Err(Broken::At(text));
     };
     let (parameters, rest) = match parameters_at(alloc, inner) {
@@ -224,7 +227,7 @@ fn slots_at(text: &[u8]) -> Option<(u8, &[u8])>
     let mut slots: u8 = 0;
     let mut rest = text;
     loop {
-        if let Some(after) = behind(rest, b')') {
+        if let Some(after) = after_byte(rest, b')') {
             return Some((slots, after));
         }
         let Ok((ty, after)) = field_at(rest) else {

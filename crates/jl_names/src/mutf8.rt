@@ -12,8 +12,12 @@ use std::alloc::{AllocError, Global};
 
 /// The 16-bit units whose modified UTF-8 the text is.
 ///
-/// Else the first fault from the left: `BadByte` of the place where no unit's bytes begin,
-/// `Truncated` where fewer bytes are left than the first of them asks for; or `Memory`.
+/// # Errors
+///
+/// `Memory`, or else the first fault from the left:
+///
+/// - `BadByte`: no unit's bytes begin at the place.
+/// - `Truncated`: fewer bytes are left than the first of them asks for.
 pub fn decode_mutf8(alloc: Global, text: &[u8]) -> Result<Vec<u16>, NameFault>
     ensures ok { IfOk result (λ units. IsMutf8 text.now units.items) }
     ensures fault { IfErr result (IsMutf8Fault text.now) }
@@ -84,7 +88,7 @@ fn unit_at(text: &[u8]) -> Result<(u16, &[u8]), Broken>
     }
 }
 
-/// A unit of two bytes, behind its first one.
+/// A unit of two bytes, from its second byte on.
 #[tactic(auto, unfolding(crate::specs::ForProofs::Units::two_at))]
 fn two_at(first: u8, rest: &[u8]) -> Result<(u16, &[u8]), Broken>
     requires lead { 0xc0 ≤ first }
@@ -105,7 +109,7 @@ fn two_at(first: u8, rest: &[u8]) -> Result<(u16, &[u8]), Broken>
     Ok((unit, rest))
 }
 
-/// A unit of three bytes, behind its first one.
+/// A unit of three bytes, from its second byte on.
 #[tactic(auto, unfolding(crate::specs::ForProofs::Units::three_at))]
 fn three_at(first: u8, rest: &[u8]) -> Result<(u16, &[u8]), Broken>
     requires lead { 0xe0 ≤ first }
@@ -147,7 +151,7 @@ fn push_unit(text: &mut Vec<u8>, unit: u16) -> Result<(), AllocError>
     Ok(())
 }
 
-/// A byte behind a unit's first one: it has the six lowest bits.
+/// A byte after a unit's first one: it has the six lowest bits.
 fn later_byte(bits: u16) -> u8
     ensures { result ≡ 0x80 + bits % 64 }
 {

@@ -85,7 +85,7 @@ impl Name {
         &self.block.as_slice()[self.start..self.start + self.len]
     }
 
-    /// The same name once more, in the same block. It is an error where the block can count no more owners.
+    /// A copy of the name, which shares its block. It is an error if the block can count no more owners.
     pub fn copy(&self, _alloc: Global) -> Result<Name, AllocError>
         ensures { IfOk result (λ copy. copy ≡ self.now) }
     {
@@ -96,8 +96,8 @@ impl Name {
         })
     }
 
-    /// The part of so many bytes from here on, as a name in the same block. It is an error where the block can count no
-    /// more owners.
+    /// The part of `len` bytes from `at` on, as a name in the same block. It is an error if the block can count no more
+    /// owners.
     pub fn part(&self, at: usize, len: usize) -> Result<Name, AllocError>
         requires { at + len ≤ length self.now }
         ensures { IfOk result (λ part. part ≡ take len (drop at self.now)) }
@@ -109,8 +109,8 @@ impl Name {
         })
     }
 
-    /// The first so many bytes as a name in the same block; this one keeps the rest. It is an error where the block can
-    /// count no more owners.
+    /// Splits off the first `count` bytes as a name in the same block; this name keeps the rest. It is an error if the
+    /// block can count no more owners.
     pub fn split_to(&mut self, count: usize) -> Result<Name, AllocError>
         requires { count ≤ length self.old }
         ensures front { IfOk result (λ name. name ≡ take count self.old) }
@@ -156,7 +156,7 @@ impl<'a> LentName<'a> {
         }
     }
 
-    /// The part of this name that has so many bytes, from here on.
+    /// The part of `len` bytes of the kept name, from `at` on.
     pub fn within(block: &'a Name, at: usize, len: usize) -> Self
         requires { at + len ≤ length block.now }
         ensures { result ≡ take len (drop at block.now) }
@@ -171,7 +171,7 @@ impl<'a> LentName<'a> {
         &self.block.as_slice()[self.at..self.at + self.len]
     }
 
-    /// The same name once more, in the same block, as `Name::part` gives it.
+    /// A kept name of these bytes, in the same block. It is an error if the block can count no more owners.
     pub fn copy(&self, _alloc: Global) -> Result<Name, AllocError>
         ensures { IfOk result (λ copy. copy ≡ self.now) }
     {
@@ -179,7 +179,7 @@ impl<'a> LentName<'a> {
     }
 }
 
-/// Names are equal where their bytes are, one by one.
+/// Names are equal if their bytes are, one by one.
 impl PartialEq for Name {
     ghost eq = { pointwise nat_eq };
 

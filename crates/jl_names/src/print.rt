@@ -29,8 +29,8 @@ fn last_word(bytes: &[u8]) -> u64
 
 /// The print that a text makes of the print of what comes before it, or of 0.
 ///
-/// Equal texts make equal prints of one print. Others seldom do, so a few texts of which no two have one print are known to
-/// be different by their prints alone. It takes eight bytes at a time.
+/// Of one print, equal texts make equal prints, and other texts seldom do. So texts of different prints are known to differ by
+/// their prints alone. It takes eight bytes at a time.
 #[tactic(auto, unfolding(crate::specs::ForProofs::Prints::print_from))]
 pub fn print_from(before: u64, text: &[u8]) -> u64
     ensures { result ≡ print_from before text.now }

@@ -12,11 +12,13 @@ use std::collections::{HashMap, HashSet};
 
 /// The first pair whose two texts are those of an earlier pair.
 ///
-/// A pair holds the numbers of two texts, counted from 0. One pair repeats another where the first
-/// texts of both have the same bytes, under whatever numbers, and so have the second ones; a number
-/// that names no text is equal to none. No two fields of a class may repeat so by name and
-/// descriptor, and no two methods (JVMS SE 17 §4.5, §4.6). Each text is hashed twice at most,
-/// however many pairs name it. The only error is a refused allocation.
+/// A pair holds the numbers of two texts, counted from 0. One pair repeats another if the first
+/// texts of both have the same bytes, and so have the second ones. Their numbers may differ. A
+/// number that names no text is equal to none. In a class no two fields, and no two methods, may
+/// repeat so by name and descriptor (JVMS SE 17 §4.5, §4.6).
+///
+/// Each text is hashed twice at most, however many pairs name it. The only error is a refused
+/// allocation.
 pub fn first_repeat(
     alloc: Global,
     texts: &[Option<&[u8]>],
@@ -29,7 +31,7 @@ pub fn first_repeat(
     first_again(alloc, &numbers, pairs)
 }
 
-/// For each text the number of an equal one, the same for equal texts, and None for no text.
+/// A number for each text, and None for no text. Texts have one number exactly if they are equal.
 fn number_texts(alloc: Global, texts: &[Option<&[u8]>]) -> Result<Vec<Option<usize>>, AllocError>
     ensures { IfOk result (λ numbers. Numbers texts.now numbers.items) }
 {
@@ -63,7 +65,7 @@ fn number_of<'a>(
     Ok(fresh)
 }
 
-/// The first pair whose two numbers are those of an earlier pair, where both have one.
+/// The first pair whose two numbers are those of an earlier pair, if both have one.
 fn first_again(
     alloc: Global,
     numbers: &[Option<usize>],

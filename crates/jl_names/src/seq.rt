@@ -58,7 +58,7 @@ impl<T> Seq<T> {
     }
 }
 
-/// Lists are equal where their items are, one by one.
+/// Lists are equal if their items are, one by one.
 impl<T: PartialEq> PartialEq for Seq<T> {
     ghost eq = { pointwise T.eq };
 

@@ -1,4 +1,4 @@
--- Where a value stands, and what a write leaves.
+-- The place of a value, and what a write leaves.
 use Rattle.std.specs.Prelude.{◌≡◌, ℕ, zero, suc, ◌+◌, ◌<◌, ◌≤◌, ◌==◌, nat_lt, not, Bool, true, false, cond, List, [], ◌∷◌, ◌++◌, length, replicate, drop}
 use Rattle.std.specs.Prelude.{Option, Some, None, option_map, find, slice_get, slice_set, if◌then◌else◌}
 use Rattle.std.specs.List.{AllByRecursion}
@@ -131,7 +131,8 @@ module _ {T : Type 0} where
   rising k [] = none_rise
   rising k (None ∷ xs) = rising (suc k) xs
   rising k (Some v ∷ xs) =
-      AllPairs-cons (λ (a b : ℕ × T). a.0 < b.0) (k, v) (placed (suc k) xs) (All-from_recursion (λ (row : ℕ × T). k < row.0) (placed (suc k) xs) (after k (suc k) xs (omega arith)))
+      AllPairs-cons (λ (a b : ℕ × T). a.0 < b.0) (k, v) (placed (suc k) xs)
+      (All-from_recursion (λ (row : ℕ × T). k < row.0) (placed (suc k) xs) (after k (suc k) xs (omega arith)))
       (rising (suc k) xs)
 
   -- ---- one place after another

@@ -1,3 +1,3 @@
--- `Numbers` is what contracts cite; `Placed` is a means of proof.
+-- `Numbers` is what contracts cite; `ForProofs` has means of proof.
 pub mod Numbers
 pub mod ForProofs

@@ -2,7 +2,7 @@
 use Rattle.std.specs.Prelude.{ℕ, ◌<◌, ◌==◌, nat_lt, not, List, find, filter, Option, option_map, AllPairs, refl}
 use Rattle.std.specs.Coded.{Coded, code_by, coded×, coded_ℕ, coded_list}
 
--- each number that has a value, with it, by rising number; and below which number there is room for a value
+-- the numbers that have a value, each with its value, by rising number; and the number below which there is room for values
 pub record Numbered (T : Type 0) : Type 0 where
   pub entries : List (ℕ × T)
   pub room : ℕ

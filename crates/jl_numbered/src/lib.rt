@@ -1,7 +1,7 @@
-//! Values by number, for numbers that lie close together: a list with a place for each number, which grows at its end and moves no value that
-//! it holds by its hash.
+//! Values by number, for numbers that lie close together. They are kept in a list with a place for each number, which grows at its end.
+//! No value is moved by a hash.
 //!
-//! `specs/Numbers` says what a clause sees; `specs/ForProofs` is a means of proof.
+//! `specs/Numbers` says what a clause sees; `specs/ForProofs` has means of proof.
 #![tactic(auto)]
 
 mod numbered;

@@ -1,6 +1,7 @@
 //! Values by number.
 
-ghost use Rattle.std.specs.Prelude.{◌≡◌, ◌==◌, ◌<◌, ◌≤◌, ◌^◌, ◌+◌, ◌++◌, ◌∷◌, [], ℕ, Some, None, length, replicate, drop, slice_get, slice_set, suc, if◌then◌else◌, IfOk, IfSome, OnOk, OnErr};
+ghost use Rattle.std.specs.Prelude.{◌≡◌, ◌==◌, ◌<◌, ◌≤◌, ◌^◌, ◌+◌, ◌++◌, ◌∷◌, [], ℕ, Some, None, length, replicate, drop};
+ghost use Rattle.std.specs.Prelude.{slice_get, slice_set, suc, if◌then◌else◌, IfOk, IfSome, OnOk, OnErr};
 ghost use Rattle.std.specs.Vec.{vec_len, vec_capacity};
 ghost use Rattle.std.specs.Option.{option_copied};
 ghost use Rattle.jl_numbered.specs.Numbers.{value_at, entries_from, AreRising};
@@ -12,8 +13,8 @@ use std::alloc::{AllocError, Global};
 use std::marker::Model;
 use std::mem;
 
-/// Values by number, each at the place of its number. A clause sees the numbers that have one, with it, rising, and below which number
-/// there is room.
+/// Values by number, each at the place of its number. A clause sees the numbers that have a value, each with its value, by rising number.
+/// It also sees the number below which there is room.
 pub struct Numbered<T> {
     slots: Vec<Option<T>>,
     count: usize,
@@ -73,7 +74,7 @@ impl<T: Drop> Numbered<T> {
         }
     }
 
-    /// The first number from this one on that has a value, with it. Takes no memory.
+    /// The first number from `from` on that has a value, with the value. Takes no memory.
     pub fn next(&self, from: usize) -> Option<(usize, &T)>
         ensures entry { IfSome result (λ row. entries_from from self.now.entries ≡ (row.0, row.1.now) ∷ entries_from (suc row.0) self.now.entries) }
         ensures end { result ≡ None → entries_from from self.now.entries ≡ [] }
@@ -101,7 +102,7 @@ impl<T: Drop> Numbered<T> {
         Ok(())
     }
 
-    /// The number has this value, in the place of the one that it had. Takes no memory.
+    /// Gives the number this value, in the place of the one that it had. Takes no memory.
     pub fn put_reserved(&mut self, number: usize, value: T)
         requires { number < self.old.room }
         ensures entries { (n : ℕ) → value_at self.new.entries n ≡ (if number == n then Some value else value_at self.old.entries n) }
@@ -110,7 +111,7 @@ impl<T: Drop> Numbered<T> {
         write(&mut self.slots, &mut self.count, number, Some(value));
     }
 
-    /// The number has this value, in the place of the one that it had.
+    /// Gives the number this value, in the place of the one that it had.
     ///
     /// # Errors
     ///
@@ -125,7 +126,7 @@ impl<T: Drop> Numbered<T> {
         Ok(())
     }
 
-    /// The number has no value any more. Gives the one that it had. Takes no memory.
+    /// Takes away the number's value, and answers the value that it had. Takes no memory.
     pub fn remove(&mut self, number: usize) -> Option<T>
         ensures taken { result ≡ value_at self.old.entries number }
         ensures left { (n : ℕ) → value_at self.new.entries n ≡ (if number == n then None else value_at self.old.entries n) }
@@ -140,7 +141,7 @@ impl<T: Drop> Numbered<T> {
 }
 
 impl<T: Again> Numbered<T> {
-    /// The same values once more. Want of memory is an error.
+    /// A copy of the list, with a copy of each value. The only error is want of memory.
     pub fn copy(&self, alloc: Global) -> Result<Numbered<T>, AllocError>
         ensures { IfOk result (λ copy. copy.entries ≡ self.now.entries) }
     {
@@ -159,7 +160,7 @@ fn slot_at<T>(slots: &[Option<T>], place: usize) -> Option<&Option<T>>
     slots.get(place)
 }
 
-/// The first place from this one on where a value stands, with it.
+/// The first place from `from` on at which a value stands, with the value.
 fn first_from<T>(slots: &[Option<T>], from: usize) -> Option<(usize, &T)>
     ensures entry { IfSome result (λ row. placed from (drop from slots.now) ≡ (row.0, row.1.now) ∷ placed (suc row.0) (drop (suc row.0) slots.now)) }
     ensures end { result ≡ None → placed from (drop from slots.now) ≡ [] }
@@ -176,7 +177,7 @@ fn first_from<T>(slots: &[Option<T>], from: usize) -> Option<(usize, &T)>
     None
 }
 
-/// Writes what stands at the place, and counts the values. Gives what stood there.
+/// Writes what stands at the place, keeps the count of the values right, and answers what stood there.
 fn write<T: Drop>(
     slots: &mut Vec<Option<T>>,
     count: &mut usize,
@@ -204,7 +205,7 @@ fn room_of<T>(slots: &Vec<Option<T>>) -> usize
     slots.as_slice().len()
 }
 
-/// How many values stand there.
+/// How many values stand in the slot: one or none.
 fn one<T>(slot: &Option<T>) -> usize
     ensures { result ≡ placing.one slot.now }
 {
@@ -214,7 +215,7 @@ fn one<T>(slot: &Option<T>) -> usize
     }
 }
 
-/// So many slots more, without values. Takes no memory.
+/// Adds as many slots without values as `more` says. Takes no memory.
 fn add_vacant<T: Drop>(slots: &mut Vec<Option<T>>, more: usize)
     requires { vec_len slots.old + more ≤ vec_capacity slots.old }
     ensures { slots.new.items ≡ slots.old.items ++ replicate more None }
@@ -224,7 +225,7 @@ fn add_vacant<T: Drop>(slots: &mut Vec<Option<T>>, more: usize)
     }
 }
 
-/// The same slots once more. Want of memory is an error.
+/// Copies of the slots, in order.
 fn copies<T: Again>(alloc: Global, slots: &[Option<T>]) -> Result<Vec<Option<T>>, AllocError>
     ensures { IfOk result (λ made. made.items ≡ slots.now) }
 {
@@ -235,7 +236,7 @@ fn copies<T: Again>(alloc: Global, slots: &[Option<T>]) -> Result<Vec<Option<T>>
     Ok(made)
 }
 
-/// The same slot once more. Want of memory is an error.
+/// A copy of the slot.
 fn copy_of<T: Again>(alloc: Global, slot: &Option<T>) -> Result<Option<T>, AllocError>
     ensures { IfOk result (λ copy. copy ≡ slot.now) }
 {

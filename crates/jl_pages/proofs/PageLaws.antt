@@ -1,4 +1,4 @@
--- Where an element stands.
+-- The place of an element.
 use Rattle.std.specs.Prelude.{◌≡◌, ℕ, zero, suc, ◌+◌, ◌*◌, ◌<◌, ◌≤◌, List, [], ◌∷◌, ◌++◌, length, slice_get, Some, None}
 use Rattle.std.proofs.Common.{refl, ap, ◌∙◌, arith, length-append, append_assoc}
 use Rattle.std.proofs.lemmas.Option.{same_Some}
@@ -10,15 +10,15 @@ past (x ∷ xs) zero is = cc
 past (x ∷ xs) (suc i) is = let le = past xs i is in omega (arith, le)
 
 module _ {T : Type 0} where
-  in_front : (xs ys : List T) (i : ℕ) → i < length xs → slice_get (xs ++ ys) i ≡ slice_get xs i
+  pub in_front : (xs ys : List T) (i : ℕ) → i < length xs → slice_get (xs ++ ys) i ≡ slice_get xs i
   in_front [] ys i few = absurd (omega (arith, few))
   in_front (x ∷ xs) ys zero few = refl
   in_front (x ∷ xs) ys (suc i) few = in_front xs ys i (omega (arith, few))
 
-  pub behind : (xs ys : List T) (i n : ℕ) → i ≡ length xs + n → slice_get (xs ++ ys) i ≡ slice_get ys n
-  behind [] ys i n is = ap (slice_get ys) (omega (arith, is))
-  behind (x ∷ xs) ys zero n is = absurd (omega (arith, is))
-  behind (x ∷ xs) ys (suc i) n is = behind xs ys i n (omega (arith, is))
+  pub after : (xs ys : List T) (i n : ℕ) → i ≡ length xs + n → slice_get (xs ++ ys) i ≡ slice_get ys n
+  after [] ys i n is = ap (slice_get ys) (omega (arith, is))
+  after (x ∷ xs) ys zero n is = absurd (omega (arith, is))
+  after (x ∷ xs) ys (suc i) n is = after xs ys i n (omega (arith, is))
 
   many : (pages : List (List T)) → AreFull pages → length (elements pages) ≡ 64 * length pages
   many [] full = refl
@@ -39,7 +39,7 @@ module _ {T : Type 0} where
       same_place = omega (arith, is)
   at_page (first ∷ pages) last page (suc q) i r full at is few =
       ap (λ (xs : List T). slice_get xs i) (append_assoc first (elements pages) last)
-      ∙ behind first (elements pages ++ last) i (64 * q + r) (omega (arith, full.0, is))
+      ∙ after first (elements pages ++ last) i (64 * q + r) (omega (arith, full.0, is))
       ∙ at_page pages last page q (64 * q + r) r full.1 at refl few
 
   -- no full page is at its place

@@ -1,3 +1,3 @@
--- `Listing` is what contracts cite; `Pages` is a means of proof.
+-- `Listing` is what contracts cite; `ForProofs` has means of proof.
 pub mod Listing
 pub mod ForProofs

@@ -3,7 +3,7 @@ use Rattle.std.specs.Prelude.{nat_lt, Bool, List, Vec, refl}
 use Rattle.std.specs.Vec.{vec_len, vec_capacity}
 use Rattle.std.specs.Coded.{Coded, code_by, coded×, coded_bool, coded_list}
 
--- the elements, in order, and whether there is room for one more
+-- the elements in order, and whether there is room for one more without memory
 pub record Listed (T : Type 0) : Type 0 where
   pub items : List T
   pub room : Bool

@@ -1,6 +1,6 @@
-//! Lists in pages, which copies share: [`Paged`] grows at its end, and a copy costs its list of pages and the last few elements.
+//! Lists in pages, which copies share. [`Paged`] grows at its end. A copy costs its list of pages and the last few elements.
 //!
-//! `specs/Listing` says what a clause sees; `specs/ForProofs` is a means of proof.
+//! `specs/Listing` says what a clause sees; `specs/ForProofs` has means of proof.
 #![tactic(auto)]
 
 mod again;

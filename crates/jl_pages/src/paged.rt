@@ -10,7 +10,7 @@ use std::marker::Model;
 
 /// A list that grows at its end. A clause sees the elements, and whether there is room for one more.
 ///
-/// The elements stand in pages of 64, which copies share, and behind these in a page of its own.
+/// The elements stand in full pages of 64, which copies share. Those after the full pages stand in a page that no copy shares.
 pub struct Paged<T> {
     full: Vec<Page<T>>,
     last: Vec<T>,
@@ -108,7 +108,7 @@ impl<T: Drop> Paged<T> {
         Ok(())
     }
 
-    /// Adds the element behind the others. Takes no memory.
+    /// Adds the element after the others. Takes no memory.
     pub fn push_reserved(&mut self, element: T)
         requires room { self.old.room ≡ true }
         requires few { length self.old.items < 2 ^ 32 }
@@ -127,8 +127,7 @@ fn element_at<A>(elements: &[A], place: usize) -> Option<&A>
 }
 
 impl<T: Again> Paged<T> {
-    /// The same list once more, which shares its pages but for the last one, whose elements are copied. Want of memory is an
-    /// error.
+    /// A copy of the list, which shares its full pages. The elements of the last page are copied. The only error is want of memory.
     pub fn copy(&self, alloc: Global) -> Result<Paged<T>, AllocError>
         ensures { IfOk result (λ copy. copy.items ≡ self.now.items) }
     {

@@ -9,7 +9,7 @@ use std::marker::Model;
 use std::mem;
 use std::sync::Arc;
 
-/// How many elements a page has that is full.
+/// How many elements a full page has.
 pub(crate) const PAGE: usize = 64;
 
 /// Elements that several lists share. A clause sees them.
@@ -34,7 +34,7 @@ impl<T> Page<T> {
         self.kept.as_slice()
     }
 
-    /// The same page once more, which both share. Too many copies are an error.
+    /// A copy of the page, which shares its elements. Too many copies are an error.
     fn copy(&self) -> Result<Page<T>, AllocError>
         ensures { IfOk result (λ copy. copy ≡ self.now) }
     {
@@ -44,7 +44,8 @@ impl<T> Page<T> {
     }
 }
 
-/// Puts the elements of the last page behind the full ones, as one of these. Want of memory is an error; nothing has changed then.
+/// Makes the last page, which has to be full, the last of the full ones, and begins an empty one. If there is no memory for it,
+/// nothing has changed.
 pub(crate) fn close<T: Drop>(
     alloc: Global,
     full: &mut Vec<Page<T>>,
@@ -69,7 +70,7 @@ pub(crate) fn close<T: Drop>(
     }
 }
 
-/// The same pages once more, which both share. Want of memory is an error.
+/// A copy of the list of pages, which shares the pages.
 pub(crate) fn copy_pages<T: Drop>(
     alloc: Global,
     pages: &[Page<T>],
@@ -83,7 +84,7 @@ pub(crate) fn copy_pages<T: Drop>(
     Ok(made)
 }
 
-/// The same elements once more. Want of memory is an error.
+/// Copies of the elements, in order.
 pub(crate) fn copy_items<T: Again>(alloc: Global, items: &[T]) -> Result<Vec<T>, AllocError>
     ensures { IfOk result (λ made. made.items ≡ items.now) }
 {

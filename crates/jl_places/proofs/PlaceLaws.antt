@@ -1,43 +1,25 @@
 -- Where a place stands once it was added.
-use Rattle.std.specs.Prelude.{◌≡◌, ℕ, zero, suc, ◌+◌, ◌==◌, ◌&&◌, ◌||◌, Bool, true, false, List, [], ◌∷◌, ◌++◌, length, replicate, get_or, position}
+use Rattle.std.specs.Prelude.{◌≡◌, ℕ, zero, suc, ◌+◌, ◌&&◌, ◌||◌, Bool, true, false, List, [], ◌∷◌, ◌++◌, length, replicate, get_or, position}
 use Rattle.std.specs.Prelude.{Option, Some, None, option_map, if◌then◌else◌}
 use Rattle.std.specs.List.{list_any, IsDistinct}
 use Rattle.std.proofs.Common.{refl, ap, sym, subst, ◌∙◌, arith}
 use Rattle.std.proofs.lemmas.Bool.{both_ways}
 use Rattle.std.proofs.lemmas.Bool.Decides.{Decides-eqb}
-use Rattle.std.proofs.lemmas.Grind.{common_steps}
 use Rattle.std.proofs.lemmas.Map.Keys.{IsDistinct-push}
 use Rattle.std.proofs.lemmas.List.{length-replicate}
 use Rattle.std.specs.Cmp.{IsEquivalence}
 use Rattle.jl_types.specs.declared.ids.Place.{Place}
 use Rattle.jl_types.specs.Events.Verdict.{same_place}
-use Rattle.jl_types.proofs.Bools.{first_test, second_test}
+use Rattle.jl_types.proofs.Firsts.{first_here, first_later, no_later}
+use Rattle.jl_types.proofs.Places.{same_so}
 use Rattle.jl_places.specs.ForProofs.Parts.{ByClass, part_of, number_in, number_at, AreFound}
 
 -- ---- one place
-
-same_so : (p q : Place) → same_place p q ≡ true → p ≡ q
-same_so p q is =
-    let class = (Decides-eqb p.class q.class).0 (first_test (p.class == q.class) ((p.method == q.method) && (p.pc == q.pc)) is) in
-    let rest = second_test (p.class == q.class) ((p.method == q.method) && (p.pc == q.pc)) is in
-    let method = (Decides-eqb p.method q.method).0 (first_test (p.method == q.method) (p.pc == q.pc) rest) in
-    let pc = (Decides-eqb p.pc q.pc).0 (second_test (p.method == q.method) (p.pc == q.pc) rest) in
-    λ i. record { class = class i; method = method i; pc = pc i }
 
 both_so : {a b : Bool} → a ≡ true → b ≡ true → (a && b) ≡ true
 both_so {a} {b} e f = ap (λ (d : Bool). d && b) e ∙ f
 
 -- ---- the first place that passes
-
-first_here : (test : Place → Bool) (x : Place) (xs : List Place) → test x ≡ true → position test (x ∷ xs) ≡ Some 0
-first_here test x xs e = grind (arith, common_steps)
-
-first_later : (test : Place → Bool) (x : Place) (xs : List Place) → test x ≡ false → position test (x ∷ xs) ≡ option_map (λ n. n + 1) (position test xs)
-first_later test x xs e = grind (arith, common_steps)
-
-no_later : (o : Option ℕ) → option_map (λ n. n + 1) o ≡ None → o ≡ None
-no_later None e = refl
-no_later (Some n) e = cc
 
 -- one that passes comes last
 last_passes : (test : Place → Bool) (p : Place) (xs : List Place) → position test xs ≡ None → test p ≡ true

@@ -1,2 +1,2 @@
--- `Parts` is a means of proof.
+-- `ForProofs` has means of proof.
 pub mod ForProofs

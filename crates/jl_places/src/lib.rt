@@ -1,7 +1,7 @@
-//! The places that were requested, in order of request. Where one stands is told by many small maps, in which places are kept by class. So none
-//! ever moves many entries at a time, and copies share all of them.
+//! The places that were requested, in order of request. Many small maps, which keep places by class, tell the number of a place. So
+//! no map ever moves many entries at a time, and copies share all maps.
 //!
-//! `specs/ForProofs` is a means of proof.
+//! `specs/ForProofs` has means of proof.
 #![tactic(auto)]
 
 mod numbers;

@@ -35,7 +35,7 @@ impl Model for Part {
 }
 
 impl Part {
-    /// No places. Want of memory is an error.
+    /// No places.
     pub(crate) fn new(alloc: Global) -> Result<Part, AllocError>
         ensures { IfOk result (λ part. part ≡ []) }
     {
@@ -51,7 +51,7 @@ impl Part {
         self.shared.get(place)
     }
 
-    /// The place has this number. A part that others share is copied first.
+    /// Gives the place this number. A part that others share is copied first.
     ///
     /// # Errors
     ///
@@ -69,7 +69,7 @@ impl Part {
         numbers.insert(alloc, place, number)
     }
 
-    /// The same part once more, which both share. Too many copies are an error.
+    /// A copy of the part, which shares its places. Too many copies are an error.
     pub(crate) fn copy(&self) -> Result<Part, AllocError>
         ensures { IfOk result (λ copy. copy ≡ self.now) }
     {
@@ -196,7 +196,7 @@ impl Clone for ClassNumbers {
 }
 
 impl ClassNumbers {
-    /// One place with its number. Want of memory is an error.
+    /// One place with its number.
     fn one(alloc: Global, called: Called, number: u32) -> Result<ClassNumbers, AllocError>
         ensures { IfOk result (λ numbers. (c : within.Called) → number_within numbers c ≡ (if is_at (called_cmp called) c then Some number else None)) }
     {

@@ -1,6 +1,7 @@
 //! The places.
 
-ghost use Rattle.std.specs.Prelude.{◌≡◌, ◌==◌, ◌<◌, ◌^◌, ◌++◌, ◌∷◌, [], List, Some, None, length, position, replicate, slice_get, if◌then◌else◌, IfOk, IfSome, OnOk, OnErr};
+ghost use Rattle.std.specs.Prelude.{◌≡◌, ◌==◌, ◌<◌, ◌^◌, ◌++◌, ◌∷◌, [], List, Some, None, length, position, replicate, slice_get};
+ghost use Rattle.std.specs.Prelude.{if◌then◌else◌, IfOk, IfSome, OnOk, OnErr};
 ghost use Rattle.std.specs.Option.{option_copied};
 ghost use Rattle.std.specs.List.{IsDistinct};
 ghost use Rattle.jl_types.specs.declared.ids.Place as ids;
@@ -47,7 +48,7 @@ impl Model for Places {
 }
 
 impl Places {
-    /// No places. Want of memory is an error.
+    /// No places.
     pub fn new(alloc: Global) -> Result<Places, AllocError>
         ensures { IfOk result (λ places. places ≡ []) }
     {
@@ -94,7 +95,7 @@ impl Places {
         }
     }
 
-    /// One place more, which isn't there, after the others.
+    /// Adds a place, which isn't there yet, after the others.
     ///
     /// # Errors
     ///
@@ -112,7 +113,7 @@ impl Places {
         Ok(())
     }
 
-    /// The same places once more, which share their pages and parts. Want of memory is an error.
+    /// A copy of the places, which shares their full pages and their parts. Want of memory is an error, and so are too many copies.
     pub fn copy(&self, alloc: Global) -> Result<Places, AllocError>
         ensures { IfOk result (λ copy. copy ≡ self.now) }
     {
@@ -159,7 +160,7 @@ fn number_of(parts: &[Part], place: &Place) -> Option<u32>
     parts[part_of(place)].get(place)
 }
 
-/// The place's part has this number of it.
+/// Gives the place this number in its part.
 ///
 /// # Errors
 ///
@@ -178,7 +179,7 @@ fn put_in(
     parts[part_of(place)].insert(alloc, place, number)
 }
 
-/// So many copies of the part, which all share. Want of memory is an error.
+/// As many copies of the part as `count` says. They share its places.
 fn repeated(alloc: Global, part: &Part, count: usize) -> Result<Vec<Part>, AllocError>
     ensures { IfOk result (λ made. made.items ≡ replicate count part.now) }
 {
@@ -189,7 +190,7 @@ fn repeated(alloc: Global, part: &Part, count: usize) -> Result<Vec<Part>, Alloc
     Ok(made)
 }
 
-/// The same parts once more, which both share. Want of memory is an error.
+/// Copies of the parts, in order, which share their places.
 fn copies(alloc: Global, parts: &[Part]) -> Result<Vec<Part>, AllocError>
     ensures { IfOk result (λ made. made.items ≡ parts.now) }
 {

@@ -183,7 +183,7 @@ constant_takes last (t ∷ bytes) x fits e =
           }
     ]
 
--- where the tag is bad
+-- if the tag is bad
 pub constant_tag : (last : Bool) (bytes : List ℕ) → constant_at last bytes ≡ Err Tag → (t : ℕ) × (rest : List ℕ) × (bytes ≡ t ∷ rest)
     × IsTrue (is_bad_tag last t)
 unfolding constant_at

@@ -61,7 +61,7 @@ tells (Package name) start = record { two = refl; even = λ e. tt; form = refl }
 even_text : (c : Constant) → has_odd c ≡ false → HasText c
 even_text c = (tells c 0).even
 
--- where a text has an odd byte, it is good if the bytes begin with one that is
+-- a text that has an odd byte is good if the bytes begin with one that is
 good_text : (c : Constant) (after : List ℕ) → IsSized c → has_odd c ≡ true → BeginsText (constant_text c ++ after) → HasText c
 good_text (Utf8 text) after sized e good = rw (text_again text after sized) at good
 good_text _ after sized e good = absurd cc

@@ -19,12 +19,12 @@ pub record Takes (bytes text rest : List ℕ) : Type 0 where
   pub parts : bytes ≡ text ++ rest
   pub bytes_left : IsBytes rest
 
-IsBytes-behind : (front rest : List ℕ) → IsBytes (front ++ rest) → IsBytes rest
-IsBytes-behind [] rest h = h
-IsBytes-behind (b ∷ front) rest h = IsBytes-behind front rest (IsBytes-rest b (front ++ rest) h)
+IsBytes-after : (front rest : List ℕ) → IsBytes (front ++ rest) → IsBytes rest
+IsBytes-after [] rest h = h
+IsBytes-after (b ∷ front) rest h = IsBytes-after front rest (IsBytes-rest b (front ++ rest) h)
 
 pub takes : (bytes text rest : List ℕ) → IsBytes bytes → bytes ≡ text ++ rest → Takes bytes text rest
-takes bytes text rest fits e = record { parts = e; bytes_left = IsBytes-behind text rest (subst IsBytes e fits) }
+takes bytes text rest fits e = record { parts = e; bytes_left = IsBytes-after text rest (subst IsBytes e fits) }
 
 pub bind_some : {A B : Type 0} (o : Option A) (f : A → Option B) (y : B) → (o >>= f) ≡ Some y → (x : A) × (o ≡ Some x) × (f x ≡ Some y)
 bind_some None f y e = absurd cc
@@ -139,7 +139,7 @@ pub handle_again : (m n : ℕ) (rest : List ℕ) → n < 2 ^ 16 → handle_at ((
 unfolding handle_at
 handle_again m n rest hn = rw (u1_again m (u2 n ++ rest), u2_again n rest hn) refl
 
--- ---- bytes behind their count
+-- ---- bytes after their count
 
 pub text_takes : (bytes : List ℕ) (x : List ℕ × List ℕ) → IsBytes bytes → text_at bytes ≡ Some x → Takes bytes (u2 (length x.0) ++ x.0) x.1
     × (length x.0 < 2 ^ 16)

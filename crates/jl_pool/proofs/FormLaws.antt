@@ -1,5 +1,5 @@
 -- What a text may stand for, found by reading it, is what the definitions say.
-use Rattle.std.proofs.Common.{◌≡◌, ℕ, ◌+◌, ◌<◌, ◌≤◌, Bool, true, false, eqb, ◌&&◌, not, List, [], ◌∷◌, length, Option, Some, None, Result}
+use Rattle.std.proofs.Common.{◌≡◌, ℕ, ◌+◌, ◌<◌, ◌≤◌, Bool, true, false, eqb, not, List, [], ◌∷◌, length, Option, Some, None, Result}
 use Rattle.std.proofs.Common.{Ok, Err, refl, sym, ap, ◌∙◌, arith}
 use Rattle.jl_names.specs.declared.fault.NameFault.{NameFault}
 use Rattle.jl_names.specs.declared.fault.NameFault.TheVariants.{BadByte, Truncated, BadDescriptor, TooManySlots, Memory}
@@ -9,19 +9,19 @@ use Rattle.std.specs.List.{AllByRecursion, list_all}
 use Rattle.std.proofs.lemmas.List.Elements.{All-from_recursion}
 use Rattle.std.proofs.lemmas.List.Splits.{slice_split_none}
 use Rattle.jl_names.specs.ClassNames.{is_reserved, is_unqualified, is_class_name}
-use Rattle.std.proofs.lemmas.Bool.{false_from_ne_true}
+use Rattle.std.proofs.lemmas.Bool.{false_from_ne_true, and_parts}
 use Rattle.std.proofs.lemmas.Bool.Decides.{nat_tests}
 use Rattle.jl_names.specs.declared.descriptor.FieldType.{FieldType}
 use Rattle.jl_names.specs.Descriptors.{field_text, IsFieldType, IsFieldDescriptor, IsFieldFault}
 use Rattle.jl_names.specs.MethodTypes.{IsMethodDescriptor, TakesSlots, slots_of}
 use Rattle.jl_names.specs.ForProofs.Descriptors.{field_at}
-use Rattle.jl_names.specs.ForProofs.MethodTypes.{behind, return_at, SlotsStand, FewSlots}
+use Rattle.jl_names.specs.ForProofs.MethodTypes.{after_byte, return_at, SlotsStand, FewSlots}
 use Rattle.jl_names.proofs.Tests.{told-decides}
 use Rattle.jl_names.proofs.DescriptorLaws.{field_whole, field_fault, field_trailing, field_less}
 use Rattle.jl_names.proofs.MethodLaws.{method_one}
 use Rattle.jl_names.proofs.SlotLaws.{SlotsStand-more, SlotsStand-closed, stopped_none, over_none, unopened_none, many_none, result_none}
 use Rattle.jl_names.proofs.SlotLaws.{trailing_none, whole_slots}
-use Rattle.jl_pool.specs.ForProofs.Forms.{is_whole, is_field, at_close, at_type, slots_from, if_whole, slots_behind, method_slots}
+use Rattle.jl_pool.specs.ForProofs.Forms.{is_whole, is_field, at_close, at_type, slots_from, if_whole, slots_after, method_slots}
 
 -- ---- field descriptors
 
@@ -52,7 +52,7 @@ from_is (turn ∷ turns) text n rest short few s =
     (λ x e fits.
     from_is turns text (n + slots_of x.0) x.1 (let less = field_less rest x.1 x.0 e in omega (arith, less, short)) fits
     (SlotsStand-more text n rest x.0 x.1 s e (omega (arith, fits))))
-    (behind 41 rest) refl where
+    (after_byte 41 rest) refl where
       at_sum : ((x : FieldType × List ℕ) → field_at rest ≡ Ok x → n + slots_of x.0 ≤ 255 → SlotsFound text (slots_from turns (n + slots_of x.0) x.1))
           → (x : FieldType × List ℕ) → field_at rest ≡ Ok x → (b : Bool) → nat_le (n + slots_of x.0) 255 ≡ b
           → SlotsFound text (if b then slots_from turns (n + slots_of x.0) x.1 else None)
@@ -60,12 +60,13 @@ from_is (turn ∷ turns) text n rest short few s =
       at_sum next x e false over = over_none text n rest x.0 x.1 s e (grind (arith, nat_tests))
 
       at_field : ((x : FieldType × List ℕ) → field_at rest ≡ Ok x → n + slots_of x.0 ≤ 255 → SlotsFound text (slots_from turns (n + slots_of x.0) x.1))
-          → behind 41 rest ≡ None → (read : Result (FieldType × List ℕ) (List ℕ)) → field_at rest ≡ read → SlotsFound text (at_type (slots_from turns) n read)
+          → after_byte 41 rest ≡ None → (read : Result (FieldType × List ℕ) (List ℕ)) → field_at rest ≡ read
+          → SlotsFound text (at_type (slots_from turns) n read)
       at_field next unclosed (Err left) e = stopped_none text n rest left s unclosed e
       at_field next unclosed (Ok x) e = at_sum next x e (nat_le (n + slots_of x.0) 255) refl
 
       at_bracket : ((x : FieldType × List ℕ) → field_at rest ≡ Ok x → n + slots_of x.0 ≤ 255 → SlotsFound text (slots_from turns (n + slots_of x.0) x.1))
-          → (o : Option (List ℕ)) → behind 41 rest ≡ o → SlotsFound text (at_close n o (at_type (slots_from turns) n (field_at rest)))
+          → (o : Option (List ℕ)) → after_byte 41 rest ≡ o → SlotsFound text (at_close n o (at_type (slots_from turns) n (field_at rest)))
       at_bracket next (Some after) e = (few, SlotsStand-closed text n rest after s e)
       at_bracket next None e = at_field next e (field_at rest) refl
 
@@ -79,7 +80,7 @@ SlotsAre text found = MatchOption found (¬ IsMethodDescriptor text) (IsSlots te
 none_before : (inner : List ℕ) → SlotsStand inner 0 inner
 none_before inner = record { types = []; stand = record { each = tt; bytes = refl }; slots_is = refl; few = omega arith }
 
-method_slots-at : (text : List ℕ) (opened : Option (List ℕ)) → behind 40 text ≡ opened → SlotsAre text (option_and_then slots_behind opened)
+method_slots-at : (text : List ℕ) (opened : Option (List ℕ)) → after_byte 40 text ≡ opened → SlotsAre text (option_and_then slots_after opened)
 method_slots-at text None e = unopened_none text e
 method_slots-at text (Some inner) e = at_parameters (slots_from (0 ∷ inner) 0 inner)
     (from_is (0 ∷ inner) inner 0 inner (omega arith) (omega arith) (none_before inner)) where
@@ -99,7 +100,7 @@ method_slots-at text (Some inner) e = at_parameters (slots_from (0 ∷ inner) 0 
 
 pub method_slots-is : (text : List ℕ) → SlotsAre text (method_slots text)
 unfolding method_slots
-method_slots-is text = method_slots-at text (behind 40 text) refl
+method_slots-is text = method_slots-at text (after_byte 40 text) refl
 
 -- a text takes one number of slots
 pub one_slots : (text : List ℕ) (m n : ℕ) → TakesSlots text m → TakesSlots text n → m ≡ n
@@ -135,13 +136,9 @@ counted text found h = same_slots text found (method_slots text) (slots_of_found
 reserves_slash : (b : ℕ) → not (is_reserved b) ≡ true → eqb b 47 ≡ false
 reserves_slash b h = grind (arith, nat_tests)
 
-pub and_true : (a b : Bool) → (a && b) ≡ true → (a ≡ true) × (b ≡ true)
-and_true true b e = (refl, e)
-and_true false b e = absurd cc
-
 no_slash : (text : List ℕ) → list_all (λ c. not (is_reserved c)) text ≡ true → AllByRecursion (λ b. eqb b 47 ≡ false) text
 no_slash [] h = tt
-no_slash (b ∷ text) h = let both = and_true (not (is_reserved b)) (list_all (λ c. not (is_reserved c)) text) h in
+no_slash (b ∷ text) h = let both = and_parts (not (is_reserved b)) (list_all (λ c. not (is_reserved c)) text) h in
     (reserves_slash b both.0, no_slash text both.1)
 
 -- an unqualified name is a class name, of one part

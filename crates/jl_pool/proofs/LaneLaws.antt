@@ -123,7 +123,7 @@ module _ (test : ℕ → Bool) where
   covered (suc i) (suc n) (x ∷ xs) le =
       or_assoc (test x) (list_any test (take n xs)) (list_any test (drop i xs)) ∙ ap (λ b. test x || b) (covered i n xs (omega arith))
 
-  -- a front, and a window behind it
+  -- a front, and a window after it
   pub longer : (i n j : ℕ) (text : List ℕ) → j ≡ i + n → (list_any test (take i text) || list_any test (take n (drop i text))) ≡ list_any test (take j text)
   longer zero n j text e = let same : n ≡ j = omega arith in ap (λ k. list_any test (take k text)) same
   longer (suc i) n zero text e = absurd (omega arith)
@@ -134,7 +134,7 @@ module _ (test : ℕ → Bool) where
   longer (suc i) n (suc j) (x ∷ xs) e =
       or_assoc (test x) (list_any test (take i xs)) (list_any test (take n (drop i xs))) ∙ ap (λ b. test x || b) (longer i n j xs (omega arith))
 
--- the marks of a front and of a window behind it
+-- the marks of a front and of a window after it
 pub window_more : (i n j : ℕ) (text : List ℕ) → j ≡ i + n → either (marks_of (take i text)) (marks_of (take n (drop i text))) ≡ marks_of (take j text)
 window_more i n j text e = λ k. record {
   barred = longer is_barred i n j text e k;

@@ -3,7 +3,7 @@ use Rattle.std.proofs.Common.{◌≡◌, ◌≢◌, ℕ, zero, suc, Bool, true, 
 use Rattle.std.proofs.Common.{subst, ◌∙◌, arith}
 use Rattle.std.specs.Prelude.{replicate}
 use Rattle.std.specs.List.{list_all, list_any, slice_split, onto_first, AllByRecursion}
-use Rattle.std.proofs.lemmas.Bool.{false_from_ne_true}
+use Rattle.std.proofs.lemmas.Bool.{false_from_ne_true, and_parts}
 use Rattle.std.proofs.lemmas.Bool.Decides.{nat_tests}
 use Rattle.std.proofs.lemmas.List.Elements.{All-from_recursion}
 use Rattle.std.proofs.lemmas.List.Splits.{slice_split_none}
@@ -16,7 +16,7 @@ use Rattle.jl_pool.specs.declared.form.Marks.{Marks}
 use Rattle.jl_pool.specs.Pools.{has_angle}
 use Rattle.jl_pool.specs.ForProofs.Forms.{is_field, method_slots, form_of}
 use Rattle.jl_pool.specs.ForProofs.Marks.{is_barred, is_slash, marks_of}
-use Rattle.jl_pool.proofs.FormLaws.{is_field-is, class_name_of, and_true}
+use Rattle.jl_pool.proofs.FormLaws.{is_field-is, class_name_of}
 
 pub neither : (x y : Bool) → (x || y) ≡ false → (x ≡ false) × (y ≡ false)
 neither true y h = absurd cc
@@ -93,7 +93,7 @@ part_clean (b ∷ part) h = unbarred (b ∷ part) h
 parts_clean : (parts : List (List ℕ)) → list_all is_unqualified parts ≡ true → list_all is_clean parts ≡ true
 parts_clean [] h = refl
 parts_clean (part ∷ parts) h =
-    let both = and_true (is_unqualified part) (list_all is_unqualified parts) h in
+    let both = and_parts (is_unqualified part) (list_all is_unqualified parts) h in
     rw (part_clean part both.0) (parts_clean parts both.1)
 
 -- a class name has no barred byte

@@ -62,7 +62,7 @@ fits_wide : (count place : ℕ) (wide : Bool) → place + cond wide 2 1 ≤ coun
 fits_wide count place false le = grind (arith, nat_tests)
 fits_wide count place true le = grind (arith, nat_tests)
 
--- where a constant ends below the count there is room for it
+-- if a constant ends below the count, there is room for it
 room_for : (count place : ℕ) (c : Constant) → place + length (places_of c) ≤ count → eqb (place + 1) count && is_wide (tag c) ≡ false
 room_for count place c le = fits_wide count place (is_wide (tag c)) (omega (arith, places_by_tag c))
 
@@ -161,7 +161,7 @@ SoFar-more bytes entries bad rest count place c after s lt e worse tells =
           (text_kept c rest after r.sized r.taken.parts (tells both.1));
     }
 
--- ---- the same by what is kept of the constant
+-- ---- a reading of constants, by what is kept of them
 
 kept_ok : (start : ℕ) (read : Result (Constant × List ℕ) Stop) (k : Kept) (after : List ℕ) → keep_read start read ≡ Ok (k, after) → (c : Constant)
     × (read ≡ Ok (c, after)) × (kept_of c start ≡ k)
@@ -264,7 +264,7 @@ either (c ∷ cs) (d ∷ ds) x y hc hd e =
 pub places-append : (cs more : List Constant) → length (places (cs ++ more)) ≡ length (places cs) + length (flat_map places_of more)
 places-append cs more = omega (arith, ap length (flat_map-append places_of cs more), length-append (flat_map places_of cs) (flat_map places_of more))
 
--- where bytes end before a constant does none stands
+-- if bytes end before a constant does, none stands
 cut_none : (count place : ℕ) (left : List ℕ) (more : List Constant) (y : List ℕ) → constant_at (eqb (place + 1) count) left ≡ Err Cut
     → place + length (flat_map places_of more) ≤ count
     → AllByRecursion IsSized more → left ≡ flat_map constant_text more ++ y → more ≡ []

@@ -5,7 +5,7 @@ use Rattle.std.proofs.Common.{append_assoc, length-append, arith}
 use Rattle.std.specs.Prelude.{option_map, nat_le}
 use Rattle.std.specs.Option.{option_and_then, unwrap_or}
 use Rattle.std.specs.List.{flat_map, list_all, AllByRecursion}
-use Rattle.std.proofs.lemmas.Bool.{le-leb}
+use Rattle.std.proofs.lemmas.Bool.{le-leb, and_parts}
 use Rattle.std.proofs.lemmas.List.{take_at, drop_at, map-append, flat_map_more}
 use Rattle.std.proofs.lemmas.List.Folds.{list_all-append}
 use Rattle.std.proofs.lemmas.Option.{slice_get-map}
@@ -25,9 +25,8 @@ use Rattle.jl_pool.specs.ForProofs.Forms.{form_of, forms_of}
 use Rattle.jl_pool.specs.ForProofs.Table.{shown, pool_of, is_within, form_in, IsTable, Shows, entry_at, entry_of, entries_of}
 use Rattle.jl_pool.proofs.Fields.{guard_some, u8_again}
 use Rattle.jl_pool.proofs.EntryLaws.{form_kept}
-use Rattle.jl_pool.proofs.FormLaws.{and_true}
 
--- ---- the entry of one constant, behind some bytes and before others
+-- ---- the entry of one constant, after some bytes and before others
 
 text_there : (front head text after : List ℕ) (n : ℕ) → length front + length head ≡ n → take (length text) (drop n (front ++ (head ++ (text ++ after)))) ≡ text
 text_there front head text after n e =
@@ -172,8 +171,8 @@ shown_at bytes entries n = sym (ap (option_and_then (λ p. p)) (slice_get-map (s
 
 pub within_at : (size : ℕ) (entries : List KeptConstant) (n : ℕ) → list_all (is_within size) entries ≡ true → is_within size (entry_at entries n) ≡ true
 within_at size [] n h = refl
-within_at size (entry ∷ entries) zero h = (and_true (is_within size entry) (list_all (is_within size) entries) h).0
-within_at size (entry ∷ entries) (suc n) h = within_at size entries n (and_true (is_within size entry) (list_all (is_within size) entries) h).1
+within_at size (entry ∷ entries) zero h = (and_parts (is_within size entry) (list_all (is_within size) entries) h).0
+within_at size (entry ∷ entries) (suc n) h = within_at size entries n (and_parts (is_within size entry) (list_all (is_within size) entries) h).1
 
 formed_here : (place : Option KeptConstant) → form_in (unwrap_or place kept.Nothing) ≡ option_and_then (λ p. p) (option_map form_in place)
 formed_here None = refl

@@ -25,7 +25,7 @@ tag (InvokeDynamic bootstrap name_and_type) = 18
 tag (Module name) = 19
 tag (Package name) = 20
 
--- what stands behind the tag
+-- what follows the tag
 abbrev pub payload : Constant → List ℕ
 payload (Utf8 bytes) = u2 (length bytes) ++ bytes
 payload (Integer bits) = u4 bits

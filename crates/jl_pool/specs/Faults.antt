@@ -16,7 +16,7 @@ pub record Opens (text : List ℕ) (count : ℕ) (cs : List Constant) (left : Li
   pub each : AllByRecursion IsSized cs
   pub more : length (places cs) < count
 
--- the tag is unknown, or one of a constant of two numbers of which the second isn't below the count
+-- the tag is unknown, or its constant takes two numbers and the second isn't below the count
 abbrev pub IsBadTag : ℕ → ℕ → ℕ → Type 0
 IsBadTag count i t = IsFalse (list_any (λ k. k == t) known_tags) ⊎ (IsTrue ((t == 5) || (t == 6)) × (count ≤ i + 1))
 
@@ -41,7 +41,7 @@ pub record PoolStands (text : List ℕ) (cs : List Constant) (left : List ℕ) :
   pub bytes : text ≡ pool_text cs ++ left
   pub written : IsPool cs
 
--- each constant is so, whatever its number
+-- each constant of the pool is so
 abbrev pub AllAt : (Constant → Type 0) → Pool → Type 0
 AllAt IsSo p = (j : ℕ) (c : Constant) → constant_at p j ≡ Some c → IsSo c
 
@@ -52,7 +52,7 @@ pub record IsFirstNot (IsSo : Constant → Type 0) (p : Pool) (i : ℕ) : Type 0
   pub isn't : ¬ IsSo constant
   pub before : (j : ℕ) (c : Constant) → j < i → constant_at p j ≡ Some c → IsSo c
 
--- a whole pool stands at the front that is good so far, and this constant is the first that isn't so
+-- a whole pool stands at the front, the tests before this one hold of it, and this constant is the first that isn't so
 abbrev pub WholePoolFault : (List Constant → Type 0) → (List Constant → Constant → Type 0) → List ℕ → ℕ → Type 0
 WholePoolFault IsGood IsSo text i = (cs : List Constant) × (left : List ℕ) × PoolStands text cs left × IsGood cs × IsFirstNot (IsSo cs) (places cs) i
 

@@ -60,7 +60,7 @@ class_text_of pool _ = None
 abbrev pub class_text_at : Pool → ℕ → Option (List ℕ)
 class_text_at pool n = option_and_then (class_text_of pool) (constant_at pool n)
 
--- the class name at a number
+-- the name of the Class at a number, if it is no array's
 abbrev pub class_at : Pool → ℕ → Option (List ℕ)
 class_at pool n = option_and_then (λ text. if is_class_name text then Some text else None) (class_text_at pool n)
 
@@ -82,7 +82,7 @@ named_descriptor_of pool _ = None
 abbrev pub named_descriptor : Pool → ℕ → Option (List ℕ)
 named_descriptor pool n = option_and_then (named_descriptor_of pool) (constant_at pool n)
 
--- both, where both are there
+-- what is made of both values, if both are there
 abbrev pub both : {X Y Z : Type 0} → (X → Y → Z) → Option X → Option Y → Option Z
 both f None y = None
 both f (Some x) None = None
@@ -157,11 +157,11 @@ IsTyped pool (InvokeDynamic bootstrap name_and_type) = IsSomeAnd (descriptor_at 
 IsTyped pool (MethodType ty) = IsSomeAnd (text_at pool ty) IsMethodDescriptor
 IsTyped pool _ = ⊤
 
--- each text is one
+-- each Utf8 is modified UTF-8
 abbrev pub HaveTexts : List Constant → Type 0
 HaveTexts cs = AllByRecursion HasText cs
 
--- each constant names the right kinds
+-- each constant names constants of the right kinds
 abbrev pub AreLinked : List Constant → Type 0
 AreLinked cs = AllByRecursion (λ c. IsTrue (is_linked (places cs) c)) cs
 

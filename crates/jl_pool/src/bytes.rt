@@ -1,10 +1,11 @@
-//! Numbers and texts at the front of bytes. None where the bytes end before.
+//! Numbers and texts at the front of bytes, and what comes after them. None if the bytes end before.
 
 ghost use Rattle.std.specs.Prelude.{◌≡◌, ◌<◌, ◌^◌, length, Option, IfSome};
 ghost use Rattle.jl_pool.specs.ForProofs.Fields.{Finds, number_at, bytes_at, text_at, pair_at, handle_at};
 
 use byteorder::{BigEndian, ByteOrder};
 
+/// The number of two bytes, most significant first, and what comes after it.
 pub fn u2_at(bytes: &[u8]) -> Option<(u16, &[u8])>
     ensures { Finds (λ x. (x.0, x.1.now)) result (number_at 2 bytes.now) }
 {
@@ -14,6 +15,7 @@ pub fn u2_at(bytes: &[u8]) -> Option<(u16, &[u8])>
     Some((BigEndian::read_u16(bytes), &bytes[2..]))
 }
 
+/// The number of four bytes, most significant first, and what comes after it.
 pub fn u4_at(bytes: &[u8]) -> Option<(u32, &[u8])>
     ensures { Finds (λ x. (x.0, x.1.now)) result (number_at 4 bytes.now) }
 {
@@ -23,6 +25,7 @@ pub fn u4_at(bytes: &[u8]) -> Option<(u32, &[u8])>
     Some((BigEndian::read_u32(bytes), &bytes[4..]))
 }
 
+/// The number of eight bytes, most significant first, and what comes after it.
 pub(crate) fn u8_at(bytes: &[u8]) -> Option<(u64, &[u8])>
     ensures { Finds (λ x. (x.0, x.1.now)) result (number_at 8 bytes.now) }
 {
@@ -56,7 +59,7 @@ pub(crate) fn handle_at(bytes: &[u8]) -> Option<((u8, u16), &[u8])>
     }
 }
 
-/// Bytes behind their count.
+/// Bytes after their count.
 #[tactic(auto, unfolding(crate::specs::ForProofs::Fields::text_at))]
 pub(crate) fn text_at(bytes: &[u8]) -> Option<(&[u8], &[u8])>
     ensures found { Finds (λ x. (x.0.now, x.1.now)) result (text_at bytes.now) }
@@ -70,7 +73,7 @@ pub(crate) fn text_at(bytes: &[u8]) -> Option<(&[u8], &[u8])>
     Some(rest.split_at(len))
 }
 
-/// So many bytes, and what comes after them.
+/// The first `count` bytes, and what comes after them. None if there are fewer.
 pub fn bytes_at(count: usize, bytes: &[u8]) -> Option<(&[u8], &[u8])>
     ensures { Finds (λ x. (x.0.now, x.1.now)) result (bytes_at count bytes.now) }
 {

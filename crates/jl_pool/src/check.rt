@@ -39,8 +39,8 @@ impl Names {
 
 impl Pool {
     /// Looks for the first Utf8 that is no modified UTF-8, then for the first constant that names a wrong one, and then for
-    /// the first that names a descriptor of a wrong kind. The texts are gone over only where it is known that one of
-    /// them is bad, to find the first.
+    /// the first that names a descriptor of a wrong kind. The texts are gone over only if one of them is known to be bad,
+    /// to find the first such one.
     pub(crate) fn check(&self, bad: bool) -> Result<(), PoolFault>
         requires { bad ≡ false → AllAt HasText self.now }
         ensures texts { OnOk result (AllAt HasText self.now) }
@@ -75,7 +75,7 @@ impl Pool {
         }
     }
 
-    /// Looks for the first Utf8 that is no modified UTF-8, where there may be one.
+    /// Looks for the first Utf8 that is no modified UTF-8, if there may be one.
     fn check_texts(&self, bad: bool) -> Result<(), PoolFault>
         requires { bad ≡ false → AllAt HasText self.now }
         ensures ok { OnOk result (AllAt HasText self.now) }

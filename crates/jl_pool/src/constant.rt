@@ -4,7 +4,7 @@ ghost use Rattle.std.specs.Prelude.{◌≡◌};
 
 use jl_names::Text;
 
-/// A constant as it stands in a class file. A number names another constant.
+/// A constant as it stands in a class file. It names another constant by its number.
 #[derive(Debug, Drop)]
 pub enum Constant<'a> {
     Utf8(Text<'a>),

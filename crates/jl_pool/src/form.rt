@@ -8,7 +8,7 @@ ghost use Rattle.jl_pool.specs.ForProofs.Marks.{marks_of, either};
 use jl_names::{FieldType, is_class_name, method_slots};
 use std::simd::prelude::*;
 
-/// What a text may stand for. It is found once for each text of a pool, however many entries name that text.
+/// What a text may stand for. Each text of a pool is gone over for this only once, however many entries name it.
 #[derive(Clone, Copy, Debug, PartialEq, Eq)]
 pub struct Form {
     /// A class name (JVMS SE 17 §4.2.1).
@@ -19,7 +19,7 @@ pub struct Form {
     pub plain: bool,
     /// A field descriptor (§4.3.2).
     pub field: bool,
-    /// The slots of its parameters, where it is a method descriptor (§4.3.3).
+    /// The slots of its parameters, if it is a method descriptor (§4.3.3).
     pub slots: Option<u8>,
 }
 

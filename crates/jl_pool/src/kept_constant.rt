@@ -118,7 +118,7 @@ fn bits_in(block: &[u8], at: u32) -> u64
     BigEndian::read_u64(&block[at as usize..])
 }
 
-/// What stands at a number: nothing behind the last one.
+/// What stands at a number: nothing past the last one.
 pub(crate) fn entry_at(entries: &[KeptConstant], number: u16) -> KeptConstant
     ensures { result ≡ entry_at entries.now number }
 {
@@ -128,7 +128,7 @@ pub(crate) fn entry_at(entries: &[KeptConstant], number: u16) -> KeptConstant
     }
 }
 
-/// The text of an entry, where it is a Utf8.
+/// The text of an entry, if it is a Utf8.
 pub(crate) fn text_in(block: &Name, entry: KeptConstant) -> Option<LentName<'_>>
     requires { is_within (length block.now) entry ≡ true }
     ensures { result ≡ option_and_then text_of (shown block.now entry) }
@@ -143,7 +143,7 @@ pub(crate) fn text_in(block: &Name, entry: KeptConstant) -> Option<LentName<'_>>
     }
 }
 
-/// The form of the text of an entry, where it is a Utf8.
+/// The form of the text of an entry, if it is a Utf8.
 pub(crate) fn form_in(entry: KeptConstant) -> Option<Form>
     ensures { result ≡ form_in entry }
 {

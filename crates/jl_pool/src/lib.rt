@@ -1,7 +1,7 @@
 //! The constant pool of a class file (JVMS SE 17 §4.4).
 //!
-//! What a pool is, and why bytes begin with none, stands in `specs/`, in reading order: `Numbers`, `Constants`,
-//! `Known`, `Pools`, `Faults`.
+//! `specs/` says what a pool is, and why bytes begin with none. In reading order: `Numbers`, `Constants`, `Known`,
+//! `Pools`, `Faults`.
 #![tactic(auto)]
 
 mod bytes;

@@ -29,7 +29,8 @@ use std::marker::Model;
 
 /// The constants of a class file (JVMS SE 17 §4.4). A clause sees them by number.
 ///
-/// It keeps the bytes of its constants in one block, and of each number what stands there or where it stands in the block.
+/// It keeps the bytes of its constants in one block. For each number it keeps what stands there, or where that stands in the
+/// block.
 pub struct Pool {
     block: Name,
     entries: Vec<KeptConstant>,
@@ -79,11 +80,12 @@ impl Pool {
     ///
     /// # Errors
     ///
-    /// In the order in which they are looked for (JVMS SE 17 §4.4). A number is that of the first such entry.
+    /// In the order in which they are looked for (JVMS SE 17 §4.4). A number is that of the first such entry. `BadTag` and
+    /// `Truncated` are looked for entry by entry.
     ///
-    /// - `BadTag`: the tag is unknown, or a Long's or a Double's whose second number isn't below the count (§4.4.5);
-    ///   number 0 where the count is 0.
-    /// - `Truncated`: the bytes end before the pool does. This and `BadTag` are looked for entry by entry.
+    /// - `BadTag`: the tag is unknown; or a Long's or a Double's second number isn't below the count (§4.4.5); or the
+    ///   count is 0, and then the number is 0.
+    /// - `Truncated`: the bytes end before the pool does.
     /// - `BadUtf8`: a Utf8 is no modified UTF-8 (§4.4.7).
     /// - `BadIndex`: the entry names a number at which nothing of the right kind stands. Each text is good.
     /// - `BadDescriptor`: the entry names a text that is no class name or descriptor of the right kind (§4.2.1, §4.3).
@@ -114,7 +116,7 @@ impl Pool {
         self.len() == 0
     }
 
-    /// The same as a number of the pool's.
+    /// How many numbers it has, and number 0 with them, in 16 bits.
     pub(crate) fn count(&self) -> u16
         ensures { result ≡ length self.now }
     {
@@ -142,7 +144,7 @@ impl Pool {
         text_in(&self.block, entry_at(&self.entries, number))
     }
 
-    /// The same, and the empty text where there is none.
+    /// The text of the Utf8 at a number, or the empty text if no Utf8 stands there.
     pub fn text_or_nothing(&self, number: u16) -> LentName<'_>
         ensures { result ≡ unwrap_or (text_at self.now number) [] }
     {
@@ -169,7 +171,7 @@ impl Pool {
         }
     }
 
-    /// The name of the Class at a number, where it is no array's.
+    /// The name of the Class at a number, if it is no array's.
     #[tactic(auto, unfolding(crate::specs::ForProofs::Forms::form_of))]
     pub fn class_name(&self, number: u16) -> Option<LentName<'_>>
         ensures { result ≡ class_at self.now number }
@@ -263,8 +265,8 @@ impl Pool {
         }
     }
 
-    /// The slots of the parameters of the method or the call site that the entry at a number names. None where it names
-    /// none, or where no method has that descriptor (§4.3.3).
+    /// The slots of the parameters of the method or the call site that the entry at a number names. None if it names
+    /// neither, or if no method has that descriptor (§4.3.3).
     pub fn slots(&self, number: u16) -> Option<u8>
         ensures { MatchOption result (IfSome (named_descriptor self.now number) (λ ty. ¬ IsMethodDescriptor ty))
             (λ n. (n ≤ 255) × IsSomeAnd (named_descriptor self.now number) (λ ty. TakesSlots ty n)) }
@@ -295,7 +297,7 @@ impl Pool {
     }
 }
 
-/// The slots of a method's descriptor, where the form is there.
+/// The slots of a method's descriptor, if the form is there.
 fn slots_of(form: Option<Form>) -> Option<u8>
     ensures { result ≡ option_and_then (λ f. f.slots) form }
 {
@@ -339,8 +341,8 @@ fn is_wide(tag: u8) -> bool
     matches!(tag, 5 | 6)
 }
 
-/// What is kept of the constant of this tag, which begins at this place of the block: what stands behind the tag is at the
-/// front. And what comes after it.
+/// What is kept of the constant of this tag, which begins at this place of the block, and what comes after it. The bytes begin
+/// after the tag.
 #[tactic(auto, unfolding(crate::specs::ForProofs::Constants::payload_at))]
 fn payload_at(tag: u8, start: u32, bytes: &[u8]) -> Option<(Kept, &[u8])>
     requires { start + 3 < 2 ^ 32 }
@@ -425,8 +427,8 @@ fn of_pair(tag: u8, first: u16, second: u16) -> KeptConstant
     }
 }
 
-/// What is kept of the constant at the front, which begins at this place of the block, and what comes after it. Where it has
-/// the last number, it may take no second one.
+/// What is kept of the constant at the front, which begins at this place of the block, and what comes after it. If it has the
+/// last number, it may take no second one.
 #[tactic(auto, unfolding(crate::specs::ForProofs::Constants::constant_at))]
 fn kept_at(last: bool, start: u32, bytes: &[u8]) -> Result<(Kept, &[u8]), Stop>
     requires { start + 3 < 2 ^ 32 }
@@ -473,8 +475,8 @@ fn is_bad_text(odd: bool, bytes: &[u8]) -> bool
     }
 }
 
-/// What is kept of the constants by number, over a block that begins with the bytes; whether one of the texts is no modified
-/// UTF-8; and what comes after the constants.
+/// What is kept of the constants by number, whether one of the texts is no modified UTF-8, and what comes after the constants. The
+/// block begins with the bytes.
 fn constants_at(
     alloc: Global,
     count: u16,

@@ -12,7 +12,7 @@ pub enum PoolFault {
     /// The bytes end before the pool does.
     #[error("Pool.Truncated")]
     Truncated,
-    /// The tag of this entry is unknown, or the entry takes two numbers and there is one left. 0: the count is 0.
+    /// The tag of this entry is unknown, or the entry takes two numbers and only one is left. Number 0: the count is 0.
     #[error("Pool.BadTag")]
     BadTag(u16),
     /// This entry names a number that is unusable or holds an entry of a wrong kind.

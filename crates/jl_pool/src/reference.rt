@@ -5,8 +5,8 @@ ghost use Rattle.std.specs.Prelude.{◌≡◌, IfOk};
 use jl_names::{LentName, Name};
 use std::alloc::{AllocError, Global};
 
-/// A method by its class, name and descriptor (JVMS SE 17 §4.4.2); `itf` marks an InterfaceMethodref. `T` is how a
-/// text is kept.
+/// A method by its class, name and descriptor (JVMS SE 17 §4.4.2). `itf` marks an InterfaceMethodref. `T` is how a text
+/// is kept.
 #[derive(Debug, Drop)]
 pub struct Reference<T> {
     pub itf: bool,
@@ -16,7 +16,7 @@ pub struct Reference<T> {
 }
 
 impl<'a> Reference<LentName<'a>> {
-    /// The same reference with names that are kept. Want of memory is an error.
+    /// This reference with names that are kept. They share the blocks of the lent ones.
     pub fn kept(&self, alloc: Global) -> Result<Reference<Name>, AllocError>
         ensures { IfOk result (λ kept. kept ≡ self.now) }
     {
@@ -30,7 +30,7 @@ impl<'a> Reference<LentName<'a>> {
 }
 
 impl Reference<Name> {
-    /// The same reference with names that are lent.
+    /// This reference with names that are lent. Takes no memory.
     pub fn lent(&self) -> Reference<LentName<'_>>
         ensures { result ≡ self.now }
     {
@@ -42,7 +42,7 @@ impl Reference<Name> {
         }
     }
 
-    /// The same reference once more. Want of memory is an error.
+    /// A copy of the reference, whose names share their blocks with this one's.
     pub fn copy(&self, alloc: Global) -> Result<Self, AllocError>
         ensures { IfOk result (λ copy. copy ≡ self.now) }
     {
@@ -59,7 +59,7 @@ pub struct CallSiteSpecifier<T> {
 }
 
 impl<'a> CallSiteSpecifier<LentName<'a>> {
-    /// The same specifier with names that are kept. Want of memory is an error.
+    /// This specifier with names that are kept. They share the blocks of the lent ones.
     pub fn kept(&self, alloc: Global) -> Result<CallSiteSpecifier<Name>, AllocError>
         ensures { IfOk result (λ kept. kept ≡ self.now) }
     {
@@ -72,7 +72,7 @@ impl<'a> CallSiteSpecifier<LentName<'a>> {
 }
 
 impl CallSiteSpecifier<Name> {
-    /// The same specifier with names that are lent.
+    /// This specifier with names that are lent. Takes no memory.
     pub fn lent(&self) -> CallSiteSpecifier<LentName<'_>>
         ensures { result ≡ self.now }
     {
@@ -83,7 +83,7 @@ impl CallSiteSpecifier<Name> {
         }
     }
 
-    /// The same specifier once more. Want of memory is an error.
+    /// A copy of the specifier, whose names share their blocks with this one's.
     pub fn copy(&self, alloc: Global) -> Result<Self, AllocError>
         ensures { IfOk result (λ copy. copy ≡ self.now) }
     {

@@ -1,4 +1,4 @@
--- What the definitions come to where a list is not empty, and where a method has code.
+-- What the definitions give if a list is not empty, and if a method has code.
 use Rattle.std.proofs.Common.{◌≡◌, ℕ, ◌+◌, ◌==◌, Bool, true, false, List, [], ◌∷◌, ◌++◌, length, map, refl, sym, ap, ◌∙◌, if◌then◌else◌, append_assoc}
 use Rattle.std.proofs.Common.{suc, arith}
 use Rattle.std.specs.Prelude.{fold, codes}

@@ -27,7 +27,7 @@ use Rattle.jl_sketch.proofs.SketchNames.{host_grows, members_grow}
 abbrev pub AreSized : List Constant → Type 0
 AreSized cs = AllByRecursion IsSized cs
 
--- where the later ones are few enough and the earlier ones are of their sizes, so are the later ones
+-- if the later ones are few enough and the earlier ones are of their sizes, so are the later ones
 abbrev pub Fits : List Constant → List Constant → Type 0
 Fits cs ds = length ds ≤ 65534 → AreSized cs → AreSized ds
 
@@ -152,12 +152,12 @@ fits_declared cs m h =
     let c = or_parts (is_long m.calls) (list_any is_long_call m.calls) b.1 in
     let named : List Constant = with_text cs m.name in
     let signed : List Constant = with_text named m.ty in
-    let behind : List Constant = coded (has_code m.flags) signed in
+    let later : List Constant = coded (has_code m.flags) signed in
     let texts : Fits cs signed = fits_on cs named signed (text_grows named m.ty) (fits_text cs m.name a.0) (fits_text named m.ty b.0) in
-    let code : Fits cs behind = fits_on cs signed behind (coded_grows (has_code m.flags) signed) texts (fits_coded (has_code m.flags) signed) in
+    let code : Fits cs later = fits_on cs signed later (coded_grows (has_code m.flags) signed) texts (fits_coded (has_code m.flags) signed) in
     subst (λ (ds : List Constant). Fits cs ds) (sym (declared_is cs m))
-    (fits_on cs behind (fold with_call behind m.calls) (fold_grows with_call call_grows m.calls behind) code
-    (fits_fold with_call is_long_call call_grows fits_call m.calls behind c.1))
+    (fits_on cs later (fold with_call later m.calls) (fold_grows with_call call_grows m.calls later) code
+    (fits_fold with_call is_long_call call_grows fits_call m.calls later c.1))
 
 fits_host : (host : Option (List ℕ)) (cs : List Constant) → is_long_if_any host ≡ false → Fits cs (with_host cs host)
 fits_host None cs h = λ few w. w

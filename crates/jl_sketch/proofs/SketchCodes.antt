@@ -31,7 +31,7 @@ use Rattle.jl_sketch.specs.Names.{NamesCall, NamesMethod, call_kind, call_operan
 use Rattle.jl_sketch.proofs.Sizes.{number_below}
 use Rattle.jl_sketch.proofs.SketchLies.{short_code}
 
--- ---- the instructions of a sketch stand one behind another
+-- ---- the instructions of a sketch stand one after another
 
 call_stands : (cs : List Constant) (pc : ℕ) (call : Call) → length cs ≤ 65534 → MayStand pc (call_instruction cs call)
 call_stands cs pc (Virtual m) few = (refl, number_below cs (call_constant cs (Virtual m)) few)
@@ -51,9 +51,9 @@ fronts_are [] [] x y same e = refl
 fronts_are [] (n ∷ b) x y same e = absurd (omega (arith, same))
 fronts_are (m ∷ a) [] x y same e = absurd (omega (arith, same))
 fronts_are (m ∷ a) (n ∷ b) x y same e =
-    let behind : a ++ x ≡ b ++ y = cc in
+    let later : a ++ x ≡ b ++ y = cc in
     let first : m ≡ n = cc in
-    let rest = fronts_are a b x y (omega (arith, same)) behind in
+    let rest = fronts_are a b x y (omega (arith, same)) later in
     cc (first, rest)
 
 held_is : (ours theirs : List ℕ) → length ours < 2 ^ 32 → HoldsCode (code_info ours) theirs → ours ≡ theirs

@@ -121,29 +121,29 @@ pub declared_is : (cs : List Constant) (m : SketchMethod) → with_declared cs m
 unfolding coded
 declared_is cs m = refl
 
-coded_behind : (cs : List Constant) (m : SketchMethod) → Grows cs (coded (has_code m.flags) (with_text (with_text cs m.name) m.ty))
-coded_behind cs m =
+coded_after : (cs : List Constant) (m : SketchMethod) → Grows cs (coded (has_code m.flags) (with_text (with_text cs m.name) m.ty))
+coded_after cs m =
     let signed : List Constant = with_text (with_text cs m.name) m.ty in
     grows_on cs signed (coded (has_code m.flags) signed) (texts_grow cs m.name m.ty) (coded_grows (has_code m.flags) signed)
 
 pub declared_grows : (cs : List Constant) (m : SketchMethod) → Grows cs (with_declared cs m)
 declared_grows cs m =
-    let behind : List Constant = coded (has_code m.flags) (with_text (with_text cs m.name) m.ty) in
+    let later : List Constant = coded (has_code m.flags) (with_text (with_text cs m.name) m.ty) in
     subst (λ (ds : List Constant). Grows cs ds) (sym (declared_is cs m))
-    (grows_on cs behind (fold with_call behind m.calls) (coded_behind cs m) (fold_grows with_call call_grows m.calls behind))
+    (grows_on cs later (fold with_call later m.calls) (coded_after cs m) (fold_grows with_call call_grows m.calls later))
 
 method_named_in : (m : SketchMethod) (cs all : List Constant) → ArePlain cs → Grows (with_declared cs m) all → NamesMethod all m
 method_named_in m cs all h given =
     let signed : List Constant = with_text (with_text cs m.name) m.ty in
-    let behind : List Constant = coded (has_code m.flags) signed in
-    let g : Grows (fold with_call behind m.calls) all = subst (λ (ds : List Constant). Grows ds all) (declared_is cs m) given in
-    let from_code : Grows behind all = grows_on behind (fold with_call behind m.calls) all (fold_grows with_call call_grows m.calls behind) g in
-    let from_texts : Grows signed all = grows_on signed behind all (coded_grows (has_code m.flags) signed) from_code in
+    let later : List Constant = coded (has_code m.flags) signed in
+    let g : Grows (fold with_call later m.calls) all = subst (λ (ds : List Constant). Grows ds all) (declared_is cs m) given in
+    let from_code : Grows later all = grows_on later (fold with_call later m.calls) all (fold_grows with_call call_grows m.calls later) g in
+    let from_texts : Grows signed all = grows_on signed later all (coded_grows (has_code m.flags) signed) from_code in
     record {
       name = text_named all m.name (holds_on signed all (Utf8 m.name) from_texts (first_text_entered cs m.name m.ty h));
       descriptor = text_named all m.ty (holds_on signed all (Utf8 m.ty) from_texts (second_text_entered cs m.name m.ty h));
       code = code_named (has_code m.flags) signed all ((texts_grow cs m.name m.ty).plain h) from_code;
-      calls = calls_named m.calls behind all ((coded_behind cs m).plain h) g;
+      calls = calls_named m.calls later all ((coded_after cs m).plain h) g;
     }
 
 methods_named : (ms : List SketchMethod) (cs all : List Constant) → ArePlain cs → Grows (fold with_declared cs ms) all → AllByRecursion (NamesMethod all) ms

@@ -31,7 +31,7 @@ use Rattle.jl_sketch.proofs.SketchTexts.{name_is, names_are, super_is}
 use Rattle.jl_sketch.proofs.SketchCodes.{method_sites}
 use Rattle.jl_sketch.proofs.SketchNest.{host_is, members_are}
 
--- ---- where no item passes, none is first
+-- ---- if no item passes, none is first
 
 one_less : (n m : ℕ) → nat_lt (1 + n) (suc m) ≡ false → nat_lt n m ≡ false
 one_less n m h = grind (arith, nat_tests)

@@ -1,4 +1,4 @@
--- What the numbers of a class file show, where they name what a sketch says.
+-- What the numbers of a class file show, if they name what a sketch says.
 use Rattle.std.proofs.Common.{◌≡◌, ℕ, Bool, true, false, List, [], ◌∷◌, map, Some, None, refl, sym, ap, ◌∙◌, subst, if◌then◌else◌, ◌==◌}
 use Rattle.std.specs.Prelude.{Option, IsSome, is_some}
 use Rattle.std.specs.Option.{option_and_then, unwrap_or}

@@ -26,7 +26,7 @@ same_constant _ _ = false
 unfoldable pub enter : List Constant → Constant → List Constant
 enter cs c = if list_any (same_constant c) cs then cs else cs ++ c ∷ []
 
--- the number that the constant has: each takes one, from 1 on. 0 where it isn't there
+-- the number that the constant has: each takes one, from 1 on; 0 if it isn't there
 unfoldable pub number : List Constant → Constant → ℕ
 number cs c = option_map_or (λ i. i + 1) (position (same_constant c) cs) 0
 
@@ -61,7 +61,7 @@ call_constant cs (Static itf m) = method_constant cs itf m
 call_constant cs (Interface m) = method_constant cs true m
 call_constant cs (Dynamic name ty) = call_site_constant cs name ty
 
--- ---- constants entered, each behind its parts, these from left to right
+-- ---- constants entered, each after its parts, these from left to right
 
 abbrev pub with_text : List Constant → List ℕ → List Constant
 with_text cs text = enter cs (Utf8 text)

@@ -75,6 +75,6 @@ pub record IsSpelled (s : Sketch) (bytes : List ℕ) : Type 0 where
   pub coded : first_without_code s ≡ None
   pub spelled : bytes ≡ file_text (sketch_layout s)
 
--- they are a class file, too
+-- the bytes are those of the sketch, and are a class file
 abbrev pub IsWritten : Sketch → List ℕ → Type 0
 IsWritten s bytes = IsSpelled s bytes × ((p : Parts) × IsClass bytes p)

@@ -26,7 +26,7 @@ call_opcode (Static itf m) = 184
 call_opcode (Interface m) = 185
 call_opcode (Dynamic name ty) = 186
 
--- what stands behind the number
+-- what follows the number
 abbrev pub call_tail : Call → List ℕ
 call_tail (Virtual m) = []
 call_tail (Special itf m) = []
@@ -80,7 +80,7 @@ body_of cs s = record {
   attributes = host_attributes cs s.host ++ member_attributes cs s.members;
 }
 
--- over these constants, of version 61.0
+-- the layout of a sketch over these constants, of version 61.0
 abbrev pub layout_over : List Constant → Sketch → Layout
 layout_over cs s = record { minor = 0; major = 61; constants = cs; body = body_of cs s }
 

@@ -34,7 +34,7 @@ call_operand (Dynamic name ty) = CallSite (record { bootstrap = 0; name = name; 
 abbrev pub NamesCall : List Constant → Call → Type 0
 NamesCall cs call = operand_at (places cs) (number cs (call_constant cs call)) ≡ Some (call_operand call)
 
--- so do the numbers of a method, of its Code attribute and of its calls
+-- the numbers of a method, of its Code attribute and of its calls name what the method says
 pub record NamesMethod (cs : List Constant) (m : SketchMethod) : Type 0 where
   pub name : text_at (places cs) (method_of cs m).name ≡ Some m.name
   pub descriptor : text_at (places cs) (method_of cs m).descriptor ≡ Some m.ty
@@ -80,7 +80,7 @@ call_size (Static itf m) = 3
 call_size (Interface m) = 5
 call_size (Dynamic name ty) = 5
 
--- the calls as invocations, one behind another from this pc on
+-- the calls as invocations, one after another from this pc on
 abbrev pub sites_of_calls : ℕ → List Call → List Site
 sites_of_calls pc [] = []
 sites_of_calls pc (call ∷ calls) = record { pc = pc; kind = call_kind call; operand = call_operand call } ∷ sites_of_calls (pc + call_size call) calls

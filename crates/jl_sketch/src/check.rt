@@ -34,12 +34,14 @@ fn is_long<T>(items: &[T]) -> bool
     items.len() > MOST
 }
 
+/// Whether the name has more than 65,535 bytes.
 fn is_long_name(name: &Name) -> bool
     ensures { result ≡ is_long name.now }
 {
     is_long(name.as_slice())
 }
 
+/// Whether there is a name, of more than 65,535 bytes.
 fn is_long_if_any(name: &Option<Name>) -> bool
     ensures { result ≡ is_long_if_any name.now }
 {
@@ -49,6 +51,7 @@ fn is_long_if_any(name: &Option<Name>) -> bool
     }
 }
 
+/// Whether one of the names has more than 65,535 bytes.
 fn is_one_long(names: &[Name]) -> bool
     ensures { result ≡ list_any is_long names.now }
 {
@@ -62,12 +65,14 @@ fn are_long(names: &[Name]) -> bool
     is_long(names) || is_one_long(names)
 }
 
+/// Whether the owner, the name or the descriptor has more than 65,535 bytes.
 fn is_long_method_name(method: &MethodName) -> bool
     ensures { result ≡ is_long_method_name method.now }
 {
     is_long_name(&method.owner) || is_long_name(&method.name) || is_long_name(&method.ty)
 }
 
+/// Whether a name in the call has more than 65,535 bytes.
 fn is_long_call(call: &Call) -> bool
     ensures { result ≡ is_long_call call.now }
 {
@@ -80,12 +85,14 @@ fn is_long_call(call: &Call) -> bool
     }
 }
 
+/// Whether one of the calls has a name that is too long.
 fn is_one_call_long(calls: &[Call]) -> bool
     ensures { result ≡ list_any is_long_call calls.now }
 {
     calls.iter().any(is_long_call)
 }
 
+/// Whether the method has a name or a list of calls that is too long.
 fn is_long_method(method: &SketchMethod) -> bool
     ensures { result ≡ is_long_method method.now }
 {
@@ -96,6 +103,7 @@ fn is_long_method(method: &SketchMethod) -> bool
         || is_one_call_long(calls)
 }
 
+/// Whether one of the methods is too long.
 fn is_one_method_long(methods: &[SketchMethod]) -> bool
     ensures { result ≡ list_any is_long_method methods.now }
 {

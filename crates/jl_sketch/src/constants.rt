@@ -77,7 +77,7 @@ impl<'a> Constants<'a> {
         Ok(())
     }
 
-    /// The number of the constant, and 0 where it isn't there.
+    /// The number of the constant, or 0 if it isn't there.
     #[tactic(auto, unfolding(crate::specs::Constants::number))]
     pub(crate) fn number(&self, entry: NewConstant<'a>) -> usize
         ensures { result ≡ number self.now (constant_of entry.entry) }

@@ -1,4 +1,4 @@
-//! Fills the pool: each constant behind its parts (JVMS SE 17 §4.4).
+//! Fills the pool: each constant after its parts (JVMS SE 17 §4.4).
 
 ghost use Rattle.std.specs.Prelude.{◌≡◌, fold, IfOk, OnOk};
 ghost use Rattle.jl_sketch.specs.Constants.{with_text, with_class, with_signed, with_method, with_call, with_declared};
@@ -12,12 +12,14 @@ use jl_names::Name;
 use std::alloc::{AllocError, Global};
 
 impl<'a> Constants<'a> {
+    /// Enters the text, unless it is there.
     fn enter_text(&mut self, text: &'a [u8]) -> Result<(), AllocError>
         ensures { OnOk result (self.new ≡ with_text self.old text.now) }
     {
         self.enter(NewConstant::Utf8(text))
     }
 
+    /// Enters the class of this name, after its name.
     fn enter_class(&mut self, name: &'a Name) -> Result<(), AllocError>
         ensures { OnOk result (self.new ≡ with_class self.old name.now) }
     {
@@ -25,6 +27,7 @@ impl<'a> Constants<'a> {
         self.enter(self.class(name))
     }
 
+    /// Enters the classes of these names, in order.
     fn enter_classes(&mut self, names: &'a [Name]) -> Result<(), AllocError>
         ensures { OnOk result (self.new ≡ fold with_class self.old names.now) }
     {
@@ -34,6 +37,7 @@ impl<'a> Constants<'a> {
         Ok(())
     }
 
+    /// Enters the class of this name, if there is one.
     fn enter_class_if_any(&mut self, name: &'a Option<Name>) -> Result<(), AllocError>
         ensures { OnOk result (self.new ≡ with_class_if_any self.old name.now) }
     {
@@ -43,6 +47,7 @@ impl<'a> Constants<'a> {
         }
     }
 
+    /// Enters the name and type, after both texts.
     fn enter_signed(&mut self, name: &'a Name, ty: &'a Name) -> Result<(), AllocError>
         ensures { OnOk result (self.new ≡ with_signed self.old name.now ty.now) }
     {
@@ -51,6 +56,7 @@ impl<'a> Constants<'a> {
         self.enter(self.signed(name, ty))
     }
 
+    /// Enters the method, of an interface or not, after its class and its name and type.
     fn enter_method(&mut self, itf: bool, method: &'a MethodName) -> Result<(), AllocError>
         ensures { OnOk result (self.new ≡ with_method itf self.old method.now) }
     {
@@ -59,6 +65,7 @@ impl<'a> Constants<'a> {
         self.enter(self.method(itf, method))
     }
 
+    /// Enters what the call names.
     fn enter_call(&mut self, call: &'a Call) -> Result<(), AllocError>
         ensures { OnOk result (self.new ≡ with_call self.old call.now) }
     {
@@ -74,6 +81,7 @@ impl<'a> Constants<'a> {
         }
     }
 
+    /// Enters what the calls name, in order.
     fn enter_calls(&mut self, calls: &'a [Call]) -> Result<(), AllocError>
         ensures { OnOk result (self.new ≡ fold with_call self.old calls.now) }
     {
@@ -83,6 +91,7 @@ impl<'a> Constants<'a> {
         Ok(())
     }
 
+    /// Enters what the declaration of the method names: its name, its descriptor, `Code`, and its calls.
     fn enter_declared(&mut self, method: &'a SketchMethod) -> Result<(), AllocError>
         ensures { OnOk result (self.new ≡ with_declared self.old method.now) }
     {
@@ -94,6 +103,7 @@ impl<'a> Constants<'a> {
         self.enter_calls(method.calls.as_slice())
     }
 
+    /// Enters what the declarations of the methods name, in order.
     fn enter_methods(&mut self, methods: &'a [SketchMethod]) -> Result<(), AllocError>
         ensures { OnOk result (self.new ≡ fold with_declared self.old methods.now) }
     {
@@ -103,6 +113,7 @@ impl<'a> Constants<'a> {
         Ok(())
     }
 
+    /// Enters `NestHost` and the class, if there is a nest host.
     fn enter_host(&mut self, host: &'a Option<Name>) -> Result<(), AllocError>
         ensures { OnOk result (self.new ≡ with_host self.old host.now) }
     {
@@ -113,6 +124,7 @@ impl<'a> Constants<'a> {
         self.enter_class(host)
     }
 
+    /// Enters `NestMembers` and the classes, if there are nest members.
     fn enter_members(&mut self, members: &'a [Name]) -> Result<(), AllocError>
         ensures { OnOk result (self.new ≡ with_members self.old members.now) }
     {

@@ -23,14 +23,15 @@ pub fn one_layout_of_a_sketch()
         → IsClass (file_text (sketch_layout sketch)) parts → parts.layout ≡ sketch_layout sketch }
 {}
 
-/// It shows what the sketch says: the declarations, the nest, and the invocations in each method's code with their pcs.
+/// A class file that is read from a sketch's bytes shows what the sketch says: the declarations, the nest, and the
+/// invocations in each method's code with their pcs.
 pub fn a_sketch_is_shown()
     ensures { (sketch : Sketch) (parts : Parts) → AreFlags sketch → IsFalse (is_too_big sketch) → first_without_code sketch ≡ None
         → IsClass (file_text (sketch_layout sketch)) parts → shown parts ≡ class_of sketch }
 {}
 
 /// The count of an invokeinterface is one for the receiver and the slots of the descriptor's parameters, 255 at most in
-/// all, and 0 where there is no such number.
+/// all. It is 0 if there is no such number.
 pub fn counts_of_slots()
     ensures counted { (ty : List ℕ) (slots : ℕ) → TakesSlots ty slots → slots ≤ 254 → count_byte ty ≡ slots + 1 }
     ensures none { (ty : List ℕ) → ((slots : ℕ) → TakesSlots ty slots → 254 < slots) → count_byte ty ≡ 0 }

@@ -1,7 +1,7 @@
 //! Sketches: small class files as plain data, and their bytes (JVMS SE 17 §4).
 //!
-//! What a sketch's class file is, and why a sketch has none, stands in `specs/`, in reading order: `Counts`,
-//! `Constants`, `Layouts`, `Names`, `Faults`, over the class files of jl_classfile.
+//! `specs/` says what a sketch's class file is, and why a sketch has none. In reading order: `Counts`, `Constants`,
+//! `Layouts`, `Names`, `Faults`. They rest on the class files of jl_classfile.
 #![tactic(auto)]
 
 mod check;

@@ -76,7 +76,7 @@ impl Drop for MethodName {
 pub enum Call {
     /// By a Methodref.
     Virtual(MethodName),
-    /// By an InterfaceMethodref where this is so, else by a Methodref; so it is below.
+    /// By an InterfaceMethodref if the flag is true, else by a Methodref. So it is of `Static`.
     Special(bool, MethodName),
     Static(bool, MethodName),
     /// By an InterfaceMethodref.

@@ -100,6 +100,7 @@ fn push_pool(out: &mut Vec<u8>, constants: &Constants<'_>) -> Result<(), AllocEr
 
 // ---- codes
 
+/// The opcode of the call (JVMS SE 17 §6.5).
 fn opcode(call: &Call) -> u8
     ensures { result ≡ call_opcode call.now }
 {
@@ -112,7 +113,8 @@ fn opcode(call: &Call) -> u8
     }
 }
 
-/// The count of an invokeinterface (JVMS SE 17 §6.5), and 0 where the text is no method descriptor.
+/// The count of an invokeinterface (JVMS SE 17 §6.5). It is 0 if the text is no method descriptor, or if its parameters take 255
+/// slots.
 fn count_byte(ty: &[u8]) -> u8
     ensures { result ≡ count_byte ty.now }
 {
@@ -122,7 +124,7 @@ fn count_byte(ty: &[u8]) -> u8
     }
 }
 
-/// Appends what stands behind the number of a call.
+/// Appends what follows the number of a call.
 fn push_call_tail(out: &mut Vec<u8>, call: &Call) -> Result<(), AllocError>
     ensures { OnOk result (out.new.items ≡ out.old.items ++ call_tail call.now) }
 {
@@ -200,7 +202,7 @@ fn push_code<'a>(
     push_attribute(out, constants.number(NewConstant::Utf8(CODE)), &info)
 }
 
-/// Appends the attributes of a method behind their count.
+/// Appends the count of a method's attributes, and then the attributes.
 fn push_attributes<'a>(
     alloc: Global,
     out: &mut Vec<u8>,
@@ -238,7 +240,7 @@ fn push_method<'a>(
     push_attributes(alloc, out, constants, method)
 }
 
-/// Appends the methods behind their count.
+/// Appends the count of the methods, and then the methods.
 fn push_methods<'a>(
     alloc: Global,
     out: &mut Vec<u8>,
@@ -255,7 +257,7 @@ fn push_methods<'a>(
     Ok(())
 }
 
-/// Appends the numbers of classes behind their count.
+/// Appends the count of the classes, and then their numbers.
 fn push_classes<'a>(
     out: &mut Vec<u8>,
     constants: &Constants<'a>,
@@ -308,7 +310,7 @@ fn push_members<'a>(
     )
 }
 
-/// Appends the attributes of the class behind their count.
+/// Appends the count of the class's attributes, and then the attributes.
 fn push_class_attributes<'a>(
     alloc: Global,
     out: &mut Vec<u8>,
@@ -329,7 +331,7 @@ fn push_class_attributes<'a>(
 
 // ---- the file
 
-/// Appends the number of the superclass, 0 where there is none.
+/// Appends the number of the superclass, or 0 if there is none.
 fn push_superclass<'a>(
     out: &mut Vec<u8>,
     constants: &Constants<'a>,
@@ -343,7 +345,7 @@ fn push_superclass<'a>(
     }
 }
 
-/// Appends what stands behind the pool.
+/// Appends what follows the pool.
 fn push_body<'a>(
     alloc: Global,
     out: &mut Vec<u8>,
@@ -379,7 +381,7 @@ fn file_of<'a>(
     Ok(bytes)
 }
 
-/// The bytes that the sketch is written as, where no fault comes before.
+/// The bytes that the sketch is written as, unless a fault comes before.
 fn bytes_of(alloc: Global, sketch: &Sketch) -> Result<Vec<u8>, SketchFault>
     ensures ok { IfOk result (λ bytes. IsSpelled sketch.now bytes.items) }
     ensures flags { OnOk result (AreFlags sketch.now) }
@@ -412,7 +414,8 @@ fn refused(fault: ClassFault) -> SketchFault
 ///
 /// # Errors
 ///
-/// `TooBig`, then `CallsWithoutCode`, then `Refused` with the fault that `read_class` gives of the bytes; or `Memory`.
+/// `Memory`, or the first of `TooBig`, `CallsWithoutCode` and `Refused` that holds. `Refused` tells the fault that `read_class`
+/// gives of the bytes.
 pub fn write_class(alloc: Global, sketch: &Sketch) -> Result<Vec<u8>, SketchFault>
     ensures ok { IfOk result (λ bytes. IsWritten sketch.now bytes.items) }
     ensures shown { IfOk result (λ bytes. (p : Parts) × IsClass bytes.items p × (shown p ≡ class_of sketch.now)) }

@@ -1,4 +1,4 @@
--- Where an element stands, and what a write leaves.
+-- The place of an element, and what a write leaves.
 use Rattle.std.specs.Prelude.{◌≡◌, ℕ, zero, suc, ◌+◌, ◌-◌, ◌*◌, ◌/◌, ◌<◌, ◌≤◌, List, [], ◌∷◌, ◌++◌, length, replicate, get_or, slice_get, slice_set}
 use Rattle.std.specs.Prelude.{Some, None, Result, Ok, Err, OnOk, OnErr}
 use Rattle.std.proofs.Common.{refl, ap, sym, ◌∙◌, subst, arith, length-append}
@@ -6,19 +6,11 @@ use Rattle.std.proofs.lemmas.List.{append_assoc, get_or_append_left, length-repl
 use Rattle.std.proofs.lemmas.List.{set-append_left, set-append_right}
 use Rattle.std.proofs.lemmas.Option.{same_Some, slice_get_past, slice_get_within}
 use Rattle.std.proofs.Math.Nat.{div-add-mod}
-use Rattle.jl_slots.specs.ForProofs.Pages.{elements, AreWhole, all_pages}
+use Rattle.jl_pages.specs.ForProofs.Pages.{elements}
+use Rattle.jl_pages.proofs.PageLaws.{in_front, after}
+use Rattle.jl_slots.specs.ForProofs.Pages.{AreWhole, all_pages}
 
 module _ {T : Type 0} where
-  in_front : (xs ys : List T) (i : ℕ) → i < length xs → slice_get (xs ++ ys) i ≡ slice_get xs i
-  in_front [] ys i few = absurd (omega (arith, few))
-  in_front (x ∷ xs) ys zero few = refl
-  in_front (x ∷ xs) ys (suc i) few = in_front xs ys i (omega (arith, few))
-
-  behind : (xs ys : List T) (i n : ℕ) → i ≡ length xs + n → slice_get (xs ++ ys) i ≡ slice_get ys n
-  behind [] ys i n is = ap (slice_get ys) (omega (arith, is))
-  behind (x ∷ xs) ys zero n is = absurd (omega (arith, is))
-  behind (x ∷ xs) ys (suc i) n is = behind xs ys i n (omega (arith, is))
-
   none_past : (xs : List T) (q : ℕ) → slice_get xs q ≡ None → length xs ≤ q
   none_past [] q none = omega arith
   none_past (x ∷ xs) zero none = cc
@@ -57,14 +49,14 @@ module _ {T : Type 0} where
       same_place : i ≡ r
       same_place = omega (arith, is)
   at_page (first ∷ pages) page (suc q) i r whole at is few =
-      behind first (elements pages) i (256 * q + r) (omega (arith, whole.0, is)) ∙ at_page pages page q (256 * q + r) r whole.1 at refl few
+      after first (elements pages) i (256 * q + r) (omega (arith, whole.0, is)) ∙ at_page pages page q (256 * q + r) r whole.1 at refl few
 
   -- past the last one
   pub past_all : (pages : List (List T)) (q i r : ℕ) → AreWhole pages → slice_get pages q ≡ None → i ≡ 256 * q + r → slice_get (elements pages) i ≡ None
   past_all [] q i r whole none is = refl
   past_all (first ∷ pages) zero i r whole none is = cc
   past_all (first ∷ pages) (suc q) i r whole none is =
-      behind first (elements pages) i (256 * q + r) (omega (arith, whole.0, is)) ∙ past_all pages q (256 * q + r) r whole.1 none refl
+      after first (elements pages) i (256 * q + r) (omega (arith, whole.0, is)) ∙ past_all pages q (256 * q + r) r whole.1 none refl
 
   -- a write in a page is one among all elements
   pub set_at : (pages : List (List T)) (d : List T) (x : T) (q i r : ℕ) → AreWhole pages → q < length pages → i ≡ 256 * q + r → r < 256
@@ -104,7 +96,7 @@ module _ {T : Type 0} where
       → slice_get (all_pages pages blank count) q ≡ Some blank
   unlisted_at pages blank count q none few =
       let past : length pages ≤ q = none_past pages q none in
-      behind pages (replicate (count - length pages) blank) q (q - length pages) (omega (arith, past))
+      after pages (replicate (count - length pages) blank) q (q - length pages) (omega (arith, past))
       ∙ copy_at (count - length pages) (q - length pages) blank (omega (arith, past, few))
 
   -- there is no later one

@@ -1,2 +1,2 @@
--- `Pages` is a means of proof.
+-- `ForProofs` has means of proof.
 pub mod ForProofs

@@ -9,7 +9,7 @@ use std::marker::Model;
 use std::sync::Arc;
 
 /// How many elements a page has.
-pub(crate) const PAGE: usize = 256;
+pub const PAGE: usize = 256;
 
 /// The elements of a page, which lists share. A clause sees them.
 #[derive(Drop)]
@@ -26,7 +26,7 @@ impl<T> Model for FixedPage<T> {
 }
 
 impl<T: Again> FixedPage<T> {
-    /// A page with this element at each place. Want of memory is an error.
+    /// A page with this element at each place.
     pub(crate) fn filled(alloc: Global, element: T) -> Result<FixedPage<T>, AllocError>
         ensures { IfOk result (λ page. page ≡ replicate 256 element) }
     {
@@ -60,7 +60,7 @@ impl<T> FixedPage<T> {
         self.kept.get(place)
     }
 
-    /// The same page once more, which both share. Too many copies are an error.
+    /// A copy of the page, which shares its elements. Too many copies are an error.
     pub(crate) fn copy(&self) -> Result<FixedPage<T>, AllocError>
         ensures { IfOk result (λ copy. copy ≡ self.now) }
     {
@@ -70,7 +70,7 @@ impl<T> FixedPage<T> {
     }
 }
 
-/// Elements, with the memory that a copy of them takes. A clause sees them.
+/// Elements, with the allocator from which a copy of them takes memory. A clause sees them.
 #[derive(Drop)]
 struct Kept<T> {
     alloc: Global,
@@ -97,7 +97,7 @@ impl<T: Again> Clone for Kept<T> {
 }
 
 impl<T: Again> Kept<T> {
-    /// So many copies of an element as a page has. Want of memory is an error.
+    /// As many copies of the element as a page has elements.
     fn filled(alloc: Global, element: T) -> Result<Kept<T>, AllocError>
         ensures { IfOk result (λ kept. kept ≡ replicate 256 element) }
     {
@@ -125,7 +125,7 @@ impl<T> Kept<T> {
     }
 }
 
-/// So many copies of the element as a page has. Want of memory is an error.
+/// As many copies of the element as a page has elements.
 fn filled<T: Again>(alloc: Global, element: T) -> Result<Vec<T>, AllocError>
     ensures { IfOk result (λ made. made.items ≡ replicate 256 element) }
 {
@@ -136,7 +136,7 @@ fn filled<T: Again>(alloc: Global, element: T) -> Result<Vec<T>, AllocError>
     Ok(made)
 }
 
-/// The same elements once more. Want of memory is an error.
+/// Copies of the elements, in order.
 fn copied<T: Again>(alloc: Global, elements: &[T]) -> Result<Vec<T>, AllocError>
     ensures { IfOk result (λ made. made.items ≡ elements.now) }
 {

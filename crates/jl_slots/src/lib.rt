@@ -6,4 +6,5 @@
 mod fixed_page;
 mod slots;
 
+pub use fixed_page::PAGE;
 pub use slots::Slots;

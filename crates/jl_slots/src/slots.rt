@@ -2,7 +2,8 @@
 
 ghost use Rattle.std.specs.Prelude.{◌≡◌, ◌<◌, ◌≤◌, ◌*◌, length, replicate, slice_get, slice_set, IfOk, OnOk, OnErr};
 ghost use Rattle.std.specs.Option.{option_copied};
-ghost use Rattle.jl_slots.specs.ForProofs.Pages.{elements, AreWhole, all_pages};
+ghost use Rattle.jl_pages.specs.ForProofs.Pages.{elements};
+ghost use Rattle.jl_slots.specs.ForProofs.Pages.{AreWhole, all_pages};
 
 use crate::fixed_page::{FixedPage, PAGE};
 use jl_pages::Again;
@@ -32,7 +33,8 @@ impl<T: Drop> Drop for Slots<T> {
 
 impl<T> Model for Slots<T> {
     ghost use Rattle.std.specs.Prelude.{List};
-    ghost use Rattle.jl_slots.specs.ForProofs.Pages.{elements, AreWhole, all_pages};
+    ghost use Rattle.jl_pages.specs.ForProofs.Pages.{elements};
+    ghost use Rattle.jl_slots.specs.ForProofs.Pages.{AreWhole, all_pages};
 
     ghost Value = { List T };
 
@@ -42,7 +44,7 @@ impl<T> Model for Slots<T> {
 }
 
 impl<T: Again> Slots<T> {
-    /// So many pages with this element at each place, of which none is listed yet. Want of memory is an error.
+    /// A list of as many pages as `pages` says, with this element at each place. No page is listed yet.
     pub fn filled(alloc: Global, element: T, pages: usize) -> Result<Slots<T>, AllocError>
         ensures { IfOk result (λ slots. slots ≡ replicate (256 * pages) element) }
     {
@@ -81,7 +83,8 @@ impl<T> Slots<T> {
     }
 }
 
-/// The same list once more, which shares all pages. It takes as long as pages are listed. Want of memory is an error.
+/// A copy of the list, which shares all pages. It takes time for each listed page. Want of memory is an error, and so are too many
+/// copies.
 impl<T: Drop> Clone for Slots<T> {
     ghost is_clone = { λ slots copy. copy ≡ slots };
 
@@ -125,7 +128,7 @@ fn set_in<T: Again>(
     pages[place / PAGE].set(place % PAGE, element)
 }
 
-/// Lists the pages up to this one as they are.
+/// Lists the pages up to this one. No element changes.
 ///
 /// # Errors
 ///
@@ -146,7 +149,7 @@ fn list_to<T: Drop>(
     Ok(())
 }
 
-/// The same pages once more, which both share. Want of memory is an error.
+/// A copy of the list of pages, which shares the pages.
 fn copies<T: Drop>(alloc: Global, pages: &[FixedPage<T>]) -> Result<Vec<FixedPage<T>>, AllocError>
     ensures { IfOk result (λ made. made.items ≡ pages.now) }
 {

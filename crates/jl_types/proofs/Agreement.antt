@@ -33,7 +33,7 @@ use Rattle.jl_types.specs.Events.Fast.{no_entry, entry_answer}
 use Rattle.jl_types.proofs.Bools.{any-range-from, any-filter-at}
 use Rattle.jl_types.proofs.Lists.{passes_within}
 
--- installed where the outcome hangs on the receiver
+-- installed if the outcome hangs on the receiver
 abbrev pub looks : Link → Bool
 looks (Fault throwable) = false
 looks (Plain m) = false
@@ -180,7 +180,7 @@ module _ (cs : Classes) (named x : ℕ) where
 
 -- ---- tables
 
--- the answer of a table to an object of class x, where the entries are those of the receivers
+-- the answer of a table to an object of class x, if the entries are those of the receivers
 entry_of : (cs : Classes) (i : ResolvedCall) (kind : TableKind) (x : ℕ) (b : Bool) → is_ancestor cs i.named x ≡ b → is_concrete cs x ≡ true
     → (if b then answered (outcome cs i x) else no_entry kind) ≡ entry_answer kind (find (row_is x) (table_rows cs i))
 entry_of cs i kind x true e h = ap (entry_answer kind) (sym (entry_found (outcome cs i) x (receivers cs i.named) (among_receivers cs i.named x h e)))

@@ -1,4 +1,4 @@
--- The tests of ancestors and of superclasses say what they are to say, where parents come first.
+-- The tests of ancestors and of superclasses say what they are to say, if parents come first.
 use Rattle.std.specs.Prelude.{◌≡◌, ℕ, zero, suc, ◌+◌, ◌<◌, ◌≤◌, ◌==◌, Bool, true, false, ◌||◌, not, List, [], ◌∷◌, ◌++◌}
 use Rattle.std.specs.Prelude.{slice_get, Option, Some, None, option_to_list, Decides}
 use Rattle.std.specs.List.{AllByRecursion, list_any}
@@ -31,11 +31,11 @@ member : (f : ℕ → Bool) (ps : List ℕ) → list_any f ps ≡ true → Membe
 member f [] h = cc
 member f (p ∷ ps) h = elim (or_cases (f p) (list_any f ps) h) [
   | inl is ↦ record { number = p; among = ap (λ (b : Bool). b || list_any (λ q. p == q) ps) (nat_eq_equiv.refl p); passes = is }
-  | inr more ↦ behind f p ps (member f ps more)
+  | inr more ↦ after f p ps (member f ps more)
 ]
   where
-    behind : (f : ℕ → Bool) (p : ℕ) (ps : List ℕ) → Member f ps → Member f (p ∷ ps)
-    behind f p ps r = record { number = r.number; among = or_right (r.number == p) (list_any (λ q. r.number == q) ps) r.among; passes = r.passes }
+    after : (f : ℕ → Bool) (p : ℕ) (ps : List ℕ) → Member f ps → Member f (p ∷ ps)
+    after f p ps r = record { number = r.number; among = or_right (r.number == p) (list_any (λ q. r.number == q) ps) r.among; passes = r.passes }
 
 any_of : (f : ℕ → Bool) (p : ℕ) (ps : List ℕ) → f p ≡ true → list_any (λ q. p == q) ps ≡ true → list_any f ps ≡ true
 any_of f p [] h m = cc
@@ -76,7 +76,7 @@ module _ (rows : List Class) (o : AreOrdered rows) (a : ℕ) where
   enough (suc n) (suc m) c h k = alike_at (is_ancestor_within n rows a) (is_ancestor_within m rows a) c (λ p lt. enough n m p (omega arith) (omega arith))
       (slice_get rows c) refl
 
-  -- a is an ancestor of c where it is c or one of a parent
+  -- a is an ancestor of c if it is c, or an ancestor of a parent of c
   pub above_is : (c : ℕ) (row : Class) → slice_get rows c ≡ Some row → is_ancestor_within (c + 1) rows a c ≡ ((a == c)
       || list_any (λ p. is_ancestor_within (p + 1) rows a p) (parents row))
   above_is c row e =

@@ -74,7 +74,7 @@ all_after {A = A} n s l (row ∷ rows) h k = by_order (nat_lt s row.0) (s == row
     by_order false true ih = (h, k.1)
     by_order false false ih = (k.0, ih)
 
--- each row before those behind it
+-- each row before those after it
 abbrev pub Rises : {A : Type 0} → List (ℕ × A) → Type 0
 Rises [] = Unit {0}
 Rises {A = A} (row ∷ rows) = AllByRecursion (λ (r : ℕ × A). row.0 < r.0) rows × Rises rows
@@ -126,7 +126,7 @@ none_below n (row ∷ rows) h = other_there row.0 n row.1 rows (λ e. let lt = h
 pub no_value : {A : Type 0} (l : A) → Some l ≡ None → ⊥
 no_value l e = cc
 
--- ---- rising lists in which the same is found are the same
+-- ---- rising lists with equal values are equal
 
 pub same_values : {A : Type 0} (xs ys : List (ℕ × A)) → Rises xs → Rises ys → ((s : ℕ) → value_at xs s ≡ value_at ys s) → xs ≡ ys
 same_values [] [] h k e = refl
@@ -178,10 +178,10 @@ some_none l e = cc
 -- a value of a new site makes the list longer
 longer_put : {A : Type 0} (s : ℕ) (l : A) (rows : List (ℕ × A)) → value_at rows s ≡ None → length (put s l rows) ≡ suc (length rows)
 longer_put s l [] h = refl
-longer_put s l (row ∷ rows) h = by_place (row.0 == s) refl (λ e. longer_put s l rows (behind false e))
+longer_put s l (row ∷ rows) h = by_place (row.0 == s) refl (λ e. longer_put s l rows (after false e))
   where
-    behind : (b : Bool) → (row.0 == s) ≡ b → (if b then Some row.1 else value_at rows s) ≡ None
-    behind b e = ap (λ (b : Bool). if b then Some row.1 else value_at rows s) (sym e) ∙ sym (found_first row.0 s row.1 rows) ∙ h
+    after : (b : Bool) → (row.0 == s) ≡ b → (if b then Some row.1 else value_at rows s) ≡ None
+    after b e = ap (λ (b : Bool). if b then Some row.1 else value_at rows s) (sym e) ∙ sym (found_first row.0 s row.1 rows) ∙ h
 
     by_order : (before same : Bool) → (s == row.0) ≡ same → (s == row.0) ≡ false → length (put s l rows) ≡ suc (length rows)
         → length (if before then (s, l) ∷ row ∷ rows else if same then (s, l) ∷ rows else row ∷ put s l rows) ≡ suc (suc (length rows))
@@ -191,7 +191,7 @@ longer_put s l (row ∷ rows) h = by_place (row.0 == s) refl (λ e. longer_put s
 
     by_place : (b : Bool) → (row.0 == s) ≡ b → ((row.0 == s) ≡ false → length (put s l rows) ≡ suc (length rows))
         → length (put s l (row ∷ rows)) ≡ suc (length (row ∷ rows))
-    by_place true e ih = absurd (some_none row.1 (behind true e))
+    by_place true e ih = absurd (some_none row.1 (after true e))
     by_place false e ih = by_order (nat_lt s row.0) (s == row.0) refl (nat_eq_equiv.symm s row.0 ∙ e) (ih e)
 
 none_there : {A : Type 0} (s : ℕ) (entries : List (ℕ × A)) → AllByRecursion (λ k. (s == k) ≡ false) (keys_of entries) → lookup (λ k. s == k) entries ≡ None

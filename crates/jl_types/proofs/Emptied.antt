@@ -41,7 +41,7 @@ none_passes p (suc n) a never =
     ap (λ (b : Bool). cond b (a ∷ filter p (range_with_len (a + 1) n)) (filter p (range_with_len (a + 1) n))) (never a (omega arith))
     ∙ none_passes p n (a + 1) (λ s le. never s (omega arith))
 
--- a longer range has no more that pass, where none beyond the shorter does
+-- a longer range has no more that pass, if none beyond the shorter does
 range_longer : (p : ℕ → Bool) (m n a : ℕ) → m ≤ n → ((s : ℕ) → a + m ≤ s → p s ≡ false) → filter p (range_with_len a n) ≡ filter p (range_with_len a m)
 range_longer p zero n a le never = none_passes p n a (λ s h. never s (omega arith))
 range_longer p (suc m) zero a le never = absurd (omega arith)

@@ -22,9 +22,9 @@ pub is_link_decides : (r : Result Link Unlinked) (l : Link) → Decides (is_link
 is_link_decides (Ok now) l = Decides-like (same_link now l) (ap Ok) (λ e. cc) (link_decides now l)
 is_link_decides (Err reason) l = (λ e. cc, λ e. cc)
 
--- ---- what an event leaves of a link, where it installs none
+-- ---- what an event leaves of a link, if it installs none
 
--- where there was none there is none
+-- if there was none, there is none
 pub kept_none : (r : Result Link Unlinked) → kept false None r ≡ None
 kept_none (Ok now) = refl
 kept_none (Err reason) = refl

@@ -73,11 +73,11 @@ module _ (cs : Classes) (good : IsGood cs) (loader : ℕ) where
 
 -- ---- one class more, one record more
 
-pub none_behind : {A : Type 0} (xs : List A) (x y : A) (n : ℕ) → slice_get (xs ++ x ∷ []) n ≡ Some y → n ≤ length xs
-none_behind [] x y zero e = omega arith
-none_behind [] x y (suc n) e = cc
-none_behind (z ∷ xs) x y zero e = omega arith
-none_behind (z ∷ xs) x y (suc n) e = let le = none_behind xs x y n e in omega arith
+pub none_after : {A : Type 0} (xs : List A) (x y : A) (n : ℕ) → slice_get (xs ++ x ∷ []) n ≡ Some y → n ≤ length xs
+none_after [] x y zero e = omega arith
+none_after [] x y (suc n) e = cc
+none_after (z ∷ xs) x y zero e = omega arith
+none_after (z ∷ xs) x y (suc n) e = let le = none_after xs x y n e in omega arith
 
 wider : (n : ℕ) (records : List (List ℕ × ℕ)) → AreBelow n records → AreBelow (n + 1) records
 wider n [] h = tt
@@ -120,7 +120,7 @@ module _ (cs : Classes) (good : IsGood cs) (loader : ℕ) (file : ClassFile) whe
         (sym (length-append cs.rows (class_made cs loader file ∷ [])))
         (recorded_below (length cs.rows + 1) cs.loaders loader file.name (length cs.rows) (all_wider (length cs.rows) cs.loaders good.there) (omega arith));
     ordered = λ c row e. All-from_recursion (λ p. p < c) (parents row)
-        (in_order c row e (eq-or-lt_of_le (none_behind cs.rows (class_made cs loader file) row c e)));
+        (in_order c row e (eq-or-lt_of_le (none_after cs.rows (class_made cs loader file) row c e)));
   }
 
 delegated_good : (cs : Classes) (good : IsGood cs) (loader : ℕ) (name : List ℕ) (to : ℕ) → IsGood (delegated cs loader name to)

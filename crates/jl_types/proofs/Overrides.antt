@@ -1,4 +1,4 @@
--- The test of overriding says what the least relation says, where parents come first.
+-- The test of overriding says what the least relation says, if parents come first.
 use Rattle.std.specs.Prelude.{◌≡◌, ℕ, zero, suc, ◌+◌, ◌<◌, ◌≤◌, Bool, true, false, ◌||◌, ◌&&◌, length, Option, Some, None, Decides}
 use Rattle.std.specs.List.{list_any, range_with_len}
 use Rattle.std.specs.Option.{option_map_or}

@@ -1,10 +1,11 @@
 -- How many places are requested: an event takes none back, and a legal list keeps to the limit.
-use Rattle.std.specs.Prelude.{◌≡◌, ℕ, ◌<◌, ◌≤◌, nat_le, Bool, true, false, List, [], ◌∷◌, ◌++◌, length, position, get_or, Option, Some, None, Result}
-use Rattle.std.specs.Prelude.{Ok, Err, if◌then◌else◌}
+use Rattle.std.specs.Prelude.{◌≡◌, ℕ, ◌<◌, ◌≤◌, ◌==◌, ◌&&◌, nat_le, Bool, true, false, List, [], ◌∷◌, ◌++◌, length, position, get_or, Option, Some, None}
+use Rattle.std.specs.Prelude.{Result, Ok, Err, if◌then◌else◌}
 use Rattle.std.specs.Bool.{then_some}
 use Rattle.std.specs.List.{list_any}
 use Rattle.std.proofs.Common.{refl, ap, sym, ◌∙◌, subst, arith, length-append}
 use Rattle.std.proofs.lemmas.Bool.{leb-false, both_ways}
+use Rattle.std.proofs.lemmas.Bool.Decides.{Decides-eqb}
 use Rattle.std.proofs.lemmas.List.Sums.{fold-append}
 use Rattle.std.proofs.lemmas.List.Quantifiers.{position-Some}
 use Rattle.std.proofs.lemmas.Option.{slice_get-get_or}
@@ -27,6 +28,16 @@ use Rattle.jl_types.specs.Events.History.{world_after, replied, dropped}
 use Rattle.jl_types.specs.Events.Entries.{Entry, IsEntry, IsLegal, events_of}
 use Rattle.jl_types.proofs.Firsts.{first_none, test_none}
 use Rattle.jl_types.proofs.Legal.{by_entries, events_more}
+use Rattle.jl_types.proofs.Bools.{first_test, second_test}
+
+-- places that are the same by the test are the same
+pub same_so : (p q : Place) → same_place p q ≡ true → p ≡ q
+same_so p q is =
+    let class = (Decides-eqb p.class q.class).0 (first_test (p.class == q.class) ((p.method == q.method) && (p.pc == q.pc)) is) in
+    let rest = second_test (p.class == q.class) ((p.method == q.method) && (p.pc == q.pc)) is in
+    let method = (Decides-eqb p.method q.method).0 (first_test (p.method == q.method) (p.pc == q.pc) rest) in
+    let pc = (Decides-eqb p.pc q.pc).0 (second_test (p.method == q.method) (p.pc == q.pc) rest) in
+    λ i. record { class = class i; method = method i; pc = pc i }
 
 pub world_more : (h : List Event) (e : Event) → world_after (h ++ e ∷ []) ≡ step (world_after h) e
 world_more h e = fold-append step nothing_yet h (e ∷ [])

@@ -33,7 +33,7 @@ use Rattle.jl_types.proofs.Firsts.{first_none, test_none}
 
 -- ---- lists of loaders
 
--- a list of one has that one alone
+-- a list of one loader has only that loader
 pub listed_alone : (loader k : ℕ) → is_listed (loader ∷ []) k ≡ (loader == k)
 listed_alone loader k = or_none (loader == k)
 
@@ -84,7 +84,7 @@ any_of_one cs loaders l c there e = by_row (slice_get cs.rows c) e
     by_row None e = cc
     by_row (Some row) e = ap (is_listed loaders) ((Decides-eqb row.loader l).0 e) ∙ there
 
--- the same of a list of classes
+-- if one of the classes is of one of the loaders, one loader has one of them
 pub one_of_all : {A : Type 0} (cs : Classes) (loaders : List ℕ) (g : A → ℕ) (xs : List A) → list_any (λ x. is_of_any cs loaders (g x)) xs ≡ true
     → (l : ℕ) × (is_listed loaders l ≡ true) × (list_any (λ x. is_of cs l (g x)) xs ≡ true)
 one_of_all cs loaders g [] e = cc
@@ -279,7 +279,7 @@ is_free cs loaders may = record {
             (λ i. apart i && (ap (λ (o : Option (List (List ℕ × ℕ))). option_map_or (list_any (λ r. is_of cs one.0 r.1)) o false) at ∙ one.2) i))
         by_record false none = refl
 
--- where nothing that stays needs one of them, no fault is told
+-- if nothing that stays needs one of them, no fault is told
 pub free_may : (cs : Classes) (loaders : List ℕ) → IsFree cs loaders → MayRetire cs loaders
 free_may cs loaders free l there =
     let no_heir = none_find (inherits_from cs loaders l) 0 (length cs.rows)
@@ -415,7 +415,7 @@ module _ (w : World) (loaders : List ℕ) (s : ℕ) where
 
 -- ---- a list of one
 
--- a list of one loader may go exactly where the loader may
+-- a list of one loader may go exactly if the loader may
 pub one_may_go : (limits : Limits) (w : World) (loader : ℕ)
     → (verdict limits w (event.RetireAll (loader ∷ [])) ≡ Ok made.Nothing) ↔ (verdict limits w (event.Retire loader) ≡ Ok made.Nothing)
 one_may_go limits w loader = by_fault (retire_fault w (loader ∷ []) loader)

@@ -11,7 +11,7 @@ use Rattle.jl_types.specs.Linkage.Links.{scratch}
 use Rattle.jl_types.proofs.Lists.{before_end, at_end}
 use Rattle.jl_types.specs.Events.History.{Settled, installs, installed_at, scratch_after, world_after}
 
--- where an event installs, there is one
+-- if an event installs, there is one
 pub within : (h : List Event) (s k : ℕ) → installed_at h k s ≡ true → k < length h
 within [] s k i = cc
 within (e ∷ h) s zero i = omega arith

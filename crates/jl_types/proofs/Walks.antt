@@ -240,7 +240,7 @@ module _ (cs : Classes) (o : AreOrdered cs.rows) where
       visible = m.visible;
     }
 
-    -- and so is c's to b, where b is in a's package
+    -- and so is c's to b, if b is in a's package
     from_lower : same_package cs a.class b.class ≡ true → IsBridged cs c b → IsBridged cs c a
     from_lower p m = record {
       method = m.method;

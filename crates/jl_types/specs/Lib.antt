@@ -1,4 +1,4 @@
--- What a link is and what a call comes to, in reading order. `ForProofs` has means of proof.
+-- What a link is and what a call answers, in reading order. `ForProofs` has means of proof.
 pub mod ForProofs
 pub mod Values
 pub mod Linkage

@@ -1,4 +1,4 @@
--- What a site comes to in a world, in reading order.
+-- The link of a site in a world, and the answers to its calls, in reading order.
 pub mod Access
 pub mod Resolution
 pub mod Overriding

@@ -1,4 +1,4 @@
-//! What resolution, selection and a call come to.
+//! The results of resolution, of selection and of a call.
 
 ghost use Rattle.std.specs.Prelude.{◌≡◌, ◌≢◌, MatchBool};
 
@@ -57,28 +57,28 @@ pub enum Unlinked {
     NoSite,
 }
 
-/// What a call comes to.
+/// The answer to a call.
 #[derive(Clone, Copy, Debug, PartialEq, Eq)]
 pub enum Answer {
     /// This method runs.
     Run(MethodId),
     /// This is thrown.
     Throws(Throwable),
-    /// No object can be such a receiver here: its class is absent, an interface or abstract, or at invokevirtual no
-    /// subclass of the class that the instruction names.
+    /// No object can be such a receiver here. Its class is absent, an interface or abstract; or, at invokevirtual, it isn't
+    /// the class that the instruction names or a subclass of that.
     BadReceiver,
     /// The site can't be linked now.
     Unlinked(Unlinked),
 }
 
-/// What a call is answered at once, without a look at the classes.
+/// The answer to a call that is given at once, without a look at the classes.
 #[derive(Clone, Copy, Debug, PartialEq, Eq)]
 pub enum Fast {
-    /// This.
+    /// This answer.
     Now(Answer),
-    /// Nothing: the answer takes a look at the classes.
+    /// None: a look at the classes is needed.
     Miss,
-    /// Nothing any more: links aren't published to the caller.
+    /// None, now and later: links are no longer published to the caller.
     Closed,
 }
 
@@ -109,7 +109,7 @@ pub enum Chosen {
     Nothing,
 }
 
-/// What a call with this outcome answers.
+/// The answer to a call with this outcome.
 impl From<Outcome> for Answer {
     ghost use Rattle.jl_types.specs.Linkage.Calls.{answered};
 

@@ -8,8 +8,8 @@ use jl_class::ClassFile;
 use jl_names::Seq;
 use std::marker::Model;
 
-/// A defined class or interface (JVMS SE 17 §5.3): its defining loader, what its file shows, and the classes that the
-/// loader had recorded under the names of its superclass and of its superinterfaces.
+/// A defined class or interface (JVMS SE 17 §5.3): its defining loader, what its file shows, its superclass and its direct
+/// superinterfaces. Those are the classes that the loader had recorded under the names in the file.
 #[derive(Debug)]
 pub struct Class {
     loader: LoaderId,
@@ -39,7 +39,7 @@ impl Model for Class {
 }
 
 impl Class {
-    /// The class that the loader makes of the file, below these classes.
+    /// The class that the loader makes of the file, with these parents.
     pub fn new(
         loader: LoaderId,
         file: ClassFile,
@@ -70,7 +70,7 @@ impl Class {
         &self.file
     }
 
-    /// Its direct superclass, which java/lang/Object alone hasn't.
+    /// Its direct superclass. Only java/lang/Object has none.
     pub fn superclass(&self) -> Option<ClassId>
         ensures { result ≡ self.now.superclass }
     {

@@ -1,4 +1,4 @@
-//! Events, and what they are answered.
+//! Events, and the answers to them.
 
 use crate::call_site_id::CallSiteId;
 use crate::class_id::ClassId;
@@ -11,10 +11,10 @@ use crate::target::{CallSiteKind, Target};
 use jl_class::ClassFile;
 use jl_names::{Name, Seq};
 
-/// What changes the classes, sites and links, where a definition carries a `D` and an install an `I`.
+/// What changes the classes, sites and links. A definition carries a `D`, and an install an `I`.
 #[derive(Debug, Drop)]
 pub enum EventOf<D, I> {
-    /// One loader more.
+    /// A new loader.
     NewLoader,
     /// The loader defines a class (JVMS SE 17 §5.3.5).
     Define(LoaderId, D),
@@ -22,25 +22,26 @@ pub enum EventOf<D, I> {
     Delegate(LoaderId, Name, LoaderId),
     /// The invocation at the place is to be linked.
     Request(Place),
-    /// One call site more, of this type and with its first target.
+    /// A new call site, of this type and with its first target.
     NewCallSite(CallSiteKind, Name, Target),
     /// The call site gets another target.
     SetTarget(CallSiteId, Target),
-    /// One switch point more, valid.
+    /// A new switch point, which is valid.
     NewSwitch,
     /// The switch points become invalid for good.
     Invalidate(Seq<SwitchId>),
-    /// The call site that the invokedynamic's bootstrap method gave (JVMS SE 17 §6.5).
+    /// The invokedynamic is bound to the call site that its bootstrap method gave (JVMS SE 17 §6.5).
     Bind(SiteNo, CallSiteId),
     /// Sites get the links that they are to have.
     Install(I),
     /// The loader goes, with the classes that it has defined and the sites in them (JLS SE 17 §12.7).
     Retire(LoaderId),
-    /// The loaders go at once, with the classes that they have defined and the sites in them. What only one of them needs of
-    /// another holds none back. One that comes twice goes once; where there are none, nothing changes.
+    /// The loaders go at once, with the classes that they have defined and the sites in them. What one of them needs of another
+    /// doesn't hold them back. One that comes twice goes once. If the list is empty, nothing changes.
     RetireAll(Seq<LoaderId>),
-    /// The call sites and the switch points go at once, and what the targets of these call sites name is theirs no more. Sites that are
-    /// bound to one of them have no link any more. One that comes twice goes once; where there are none, nothing changes.
+    /// The call sites and the switch points go at once. The targets of these call sites no longer hold what they name. Sites that
+    /// are bound to one of these call sites have no link any more. One that comes twice goes once. If the lists are empty, nothing
+    /// changes.
     Release(Seq<CallSiteId>, Seq<SwitchId>),
 }
 
@@ -59,8 +60,8 @@ pub enum Made {
     Switch(SwitchId),
 }
 
-/// What an accepted event is answered: what it gave a number to, and by rising number the sites that had a link before
-/// it and have none after it.
+/// The answer to an accepted event: what it gave a number to, and the sites that had a link before it and have none after
+/// it, by rising number.
 #[derive(Debug, Drop)]
 pub struct Reply {
     pub made: Made,

@@ -46,7 +46,7 @@ pub fn parents_come_first()
     ensures { (h : List Event) → AreOrdered (world_after h).classes.rows }
 {}
 
-/// A class is among its own ancestors, and ancestors of ancestors are ancestors. Where parents come first, the test of
+/// A class is among its own ancestors, and ancestors of ancestors are ancestors. If parents come first, the test of
 /// ancestors decides the relation.
 pub fn ancestors_of_ancestors()
     ensures itself { (cs : Classes) (c : ℕ) (row : Class)
@@ -56,14 +56,14 @@ pub fn ancestors_of_ancestors()
     ensures decided { (cs : Classes) → AreOrdered cs.rows → (a x : ℕ) → Decides (is_ancestor cs a x) (IsAncestor cs.rows a x) }
 {}
 
-/// Where parents come first, the list of a class's ancestors has exactly its ancestors.
+/// If parents come first, the list of a class's ancestors has exactly its ancestors.
 pub fn ancestors_are_listed()
     ensures { (cs : Classes) → AreOrdered cs.rows → (a c : ℕ)
         → is_ancestor cs a c ≡ list_any (λ k. k == a) (ancestors cs.rows c) }
 {}
 
-/// The definition of a class leaves the ancestors of the others as they are, and adds to the receivers of a class at most
-/// the new one, where objects may be of that and it is below the class.
+/// The definition of a class leaves the ancestors of the others as they are. To the receivers of a class it adds the new class
+/// if objects may be of the new one and it is below that class, and else none.
 pub fn one_class_more()
     ensures ancestors { (cs : Classes) → AreOrdered cs.rows → (loader : ℕ) (file : ClassFile) (c : ℕ) → c < length cs.rows
         → ancestors (defined cs loader file).rows c ≡ ancestors cs.rows c }
@@ -78,14 +78,17 @@ pub fn superclasses_upward()
         → superclasses cs c ≡ c ∷ option_map_or (superclasses cs) row.superclass [] }
 {}
 
-/// Where parents come first, the test of overriding decides the relation (JVMS SE 17 §5.4.5).
+/// If parents come first, the test of overriding decides the relation (JVMS SE 17 §5.4.5).
 pub fn overriding_is_decided()
     ensures { (cs : Classes) → AreOrdered cs.rows → (c a : MethodId) → Decides (can_override cs c a) (CanOverride cs c a) }
 {}
 
-/// A method overrides another one only if they are alike, and does if the other is visible. One that isn't visible it overrides
-/// exactly if that has no access flag and a class between declares an alike method, public or protected, in that one's
-/// run-time package: one walk up the superclasses decides it (JVMS SE 17 §5.4.5).
+/// When a method overrides another one (JVMS SE 17 §5.4.5), which one walk up the superclasses decides:
+///
+/// - They have to be alike.
+/// - If they are alike and the other one is visible, it does.
+/// - If they are alike and the other one isn't visible, it does exactly if two things hold. The other one has no access flag. A class
+///   between theirs, in the run-time package of the other one's class, declares a public or protected method that is alike.
 pub fn overriding_in_one_walk()
     ensures alike { (cs : Classes) (c a : MethodId) → CanOverride cs c a → are_alike cs c a ≡ true }
     ensures visible { (cs : Classes) (c a : MethodId)
@@ -95,7 +98,7 @@ pub fn overriding_in_one_walk()
         → CanOverride cs c a ↔ ((is_package_private cs a ≡ true) × IsBridged cs c a) }
 {}
 
-/// A site has no link from scratch exactly where its calls are unlinked, for the same reason.
+/// A site has no link from scratch exactly if its calls are unlinked, for the same reason.
 pub fn unlinked_calls()
     ensures { (w : World) (s : ℕ) (reason : Unlinked) (recv : Recv)
         → (scratch w s ≡ Err reason) ↔ (dispatch w s recv ≡ answer.Unlinked reason) }
@@ -117,15 +120,15 @@ pub fn links_give_the_answers()
         → is_concrete w.classes x ≡ true → dispatch w s (Of x) ≡ entry_answer kind (find (λ row. row.0 == x) rows) }
 {}
 
-/// An install is accepted exactly where its rows are 1 to 256, of requested sites, none of them twice, and each link is the
-/// one from scratch.
+/// An install is accepted exactly if it has 1 to 256 rows, of requested sites, none of them twice, and each link is the one
+/// from scratch.
 pub fn accepted_installs()
     ensures { (limits : Limits) (w : World) (rows : List (ℕ × Link))
         → (verdict limits w (event.Install rows) ≡ Ok made.Nothing) ↔ Accepts w rows }
 {}
 
-/// A site has an installed link exactly where it is settled with it; then the site is requested, and its link from scratch
-/// was that link in every world since an install of the site.
+/// A site has an installed link exactly if it is settled with it. Then the site is requested, and its link from scratch was
+/// that link in every world since an install of the site.
 pub fn settled_links()
     ensures settled { (h : List Event) (s : ℕ) (l : Link) → (installed h s ≡ Some l) ↔ Settled h s l }
     ensures stayed { (h : List Event) (s : ℕ) (l : Link) → installed h s ≡ Some l
@@ -139,8 +142,8 @@ pub fn each_site_once()
     ensures each { (h : List Event) (s : ℕ) (l : Link) → (installed h s ≡ Some l) ↔ Contains (installed_links h) (s, l) }
 {}
 
-/// What one event more leaves installed at a site: its link from scratch afterwards, where the event installs the site or
-/// that link was installed before.
+/// What one event more leaves installed at a site: its link from scratch afterwards, if the event installs the site or that
+/// link was installed before.
 pub fn one_event_more()
     ensures { (h : List Event) (e : Event) (s : ℕ)
         → installed (h ++ e ∷ []) s ≡ kept (installs s e) (installed h s) (scratch (world_after (h ++ e ∷ [])) s) }
@@ -152,7 +155,7 @@ pub fn beginnings_are_legal()
 {}
 
 /// The table of a legal list has a slot for each site that may be requested, with what is installed there after the list's
-/// events. No site past the table was requested, so none has a link. Of no kind there is more than the limits allow.
+/// events. No site past the table was requested, so none has a link. No kind has more than the limits allow.
 pub fn slots_are_the_links()
     ensures size { (limits : Limits) (entries : List Entry) → length (table_of limits entries) ≡ limits.sites }
     ensures links { (limits : Limits) (entries : List Entry) → IsLegal limits entries → (s : ℕ) → s < limits.sites
@@ -187,9 +190,9 @@ pub fn fewer_loaders()
         ↔ (verdict limits w (event.Retire loader) ≡ Ok made.Nothing) }
 {}
 
-/// A release takes away call sites and switch points. Each has nothing any more, and all others have what they had. Numbers that were given
-/// count as before, so none is given again. An invokedynamic that is bound to a released call site has no link then. No released call
-/// site holds a loader.
+/// A release takes away call sites and switch points. Those that go have nothing any more, and all others have what they had.
+/// Numbers that were given count as before, so none is given again. An invokedynamic that is bound to a released call site has no
+/// link then. No released call site holds a loader.
 pub fn fewer_call_sites()
     ensures call_sites { (sites : Sites) (call_sites points : List ℕ) (c : ℕ) → unreleased (released_from sites call_sites points).call_sites c
         ≡ (if is_listed call_sites c then None else unreleased sites.call_sites c) }

@@ -1,9 +1,14 @@
 //! The plain values that every crate of the linker speaks of: numbers, answers, links, targets, events and refusals.
 //!
-//! What a link is, and what a call comes to, stands in `specs/`, in reading order: in `Values` what a world has (`Target`, `World`,
-//! `Members`, `Ancestry`); in `Linkage` what a site comes to there (`Access`, `Resolution`, `Overriding`, `Selection`, `Targets`,
-//! `Stages`, `Links`, `Calls`); in `Events` what changes it (`Limits`, `Definitions`, `Retirement`, `Batches`, `Event`, `Verdict`,
-//! `Preparation`, `History`, `Entries`, `Footprints`, `Fast`). The laws about them are the contracts of the functions of `laws`.
+//! `specs/` says what a link is, and what a call answers. In reading order:
+//!
+//! - `Values`, what a world has: `Target`, `World`, `Members`, `Ancestry`.
+//! - `Linkage`, the links of a site there and the answers to its calls: `Access`, `Resolution`, `Overriding`, `Selection`, `Targets`,
+//!   `Stages`, `Links`, `Calls`.
+//! - `Events`, what changes a world: `Limits`, `Definitions`, `Retirement`, `Release`, `Batches`, `Event`, `Verdict`, `Preparation`,
+//!   `History`, `Entries`, `Footprints`, `Fast`.
+//!
+//! The laws about them are the contracts of the functions of `laws`.
 #![tactic(auto)]
 
 // Numbers.
@@ -15,7 +20,7 @@ mod loader_id;
 mod site_no;
 mod switch_id;
 
-// What is kept, and what calls come to.
+// What is kept, and what calls answer.
 mod answer;
 mod class;
 mod key;
@@ -60,6 +65,6 @@ pub use refusal::{
 };
 pub use site_no::SiteNo;
 pub use switch_id::SwitchId;
-pub use table::Table;
+pub use table::{MOST_ROWS, Table};
 pub use target::{CallSiteKind, Part, Target};
 pub use work::Work;

@@ -15,18 +15,17 @@ pub enum TableKind {
     Interface,
 }
 
-/// What is installed at a site: what its calls come to, by the class of the receiver where that matters (Hölzle,
-/// Chambers and Ungar, Optimizing Dynamically-Typed Object-Oriented Languages With Polymorphic Inline Caches, 1991).
-/// Takes no memory.
+/// What is installed at a site: the outcome of its calls, by the class of the receiver if that matters (Hölzle, Chambers
+/// and Ungar, Optimizing Dynamically-Typed Object-Oriented Languages With Polymorphic Inline Caches, 1991). Takes no memory.
 #[derive(Clone, Copy, Debug, PartialEq)]
 pub enum Link {
     /// Each call throws this.
     Fault(Throwable),
     /// Each call runs this method, and has no receiver.
     Plain(MethodId),
-    /// Each call on an object comes to this.
+    /// Each call on an object has this outcome.
     Direct(Outcome),
-    /// A call comes to the outcome of its receiver's class.
+    /// A call has the outcome that stands beside its receiver's class.
     Table(TableKind, Table),
     /// There are too many classes for a table.
     Mega,

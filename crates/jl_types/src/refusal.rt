@@ -53,13 +53,13 @@ pub enum DefineFault {
 /// Why a loader doesn't record a class of another one.
 #[derive(Clone, Copy, Debug, PartialEq, Eq, Error)]
 pub enum DelegateFault {
-    /// There is no such loader, or it is retired, one of the two.
+    /// One of the two loaders was never made, or is retired.
     #[error("Delegate.UnknownLoader")]
     UnknownLoader,
     /// The other loader has recorded no class under the name.
     #[error("Delegate.NotRecorded")]
     NotRecorded,
-    /// The loader has recorded a class under the name, be it the same one.
+    /// The loader has recorded a class under the name, which may be the same one.
     #[error("Delegate.AlreadyRecorded")]
     AlreadyRecorded,
 }
@@ -87,16 +87,18 @@ pub enum RetireFault {
 /// Why call sites and switch points aren't let go.
 #[derive(Clone, Copy, Debug, PartialEq, Eq, Error)]
 pub enum ReleaseFault {
-    /// There is no such call site, or it is released. It is the first one of the list.
+    /// This call site was never made, or is released. It is the first such one of the list.
     #[error("Release.UnknownCallSite")]
     UnknownCallSite(CallSiteId),
-    /// There is no such switch point, or it is released. It is the first one of the list.
+    /// This switch point was never made, or is released. It is the first such one of the list.
     #[error("Release.UnknownSwitch")]
     UnknownSwitch(SwitchId),
-    /// The target of this call site, which stays, invokes one of the call sites, be it on a side that isn't taken. It is the least such.
+    /// This call site stays, and its target invokes one of those that go, even if only on a side that isn't taken. It is the least such
+    /// call site.
     #[error("Release.Invoked")]
     Invoked(CallSiteId),
-    /// The target of this call site, which stays, guards by one of the switch points, be it on a side that isn't taken. It is the least such.
+    /// This call site stays, and its target guards by one of the switch points that go, even if only on a side that isn't taken. It is
+    /// the least such call site.
     #[error("Release.Guarded")]
     Guarded(CallSiteId),
 }
@@ -197,7 +199,7 @@ pub enum Refusal {
     NotReady {
         site: SiteNo,
     },
-    /// No place was requested under this number; or, where the site is to be bound, its class is retired.
+    /// No place was requested under this number; or the site is to be bound, and its class is retired.
     #[error("UnknownSite")]
     UnknownSite {
         site: SiteNo,
@@ -222,7 +224,7 @@ pub enum Refusal {
     /// A loader isn't retired.
     #[error("{0}")]
     Retire(RetireFault),
-    /// Of several loaders none is retired, since this one can't be.
+    /// None of several loaders is retired, since this one can't be.
     #[error("{fault}")]
     RetireAll {
         /// The first one that can't.
@@ -235,7 +237,7 @@ pub enum Refusal {
     Release(ReleaseFault),
 }
 
-/// Why the sites of a batch aren't taken, be they prepared or installed.
+/// Why the sites of a batch aren't taken, whether to prepare links or to install them.
 #[derive(Clone, Copy, Debug, PartialEq, Eq, Error)]
 pub enum SitesFault {
     /// No place was requested under this number.

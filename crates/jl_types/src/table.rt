@@ -7,9 +7,9 @@ use crate::class_id::ClassId;
 use std::marker::Model;
 
 /// The most classes of a table: a polymorphic inline cache with more is megamorphic (Hölzle, Chambers and Ungar 1991).
-const MOST_ROWS: usize = 8;
+pub const MOST_ROWS: usize = 8;
 
-/// Up to eight classes, each with what a call on its objects comes to. A clause sees the list of them. Takes no memory.
+/// Up to eight classes, each with the outcome of a call on its objects. A clause sees the list of them. Takes no memory.
 #[derive(Clone, Copy, Debug)]
 pub struct Table {
     len: usize,
@@ -55,7 +55,7 @@ impl Table {
         self.len == MOST_ROWS
     }
 
-    /// Adds a class behind the others.
+    /// Adds a class after the others.
     pub fn push(&mut self, class: ClassId, outcome: Outcome)
         requires { length self.old < 8 }
         ensures { self.new ≡ self.old ++ (class, outcome) ∷ [] }

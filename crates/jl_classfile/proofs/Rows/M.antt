@@ -86,7 +86,7 @@ holds = record {
         slots = 0;
         counted = void;
         few = omega arith;
-        behind = refl;
+        later = refl;
       },
       (tt, tt),
     );

@@ -72,7 +72,7 @@ of_254 text takes = (254, omega arith, takes)
 of_255 : (text : List ℕ) → TakesSlots text 255 → ¬ TakesFew 0 text
 of_255 text takes = λ few. let same = one_slots text 255 few.0 takes few.2 in let low = few.1 in omega (arith, same, low)
 
--- ---- members, over 1 f, 2 ()V, 3 I, 4 g, 5 <x>, 6 f once more, 7 a Class
+-- ---- members, over 1 f, 2 ()V, 3 I, 4 g, 5 <x>, 6 f again, 7 a Class
 
 abbrev pool : Pool
 pool = places (Utf8 (codes "f") ∷ Utf8 (codes "()V") ∷ Utf8 (codes "I") ∷ Utf8 (codes "g") ∷ Utf8 (codes "<x>") ∷ Utf8 (codes "f") ∷ Class 1 ∷ [])

@@ -1,4 +1,4 @@
--- What stands behind the pool, read from the front: the value and what is left, or none where the bytes end before.
+-- What follows the pool, read from the front: the value and what is left, or none if the bytes end before.
 -- No public clause cites this.
 use Rattle.std.specs.Prelude.{◌≡◌, ℕ, zero, suc, ◌*◌, ◌==◌, nat_lt, ◌||◌, if◌then◌else◌, Bool, List, [], ◌∷◌, ◌++◌, length, Option, Some, None}
 use Rattle.std.specs.Prelude.{option_map, Result, Ok, Err, ⊤}
@@ -19,7 +19,7 @@ abbrev pub Reads : {X Y : Type 0} → (X → Y) → Result X Broken → Option Y
 Reads view (Ok x) read = read ≡ Some (view x)
 Reads view (Err e) read = Stops e read
 
--- ---- lists behind their count
+-- ---- lists after their count
 
 abbrev pub Reader : Type 0 → Type 0
 Reader X = List ℕ → Option (X × List ℕ)
@@ -60,7 +60,7 @@ member_at bytes = do
   attributes ← counted_at attribute_at descriptor.1
   Some (record { flags = flags.0; name = name.0; descriptor = descriptor.0; attributes = attributes.0 }, attributes.1)
 
--- one part, and another behind it
+-- one part, and another after it
 abbrev pub pair_of : {X Y : Type 0} → Reader X → Reader Y → Reader (X × Y)
 pair_of first second bytes = first bytes >>= λ x. second x.1 >>= λ y. Some ((x.0, y.0), y.1)
 
@@ -86,12 +86,12 @@ body_at bytes = option_map (λ x. (body_of x.0, x.1)) (pair_of numbers_at lists_
 
 -- ---- a Code attribute
 
--- the code, where nothing is left
+-- the code, if nothing is left
 abbrev pub if_filled : List ℕ → List ℕ → Option (List ℕ)
 if_filled code left = if length left == 0 then Some code else None
 
-abbrev pub behind_code : List ℕ × List ℕ → Option (List ℕ)
-behind_code code = do
+abbrev pub after_code : List ℕ × List ℕ → Option (List ℕ)
+after_code code = do
   count ← number_at 2 code.1
   table ← bytes_at (8 * count.0) count.1
   attributes ← counted_at attribute_at table.1
@@ -102,4 +102,4 @@ code_in info = do
   max_stack ← number_at 2 info
   max_locals ← number_at 2 max_stack.1
   len ← number_at 4 max_locals.1
-  if (len.0 == 0) || nat_lt 65535 len.0 then None else (bytes_at len.0 len.1 >>= behind_code)
+  if (len.0 == 0) || nat_lt 65535 len.0 then None else (bytes_at len.0 len.1 >>= after_code)

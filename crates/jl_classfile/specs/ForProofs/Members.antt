@@ -16,7 +16,7 @@ use Rattle.jl_class.specs.Flags.{has_flag, STATIC}
 use Rattle.jl_pool.specs.ForProofs.Forms.{is_field, method_slots}
 pub use Rattle.jl_pool.specs.ForProofs.Forms.{form_of}
 
--- the test, where a text stands there
+-- whether the test holds of the text, if one stands there
 abbrev pub on_text : (List ℕ → Bool) → Option (List ℕ) → Bool
 on_text test text = option_map_or test text true
 
@@ -56,7 +56,7 @@ IsMethodFault pool interface place index twin m (DuplicateMethod i) = (i ≡ ind
 IsMethodFault pool interface place index twin m (TwoCodes i) = (i ≡ index) × (2 ≤ length (codes_of pool m))
 IsMethodFault pool interface place index twin m _ = ⊥
 
--- a method that is an earlier one again
+-- method i has the name and the descriptor of an earlier one
 pub record IsTwin (pool : Pool) (ms : List Member) (i : ℕ) : Type 0 where
   pub earlier : ℕ
   pub before : earlier < i

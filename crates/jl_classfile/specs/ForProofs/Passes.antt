@@ -99,14 +99,14 @@ pub record MethodsShown (p : Pool) (ms : List Member) (methods : List Method) : 
   pub have : HaveCodes p ms codes
   pub shown : methods ≡ shown_methods p ms codes
 
--- the sites of the method's code are added behind those of the methods before it
+-- the sites of the method's code are added after those of the methods before it
 abbrev pub SitesAdded : Pool → Member → List KeptSite → List KeptSite → Type 0
 SitesAdded p m before after = (sites : List Site) × SitesShown p m sites × Adds p before after sites
 
 -- the method is kept, over sites of which these were there before
 pub record MethodAdded (p : Pool) (m : Member) (before after : List KeptSite) (method : KeptMethod) : Type 0 where
   pub made : List KeptSite
-  pub behind : after ≡ before ++ made
+  pub later : after ≡ before ++ made
   pub named : list_all (is_named p) made ≡ true
   pub ranged : is_ranged (length after) method ≡ true
   pub shown : MethodShown p m (method_in p after method)

@@ -16,7 +16,7 @@ abbrev pub or_cut : Option (Instruction × List ℕ) → Result (Instruction × 
 or_cut (Some x) = Ok x
 or_cut None = Err Cut
 
--- what comes of a part that is there
+-- what is made of a part, if it is there
 abbrev pub with_part : {X : Type 0} → Option X → (X → Result (Instruction × List ℕ) Stop) → Result (Instruction × List ℕ) Stop
 with_part (Some x) next = next x
 with_part None next = Err Cut
@@ -37,7 +37,7 @@ by_row None None opcode bytes = Err Opcode
 unfoldable pub fixed_at : ℕ → List ℕ → Result (Instruction × List ℕ) Stop
 fixed_at opcode bytes = by_row (operands_in plain_opcodes opcode) (tail_in invoke_rows opcode) opcode bytes
 
--- ---- behind a wide
+-- ---- after a wide
 
 abbrev pub wide_by_row : Option ℕ → ℕ → List ℕ → Result (Instruction × List ℕ) Stop
 wide_by_row (Some count) opcode bytes = or_cut (bytes_at count bytes >>= λ o. Some (Wide opcode o.0, o.1))
@@ -47,7 +47,7 @@ unfoldable pub wide_at : List ℕ → Result (Instruction × List ℕ) Stop
 wide_at [] = Err Cut
 wide_at (opcode ∷ bytes) = wide_by_row (operands_in wide_opcodes opcode) opcode bytes
 
--- ---- switches, behind their opcode at pc
+-- ---- switches, after their opcode at pc
 
 unfoldable pub padding_at : ℕ → List ℕ → Option (List ℕ × List ℕ)
 padding_at pc bytes = bytes_at (3 - pc % 4) bytes

@@ -18,7 +18,7 @@ use Rattle.jl_pool.specs.ForProofs.Forms.{method_slots}
 abbrev pub may_name_tag : ℕ → ℕ → Bool
 may_name_tag opcode tag = option_map_or (λ row. list_any (λ t. t == tag) row.tags) (invoke_row_in invoke_rows opcode) false
 
--- whether it may have this name, these slots, and these bytes behind the number
+-- whether it may have this name, these slots, and these bytes after the number
 abbrev pub fits : ℕ → List ℕ → List ℕ → ℕ → Bool
 fits opcode tail name slots = may_name opcode name && (nat_le slots (most_slots opcode) && bytes_eq tail (tail_of opcode slots))
 
@@ -29,7 +29,7 @@ signed_fits opcode tail None = false
 abbrev pub names_method : Pool → ℕ → List ℕ → ℕ → ℕ → Bool
 names_method pool opcode tail owner signed = is_some (class_text_at pool owner) && signed_fits opcode tail (signed_at pool signed)
 
--- by what stands at the number
+-- whether an invocation may name what this constant names, with these bytes after the number
 abbrev pub is_invoked_of : Pool → ℕ → List ℕ → Constant → Bool
 is_invoked_of pool opcode tail (Methodref owner signed) = may_name_tag opcode 10 && names_method pool opcode tail owner signed
 is_invoked_of pool opcode tail (InterfaceMethodref owner signed) = may_name_tag opcode 11 && names_method pool opcode tail owner signed

@@ -27,7 +27,7 @@ candidate_at cs name ty c k =
 abbrev pub is_redeclared : Classes → List ℕ → List ℕ → ℕ → ℕ → Bool
 is_redeclared cs name ty c i = list_any (λ other. is_proper_ancestor cs i other.class) (candidates cs name ty c)
 
--- class k is such a subinterface
+-- class k is a subinterface of i that declares another candidate of class c
 abbrev pub redeclares : Classes → List ℕ → List ℕ → ℕ → ℕ → ℕ → Bool
 redeclares cs name ty c i k = is_proper_ancestor cs i k && is_some (candidate_at cs name ty c k)
 

@@ -31,7 +31,7 @@ superclass_faults cs loader file =
     ∷ then_some (list_any (named_test (is_final cs) cs loader) (option_to_list file.superclass)) FinalSuper
     ∷ []
 
--- those of the parents
+-- the faults of the parents
 abbrev pub parent_faults : Classes → ℕ → ClassFile → List (Option DefineFault)
 parent_faults cs loader file =
     option_map MissingParent (find (λ name. is_none (lookup cs loader name)) (parent_names file))
@@ -64,13 +64,13 @@ has_unfit_parent cs loader file =
 abbrev pub named_class : Classes → ℕ → List ℕ → Option Class
 named_class cs loader name = option_and_then (slice_get cs.rows) (lookup cs loader name)
 
--- the first place among the parents, from whether the superclass is such and from the first such place among the superinterfaces
+-- the first place among the parents that passes a test, from whether the superclass does and the first place of a superinterface that does
 abbrev pub first_place : Option Bool → Option ℕ → Option ℕ
 first_place None interface = interface
 first_place (Some true) interface = Some 0
 first_place (Some false) interface = option_map (λ n. n + 1) interface
 
--- what a fault is that tells a parent by its place
+-- the fault that tells by its name the parent that this one tells by its place
 abbrev pub fault_of : ClassFile → FaultAt → Option DefineFault
 fault_of file (at.Plain fault) = Some fault
 fault_of file (at.Missing i) = option_map MissingParent (slice_get (parent_names file) i)

@@ -17,7 +17,7 @@ pub record AreEven (rows : List Class) (above below : List (List ℕ)) : Type 0 
 abbrev pub gaining : NewClass → List ℕ
 gaining new_class = if new_class.is_concrete then new_class.ancestors.items else []
 
--- what a class adds that comes behind these
+-- what a class adds that comes after these
 pub record IsNewClass (cs : Classes) (row : Class) (new_class : NewClass) : Type 0 where
   pub row_is : new_class.row ≡ row
   pub number : new_class.class ≡ length cs.rows

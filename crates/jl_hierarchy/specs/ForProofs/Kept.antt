@@ -26,8 +26,8 @@ lists vectors = map (λ v. v.items) vectors
 abbrev pub AreRecorded : Classes → Type 0
 AreRecorded cs = (c : ℕ) (row : Class) → slice_get cs.rows c ≡ Some row → is_retired cs row.loader ≡ false → lookup cs row.loader row.file.name ≡ Some c
 
--- Of each class its ancestors and its receivers are kept. What loaders have recorded is there, and parents come first, as
--- java/lang/Object does, and may be extended. What is present rests on what is present, and its own loader has recorded it.
+-- The ancestors and the receivers of each class are kept. What loaders have recorded is there. Parents come first and may be
+-- extended. java/lang/Object comes first. What is present rests on what is present, and its own loader has recorded it.
 pub record IsKept (cs : Classes) (above below : List (List ℕ)) : Type 0 where
   pub there : AllByRecursion (AllByRecursion (λ r. r.1 < length cs.rows)) cs.loaders
   pub ordered : AreOrdered cs.rows

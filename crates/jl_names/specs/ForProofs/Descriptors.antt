@@ -1,5 +1,5 @@
--- A field descriptor (JVMS SE 17 §4.3.2) read at the front: the type and what is left, or what is left where
--- it can't go on. Only private clauses cite this.
+-- A field descriptor (JVMS SE 17 §4.3.2) read at the front: the type and what is left, or what is left from the
+-- place on at which it can't go on. Only private clauses cite this.
 use Rattle.std.specs.Prelude.{◌≡◌, Bool, true, ℕ, List, [], ◌∷◌, take, drop, Option, Some, None, Result, Ok, Err}
 use Rattle.std.specs.Prelude.{if◌then◌else◌, ◌==◌, ◌&&◌, ◌||◌, not}
 use Rattle.std.specs.List.{prefix_len}
@@ -16,7 +16,7 @@ abbrev pub Stops : {X Y : Type 0} → (X → Y) → Result X (Bor (List ℕ)) �
 Stops view (Ok x) read = read ≡ Ok (view x)
 Stops view (Err rest) read = read ≡ Err rest.now
 
--- what a byte weighs in a class name: 2 where no name has it, 1 for a slash
+-- what a byte weighs in a class name: 2 if no name has it, 1 for a slash
 abbrev pub weight : ℕ → ℕ
 weight b = if (b == byte ".") || ((b == byte ";") || (b == byte "[")) then 2 else (if b == byte "/" then 1 else 0)
 
@@ -51,14 +51,14 @@ letter b =
     else (if b == byte "Z" then Some Boolean else None)))))))
 
 -- an element whose first byte is this letter's, or else a class
-abbrev pub element_behind : Option Element → ℕ → List ℕ → Result (Element × List ℕ) (List ℕ)
-element_behind (Some e) b bs = Ok (e, bs)
-element_behind None b bs =
+abbrev pub element_after : Option Element → ℕ → List ℕ → Result (Element × List ℕ) (List ℕ)
+element_after (Some e) b bs = Ok (e, bs)
+element_after None b bs =
     if b == byte "L" then (class_at true bs >>= λ x. Ok (Class x.0, x.1)) else Err (b ∷ bs)
 
 unfoldable pub element_at : List ℕ → Result (Element × List ℕ) (List ℕ)
 element_at [] = Err []
-element_at (b ∷ bs) = element_behind (letter b) b bs
+element_at (b ∷ bs) = element_after (letter b) b bs
 
 -- how many brackets stand at the front of the first bytes
 abbrev pub brackets_within : ℕ → List ℕ → ℕ

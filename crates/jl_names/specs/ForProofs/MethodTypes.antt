@@ -12,27 +12,27 @@ use Rattle.jl_names.specs.MethodTypes.{Signature, method_text, slots_of, IsSigna
 use Rattle.jl_names.specs.ForProofs.Steps.{◌>>=◌}
 use Rattle.jl_names.specs.ForProofs.Descriptors.{field_at}
 
--- what comes behind this byte, if it stands at the front
-unfoldable pub behind : ℕ → List ℕ → Option (List ℕ)
-behind wanted [] = None
-behind wanted (b ∷ bs) = if b == wanted then Some bs else None
+-- what comes after this byte, if it stands at the front
+unfoldable pub after_byte : ℕ → List ℕ → Option (List ℕ)
+after_byte wanted [] = None
+after_byte wanted (b ∷ bs) = if b == wanted then Some bs else None
 
 -- these types stand at the front, and this is left
 pub record Stand (text : List ℕ) (types : List FieldType) (left : List ℕ) : Type 0 where
   pub each : AllByRecursion IsFieldType types
   pub bytes : text ≡ flat_map field_text types ++ left
 
--- behind whole parameters no bracket closes, and no further type stands
-pub record StopsBehind (text left : List ℕ) : Type 0 where
+-- after whole parameters no bracket closes, and no further type stands
+pub record StopsAfter (text left : List ℕ) : Type 0 where
   pub types : List FieldType
   pub middle : List ℕ
   pub stand : Stand text types middle
-  pub goes_on : behind (byte ")") middle ≡ None
+  pub goes_on : after_byte (byte ")") middle ≡ None
   pub stops : field_at middle ≡ Err left
 
 -- why no closed list of parameters stands at the front
 abbrev pub IsBroken : List ℕ → Broken → Type 0
-IsBroken text (At left) = StopsBehind text left.now
+IsBroken text (At left) = StopsAfter text left.now
 IsBroken text Memory = ⊤
 
 -- a result's type, none for void

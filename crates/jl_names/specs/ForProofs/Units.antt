@@ -11,7 +11,7 @@ abbrev pub Gives : Result (ℕ × Bor (List ℕ)) Broken → Result (ℕ × List
 Gives (Ok x) read = read ≡ Ok (x.0, x.1.now)
 Gives (Err e) read = read ≡ Err e
 
--- no byte behind a unit's first one
+-- no byte that may follow a unit's first one
 abbrev pub not_later : ℕ → Bool
 not_later b = nat_lt b 0x80 || nat_lt 0xbf b
 

@@ -12,7 +12,7 @@ abbrev pub standing : {T : Type 0} → Option (Option T) → Option T
 standing None = None
 standing (Some slot) = slot
 
--- how many values stand there
+-- how many values stand in a slot: one or none
 abbrev pub one : {T : Type 0} → Option T → ℕ
 one None = 0
 one (Some value) = 1

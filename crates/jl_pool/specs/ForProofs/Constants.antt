@@ -29,7 +29,7 @@ is_bad_tag last t = not (is_known t) || (last && is_wide t)
 abbrev pub within : {X : Type 0} → (X → Constant) → Option (X × List ℕ) → Option (Constant × List ℕ)
 within make read = read >>= λ x. Some (make x.0, x.1)
 
--- ---- the constant of a tag, by the shape of what stands behind it
+-- ---- the constant of a tag, by the shape of what follows it
 
 -- four bytes
 abbrev pub of_bits : ℕ → ℕ → Constant
@@ -70,7 +70,7 @@ abbrev pub or_cut : Option (Constant × List ℕ) → Result (Constant × List �
 or_cut (Some x) = Ok x
 or_cut None = Err Cut
 
--- the tag is looked at before the bytes behind it
+-- the tag is looked at before the bytes after it
 unfoldable pub constant_at : Bool → List ℕ → Result (Constant × List ℕ) Stop
 constant_at last [] = Err Cut
 constant_at last (t ∷ bytes) = if is_bad_tag last t then Err Tag else or_cut (payload_at t bytes)

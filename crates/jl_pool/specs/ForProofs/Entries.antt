@@ -22,10 +22,10 @@ IsLinkFault p f = (i : ℕ) × (f ≡ BadIndex i) × IsFirstNot (λ c. IsTrue (i
 abbrev pub IsTypeFault : Pool → PoolFault → Type 0
 IsTypeFault p f = (i : ℕ) × (f ≡ BadDescriptor i) × IsFirstNot (IsTyped p) p i
 
--- each number is good where a descriptor is bad
+-- each number is good if a descriptor is bad
 abbrev pub IsNameFault : Pool → PoolFault → Type 0
 IsNameFault p f = IsLinkFault p f ⊎ (AllAt (λ c. IsTrue (is_linked p c)) p × IsTypeFault p f)
 
--- and each text is good where either is
+-- and each text is good if a number or a descriptor is bad
 abbrev pub IsCheckFault : Pool → PoolFault → Type 0
 IsCheckFault p f = IsTextFault p f ⊎ (AllAt HasText p × IsNameFault p f)

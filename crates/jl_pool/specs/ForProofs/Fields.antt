@@ -1,4 +1,4 @@
--- Numbers and texts at the front of bytes, and what is left; none where the bytes end before.
+-- Numbers and texts at the front of bytes, and what is left; none if the bytes end before.
 use Rattle.std.specs.Prelude.{◌≡◌, ℕ, nat_lt, if◌then◌else◌, List, length, take, drop, Option, Some, None}
 use Rattle.std.specs.Option.{option_and_then}
 use Rattle.byteorder.specs.Endian.{big_number}

@@ -7,7 +7,7 @@ use Rattle.jl_names.specs.declared.descriptor.FieldType.{FieldType}
 use Rattle.jl_names.specs.ClassNames.{is_class_name, is_unqualified}
 use Rattle.jl_names.specs.MethodTypes.{slots_of}
 use Rattle.jl_names.specs.ForProofs.Descriptors.{field_at}
-use Rattle.jl_names.specs.ForProofs.MethodTypes.{behind, return_at}
+use Rattle.jl_names.specs.ForProofs.MethodTypes.{after_byte, return_at}
 use Rattle.jl_pool.specs.declared.constant.Constant.{Constant}
 use Rattle.jl_pool.specs.declared.constant.Constant.TheVariants.{Class, Fieldref, Methodref, InterfaceMethodref, NameAndType, MethodType, Dynamic}
 use Rattle.jl_pool.specs.declared.constant.Constant.TheVariants.{InvokeDynamic}
@@ -33,17 +33,17 @@ at_type next n (Err left) = None
 -- the slots of types up to the bracket that closes them, n before them, and what comes after it; the first list counts turns
 unfoldable pub slots_from : List ℕ → ℕ → List ℕ → Option (ℕ × List ℕ)
 slots_from [] n text = None
-slots_from (turn ∷ turns) n text = at_close n (behind (byte ")") text) (at_type (slots_from turns) n (field_at text))
+slots_from (turn ∷ turns) n text = at_close n (after_byte (byte ")") text) (at_type (slots_from turns) n (field_at text))
 
 abbrev pub if_whole : {X : Type 0} → ℕ → Result (X × List ℕ) (List ℕ) → Option ℕ
 if_whole n read = if is_whole read then Some n else None
 
-abbrev pub slots_behind : List ℕ → Option ℕ
-slots_behind inner = option_and_then (λ x. if_whole x.0 (return_at x.1)) (slots_from (0 ∷ inner) 0 inner)
+abbrev pub slots_after : List ℕ → Option ℕ
+slots_after inner = option_and_then (λ x. if_whole x.0 (return_at x.1)) (slots_from (0 ∷ inner) 0 inner)
 
 -- the slots of a method descriptor's parameters, 255 at most
 unfoldable pub method_slots : List ℕ → Option ℕ
-method_slots text = option_and_then slots_behind (behind (byte "(") text)
+method_slots text = option_and_then slots_after (after_byte (byte "(") text)
 
 unfoldable pub form_of : List ℕ → Form
 form_of text = record {

@@ -92,7 +92,7 @@ Shows (kept.Package name) there = there ≡ Some (Package name)
 
 -- ---- the entry of a constant that begins at a place
 
--- a text's bytes begin behind its tag and its count
+-- a text's bytes begin after its tag and its count
 abbrev pub text_entry : List ℕ → ℕ → KeptConstant
 text_entry text at = kept.Utf8 at (length text) (form_of text)
 

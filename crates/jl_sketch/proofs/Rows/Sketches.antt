@@ -2,7 +2,7 @@
 use Rattle.std.proofs.Common.{◌≡◌, ℕ, List, [], ◌∷◌, ◌++◌, true, false, Some, None, refl}
 use Rattle.std.specs.Prelude.{codes}
 use Rattle.jl_names.specs.ForProofs.Descriptors.{field_at, element_at, class_at}
-use Rattle.jl_names.specs.ForProofs.MethodTypes.{behind, return_at}
+use Rattle.jl_names.specs.ForProofs.MethodTypes.{after_byte, return_at}
 use Rattle.jl_pool.specs.ForProofs.Forms.{method_slots, slots_from}
 use Rattle.jl_pool.specs.declared.constant.Constant.TheVariants.{Utf8, Class, NameAndType, Methodref, InterfaceMethodref, InvokeDynamic}
 use Rattle.jl_code.specs.declared.instruction.Instruction.TheVariants.{Plain, Invoke}
@@ -102,7 +102,7 @@ all_constants = refl
 
 all_instructions : instructions (sketch_constants all_calls) every_call
     ≡ Invoke 182 7 [] ∷ Invoke 183 8 [] ∷ Invoke 184 7 [] ∷ Invoke 185 11 (4 ∷ 0 ∷ []) ∷ Invoke 186 12 (0 ∷ 0 ∷ []) ∷ Plain 177 [] ∷ []
-unfolding enter number method_slots slots_from behind field_at element_at class_at return_at
+unfolding enter number method_slots slots_from after_byte field_at element_at class_at return_at
 all_instructions = refl
 
 -- a code of 20 bytes, and two members
@@ -128,7 +128,7 @@ all_lie : (sketch_layout all_calls).body ≡ record {
       ∷ [];
   attributes = record { name = 13; info = 0 ∷ 2 ∷ 0 ∷ 2 ∷ 0 ∷ 15 ∷ [] } ∷ [];
 }
-unfolding enter number method_slots slots_from behind field_at element_at class_at return_at
+unfolding enter number method_slots slots_from after_byte field_at element_at class_at return_at
 all_lie = refl
 
 -- ---- every part: what has no code has no Code attribute, and a host and a member stand side by side
@@ -173,15 +173,15 @@ native_lies = refl
 -- ---- the count of invokeinterface
 
 counts_slots : count_byte (codes "(J[DLA;IZ)D") ≡ 7
-unfolding method_slots slots_from behind field_at element_at class_at return_at
+unfolding method_slots slots_from after_byte field_at element_at class_at return_at
 counts_slots = refl
 
 counts_none : count_byte (codes "()J") ≡ 1
-unfolding method_slots slots_from behind field_at element_at class_at return_at
+unfolding method_slots slots_from after_byte field_at element_at class_at return_at
 counts_none = refl
 
 counts_no_method : count_byte (codes "(I") ≡ 0
-unfolding method_slots slots_from behind field_at element_at class_at return_at
+unfolding method_slots slots_from after_byte field_at element_at class_at return_at
 counts_no_method = refl
 
 -- with the receiver 255 are the most

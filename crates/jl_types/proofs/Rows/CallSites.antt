@@ -126,7 +126,7 @@ deepest = refl
 too_deep : verdict (fixed 65536) (world_after begun) (NewCallSite Mutable (codes "()V") (deep 64)) ≡ Err (refusal.CallSite fault.TooDeep)
 too_deep = refl
 
--- the same, one in the other's fallback
+-- guards within guards, each in the other's fallback
 abbrev deep_fallback : ℕ → Target
 deep_fallback zero = target.Method m
 deep_fallback (suc k) = target.Guard 0 (target.Method n) (deep_fallback k)

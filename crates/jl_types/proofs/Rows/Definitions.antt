@@ -128,7 +128,7 @@ too_many_classes : (more : List Class) → length (with_more more).classes.rows 
     → verdict (fixed 65536) (with_more more) (defines 0 (codes "X") 33 object []) ≡ Err (refusal.Define Full)
 too_many_classes more e = rw e refl
 
--- where a linker may have more, and where it may have fewer
+-- if a linker may have more, and if it may have fewer
 abbrev at_most : ℕ → Limits
 at_most most = record (fixed 65536) { classes = most }
 

@@ -140,7 +140,7 @@ untaken = refl
 each_once : keys (world_after (guarded two_ways ++ Invalidate (1 ∷ []) ∷ [])) (Invalidate (1 ∷ 0 ∷ 0 ∷ [])) ≡ Valid 0 ∷ []
 each_once = refl
 
--- a link may come to rest on more: a point on the fallback
+-- a link may rest on more afterwards: a point on the fallback
 abbrev late_point : Target
 late_point = target.Guard 0 (of m) (target.Guard 1 (of m) (of n))
 

@@ -103,7 +103,8 @@ table_after = refl
 
 -- ---- definitions that are refused
 
-no_parent : verdict (fixed 65536) nothing_yet (below (codes "java/lang/Object") (codes "A") 33 []) ≡ Err (refusal.Define (MissingParent (codes "java/lang/Object")))
+no_parent : verdict (fixed 65536) nothing_yet (below (codes "java/lang/Object") (codes "A") 33 [])
+    ≡ Err (refusal.Define (MissingParent (codes "java/lang/Object")))
 no_parent = refl
 
 twice : verdict (fixed 65536) (world_after before) (below (codes "java/lang/Object") (codes "A") 33 []) ≡ Err (refusal.Define AlreadyRecorded)
@@ -120,7 +121,7 @@ repeated = refl
 unknown : verdict (fixed 65536) (world_after linked) (Install ((0, Direct (Run (first 1))) ∷ (1, Mega) ∷ [])) ≡ Err (refusal.UnknownSite 1)
 unknown = refl
 
--- a place that is requested already keeps its number, where no other may be requested
+-- a place that is requested already keeps its number, even if no other may be requested
 again : verdict (fixed 1) (world_after before) (Request (record { class = 3; method = 0; pc = 0 })) ≡ Ok (made.Site 0)
 again = refl
 

@@ -68,7 +68,7 @@ of_itself = refl
 constant_before_its_target : verdict (fixed 65536) (world_after linked) (SetTarget 1 (Invoker 9)) ≡ Err (CallSite KeepsIts)
 constant_before_its_target = refl
 
--- ---- an invoker behind a guard
+-- ---- an invoker as a part of a guard
 
 -- call site 1 is a guard on point 0 of what 0 runs and of m
 abbrev guarded : List Event
@@ -199,7 +199,8 @@ many_parts = refl
 size_before_order : answers (SetTarget 0 (Guard 0 (tree 7) (Of m))) ≡ Err (CallSite TooDeep)
 size_before_order = refl
 
-of_a_deep_one : verdict (fixed 65536) (world_after (begun ++ site Mutable (deep 63 (Of m)) ∷ [])) (site Mutable (Guard 0 (Invoker 0) (Of m))) ≡ Ok (made.CallSite 1)
+of_a_deep_one : verdict (fixed 65536) (world_after (begun ++ site Mutable (deep 63 (Of m)) ∷ [])) (site Mutable (Guard 0 (Invoker 0) (Of m)))
+    ≡ Ok (made.CallSite 1)
 of_a_deep_one = refl
 
 -- ---- what no event leaves: an invoker of no earlier call site stands for nothing, and ends the way

@@ -144,7 +144,7 @@ first_of_two = refl
 first_in_the_batch : prepare_fault two_waiting (1 ∷ 0 ∷ []) ≡ Some (prepare.NotReady 1)
 first_in_the_batch = refl
 
--- a site is ready where it has a link, be it a fault
+-- a site is ready if it has a link, which may be a fault
 ready : prepare_fault (called 33 9 Static class_ref) (0 ∷ []) ≡ None
 ready = refl
 

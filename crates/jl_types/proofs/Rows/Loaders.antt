@@ -79,13 +79,15 @@ delegated_to_itself = refl
 abbrev closed : List Event
 closed = shared ++ defines 0 (codes "p/A") 32 (Some object) ∷ Delegate 1 (codes "p/A") 0 ∷ []
 
-other_package : verdict (fixed 65536) (world_after closed) (defines 0 (codes "q/B") 33 (Some (codes "p/A"))) ≡ Err (refusal.Define (InaccessibleParent (codes "p/A")))
+other_package : verdict (fixed 65536) (world_after closed) (defines 0 (codes "q/B") 33 (Some (codes "p/A")))
+    ≡ Err (refusal.Define (InaccessibleParent (codes "p/A")))
 other_package = refl
 
 same_package : verdict (fixed 65536) (world_after closed) (defines 0 (codes "p/B") 33 (Some (codes "p/A"))) ≡ Ok (made.Class 2)
 same_package = refl
 
-other_loader : verdict (fixed 65536) (world_after closed) (defines 1 (codes "p/B") 33 (Some (codes "p/A"))) ≡ Err (refusal.Define (InaccessibleParent (codes "p/A")))
+other_loader : verdict (fixed 65536) (world_after closed) (defines 1 (codes "p/B") 33 (Some (codes "p/A")))
+    ≡ Err (refusal.Define (InaccessibleParent (codes "p/A")))
 other_loader = refl
 
 -- ---- a loader's own parents

@@ -32,7 +32,7 @@ use Rattle.jl_types.proofs.Rows.CallSites.{begun, m, n}
 
 -- ---- two sites of call sites that invoke one another
 
--- site 0 is bound to call site 1, which invokes call site 0 where point 0 is invalid; call site 2 stands alone; point 1 is free
+-- site 0 is bound to call site 1, which invokes call site 0 if point 0 is invalid; call site 2 stands alone; point 1 is free
 abbrev tied : List Event
 tied = begun
     ++ NewSwitch
@@ -58,7 +58,7 @@ unknown_call_site = refl
 unknown_point : told [] (Release (0 ∷ []) (1 ∷ 2 ∷ 3 ∷ [])) ≡ Err (refusal.Release (release.UnknownSwitch 2))
 unknown_point = refl
 
--- be it on a side that isn't taken
+-- even if only on a side that isn't taken
 invoked : told [] (Release (2 ∷ 0 ∷ []) []) ≡ Err (refusal.Release (release.Invoked 1))
 invoked = refl
 
@@ -74,7 +74,8 @@ guarded_on_the_other_side : told (SetTarget 2 (Guard 1 (target.Method m) (Guard 
 guarded_on_the_other_side = refl
 
 -- on the side that is taken
-invoked_on_the_first_side : told (SetTarget 2 (Guard 1 (Invoker 0) (target.Method n)) ∷ []) (Release (0 ∷ 1 ∷ []) []) ≡ Err (refusal.Release (release.Invoked 2))
+invoked_on_the_first_side : told (SetTarget 2 (Guard 1 (Invoker 0) (target.Method n)) ∷ []) (Release (0 ∷ 1 ∷ []) [])
+    ≡ Err (refusal.Release (release.Invoked 2))
 invoked_on_the_first_side = refl
 
 guarded_on_the_first_side : told (SetTarget 2 (Guard 1 (Guard 0 (target.Method m) (target.Method n)) (target.Method n)) ∷ [])

@@ -29,7 +29,7 @@ one_body = refl
 two_bodies : resolved (with_flags 1 1) 4 (class_ref (codes "X") (codes "f")) ≡ Ok (naming 3 (first 1))
 two_bodies = refl
 
--- the same of an interface
+-- of an interface: the only one with a body
 one_body_of_interface : resolved (with_flags 1025 1) 4 (itf_ref (codes "K") (codes "f")) ≡ Ok (naming 5 (first 2))
 one_body_of_interface = refl
 

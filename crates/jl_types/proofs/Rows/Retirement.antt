@@ -143,7 +143,8 @@ no_delegation_to = refl
 no_request : verdict (fixed 65536) (world_after after) (Request (record { class = 4; method = 0; pc = 0 })) ≡ Err refusal.UnknownClass
 no_request = refl
 
-no_target : verdict (fixed 65536) (world_after after) (NewCallSite Mutable (codes "()V") (target.Method (first 4))) ≡ Err (refusal.CallSite call_site.UnknownMethod)
+no_target : verdict (fixed 65536) (world_after after) (NewCallSite Mutable (codes "()V") (target.Method (first 4)))
+    ≡ Err (refusal.CallSite call_site.UnknownMethod)
 no_target = refl
 
 numbers_count : verdict (fixed 65536) (world_after after) NewLoader ≡ Ok (made.Loader 2)
@@ -285,7 +286,8 @@ is_targeted : verdict (fixed 65536) (world_after targeting) (Retire 1) ≡ Err (
 is_targeted = refl
 
 -- a class that inherits comes before the loader that records, and that before the target
-recorded_before_targeted : verdict (fixed 65536) (world_after (targeting ++ NewLoader ∷ Delegate 2 (codes "C") 1 ∷ [])) (Retire 1) ≡ Err (refusal.Retire (Recorded 2))
+recorded_before_targeted : verdict (fixed 65536) (world_after (targeting ++ NewLoader ∷ Delegate 2 (codes "C") 1 ∷ [])) (Retire 1)
+    ≡ Err (refusal.Retire (Recorded 2))
 recorded_before_targeted = refl
 
 -- ---- several at once

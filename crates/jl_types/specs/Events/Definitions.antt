@@ -52,7 +52,8 @@ is_open_to cs made c = class_test (λ row. has_flag row.file.flags PUBLIC || sha
 abbrev pub is_open_parent : Classes → ℕ → ClassFile → List ℕ → Bool
 is_open_parent cs loader file name = named_test (is_open_to cs (class_made cs loader file)) cs loader name
 
--- the first fault, where there are at most so many classes; of one kind, the superclass's comes first, and then those of the superinterfaces in order
+-- The first fault of a definition, with this limit of classes. Of one kind, the superclass's comes first, and then those of the
+-- superinterfaces in order.
 abbrev pub define_fault : ℕ → Classes → ℕ → ClassFile → Option DefineFault
 define_fault most_classes cs loader file = first_of (
     then_some (is_unknown cs loader) define.UnknownLoader

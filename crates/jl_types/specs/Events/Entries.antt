@@ -8,7 +8,7 @@ use Rattle.jl_types.specs.declared.event.EventOf.TheVariants as event
 use Rattle.jl_types.specs.declared.event.Reply.{Reply}
 use Rattle.jl_types.specs.Events.History.{world_after, installed, site_numbers, has_link, reply}
 
--- an accepted event, what it is answered, and each site that it changes with its new link or none
+-- an accepted event, the answer to it, and each site that it changes, with its new link or none
 pub record Entry : Type 0 where
   pub event : Event
   pub reply : Reply
@@ -24,11 +24,11 @@ same_slot None None = true
 same_slot None (Some l) = false
 same_slot (Some l) after = has_link after l
 
--- what stands in a slot afterwards, where that differs
+-- what stands in a slot afterwards, if that differs
 abbrev pub change : Option Link → Option Link → Option (Option Link)
 change before after = if same_slot before after then None else Some after
 
--- the sites where the event e changes after h what is installed, rising, each with its new link or none
+-- the sites at which the event e, after h, changes what is installed; rising, each with its new link or none
 abbrev pub slots_changed : List Event → Event → List (ℕ × Option Link)
 slots_changed h e =
     filter_map (λ s. option_map (λ slot. (s, slot)) (change (installed h s) (installed (h ++ e ∷ []) s))) (site_numbers (h ++ e ∷ []))

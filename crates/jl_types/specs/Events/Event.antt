@@ -1,5 +1,5 @@
--- What changes the classes, sites and links: a definition carries the file of the class (JVMS SE 17 §5.3.5), an install the
--- sites with the links that they are to have.
+-- What changes the classes, sites and links. A definition carries the file of the class (JVMS SE 17 §5.3.5). An install carries
+-- the sites with the links that they are to have.
 use Rattle.std.specs.Prelude.{ℕ, List}
 use Rattle.jl_class.specs.Class.{ClassFile}
 use Rattle.jl_types.specs.declared.event.EventOf.{EventOf}

@@ -45,7 +45,7 @@ abbrev pub is_newer : ℕ → Recv → Bool
 is_newer n Null = false
 is_newer n (Of x) = nat_le n x
 
--- a miss too where the receiver's class is newer than the classes that the caller knows of
+-- the link's answer; a miss if there is no link, or if the link looks at a receiver whose class the caller doesn't know of
 abbrev pub fast_answer : Option Link → ℕ → Recv → Fast
 fast_answer None n recv = Miss
 fast_answer (Some link) n recv = if looks_at_receiver link && is_newer n recv then Miss else link_answer link recv

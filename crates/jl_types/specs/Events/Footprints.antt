@@ -1,5 +1,5 @@
--- What a site's link from scratch rests on that an event may change (selective recompilation: Chambers, Dean and Grove 1995), which of that
--- an event changes, and how many evaluations an event may take.
+-- What a site's link from scratch rests on that an event may change (selective recompilation: Chambers, Dean and Grove 1995). Which of
+-- that an event changes. How many evaluations an event may take.
 use Rattle.std.specs.Prelude.{ℕ, zero, suc, ◌+◌, Bool, true, false, ◌&&◌, ◌==◌, List, [], ◌∷◌, ◌++◌, map, filter, filter_map, sum_by, length}
 use Rattle.std.specs.Prelude.{slice_get, Option, Some, None, is_some, if◌then◌else◌, not}
 use Rattle.std.specs.List.{list_any, range_with_len}
@@ -47,7 +47,7 @@ meets footprint keys = list_any (has_key keys) footprint
 
 -- ---- what a link rests on
 
--- the receivers of the class that it names, where an invocation looks at them
+-- the receivers of the class that the reference names, if the invocation looks at them
 abbrev pub of_selector : Classes → ResolvedCall → Selector → List Key
 of_selector cs i ByVirtual = if is_private cs i.method then [] else key.Receivers i.named ∷ []
 of_selector cs i ByInterface = key.Receivers i.named ∷ []
@@ -59,21 +59,21 @@ of_stage cs (Fails throwable) = []
 of_stage cs (Calls m) = []
 of_stage cs (Selects i) = of_selector cs i i.selector
 
--- the call sites and the valid points that an evaluation of the target comes by, in order, where that of a call site comes by these
+-- the call sites and the valid points that an evaluation of the target passes, in order; `ways` has those of each call site
 abbrev pub way_by : Sites → (ℕ → List Key) → Target → List Key
 way_by sites ways (Method m) = []
 way_by sites ways (Guard p first fallback) =
     if is_valid sites p then key.Valid p ∷ way_by sites ways first else way_by sites ways fallback
 way_by sites ways (Invoker c) = ways c
 
--- what an evaluation of call site c comes by, if it is one of the first n: itself, and what its target does over those before it
+-- what an evaluation of call site c passes, if it is one of the first n: itself, and what its target passes over those before it
 abbrev pub way_below : Sites → ℕ → ℕ → List Key
 way_below sites zero c = []
 way_below sites (suc n) c =
     if n == c then key.Target c ∷ option_map_or (λ site. way_by sites (way_below sites n) site.target) (unreleased sites.call_sites c) []
     else way_below sites n c
 
--- what an evaluation of call site c comes by, in order: call sites and valid points
+-- what an evaluation of call site c passes, in order: call sites and valid points
 abbrev pub path : Sites → ℕ → List Key
 path sites c =
     key.Target c ∷ option_map_or (λ site. way_by sites (way_below sites c) site.target) (unreleased sites.call_sites c) []
@@ -120,7 +120,7 @@ footprint w s = of_place w s (slice_get w.places s)
 
 -- ---- what an event changes
 
--- the receivers of the ancestors of the class c, where objects may be of it
+-- the receivers of the ancestors of the class c, if objects may be of c
 abbrev pub of_class : Classes → ℕ → List Key
 of_class cs c = if is_concrete cs c then map key.Receivers (ancestors cs.rows c) else []
 
@@ -143,7 +143,7 @@ touches w e s = meets (footprint w s) (keys w e)
 
 -- ---- how many evaluations an event may take
 
--- one for each receiver that the link looks at, and one where it looks at none
+-- one for each receiver that the link looks at, or one if it looks at none
 abbrev pub most_by : Classes → List Key → ℕ
 most_by cs [] = 1
 most_by cs (key.Receivers c ∷ keys) = length (receivers cs c)
@@ -167,7 +167,7 @@ retires w _ s = false
 abbrev pub left_touched : List Event → Event → List ℕ
 left_touched h e = filter (λ s. not (retires (world_after h) e s)) (touched h e)
 
--- by the receivers that the event leaves
+-- how many evaluations these sites may take, by the receivers that the event leaves
 abbrev pub most_left : List Event → Event → ℕ
 most_left h e = sum_by (most_for (step (world_after h) e)) (left_touched h e)
 
@@ -181,7 +181,7 @@ bound h e = length (touched h e)
 
 -- ---- one receiver more
 
--- the link stays once there is one receiver more, which comes to this: where each runs one same method, or there were too many
+-- the link stays if one receiver with this outcome is added: all run one method, or there were too many before
 abbrev pub stays_with : Link → Outcome → Bool
 stays_with (Direct (Run m)) o = runs m o
 stays_with (Direct (Throws throwable)) o = false

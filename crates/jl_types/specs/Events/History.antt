@@ -37,7 +37,7 @@ pub record Settled (h : List Event) (s : ℕ) (l : Link) : Type 0 where
   pub installed : installed_at h since s ≡ true
   pub stayed : (n : ℕ) → since < n → n ≤ length h → scratch_after h n s ≡ Ok l
 
--- ---- the same as a test, over every place of the list
+-- ---- whether a site is settled, as a test over every place of the list
 
 abbrev pub is_link : Result Link Unlinked → Link → Bool
 is_link (Ok now) l = same_link now l
@@ -64,7 +64,7 @@ abbrev pub installed_of : List Event → ℕ → Result Link Unlinked → Option
 installed_of h s (Ok l) = if settled h s l then Some l else None
 installed_of h s (Err reason) = None
 
--- the site's installed link: its link from scratch now, where it is settled with that
+-- the site's installed link: its link from scratch now, if it is settled with that
 abbrev pub installed : List Event → ℕ → Option Link
 installed h s = installed_of h s (scratch (world_after h) s)
 
@@ -84,7 +84,7 @@ replied dropped (Err refusal) = Err refusal
 abbrev pub dropped : List Event → Event → List ℕ
 dropped h e = filter (λ s. is_some (installed h s) && is_none (installed (h ++ e ∷ []) s)) (site_numbers h)
 
--- what the event is answered after h: the first refusal, or what it gives a number to and what it drops
+-- the answer to the event after h: the first refusal, or what it gives a number to and what it drops
 abbrev pub reply : Limits → List Event → Event → Result Reply Refusal
 reply limits h e = replied (dropped h e) (verdict limits (world_after h) e)
 
@@ -94,7 +94,7 @@ abbrev pub has_link : Option Link → Link → Bool
 has_link None l = false
 has_link (Some m) l = same_link m l
 
--- by whether the event installs the site, its link before, and its link from scratch afterwards
+-- the link that one event more leaves, by whether the event installs the site, its link before, and its link from scratch afterwards
 abbrev pub kept : Bool → Option Link → Result Link Unlinked → Option Link
 kept installs_it before (Err reason) = None
 kept installs_it before (Ok l) = if installs_it || has_link before l then Some l else None

@@ -24,7 +24,7 @@ pub record IsWithin (limits : Limits) (w : World) : Type 0 where
   pub call_sites : length w.sites.call_sites ≤ limits.call_sites
   pub switches : length w.sites.switches ≤ limits.switches
 
--- none of these is less than the other limits have
+-- none of the new limits is less than the old one of its kind
 pub record AreNoFewer (old new : Limits) : Type 0 where
   pub sites : old.sites ≤ new.sites
   pub loaders : old.loaders ≤ new.loaders

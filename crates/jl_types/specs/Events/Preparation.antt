@@ -1,4 +1,4 @@
--- What a preparation is answered: links for some sites, looked up apart from the events and installed later.
+-- The answer to a preparation: links for some sites, which are looked up apart from the events and installed later.
 use Rattle.std.specs.Prelude.{◌≡◌, ℕ, List, [], ◌∷◌, map, length, Option, Some, None, option_map, Result, Ok, Err}
 use Rattle.std.specs.List.{AllZip}
 use Rattle.std.specs.Bool.{then_some}

@@ -1,4 +1,4 @@
--- The release of call sites and switch points (java.lang.invoke: CallSite, SwitchPoint) which no call site that stays needs.
+-- The release of call sites and switch points (java.lang.invoke: CallSite, SwitchPoint). No call site that stays may need them.
 use Rattle.std.specs.Prelude.{ℕ, Bool, false, not, ◌&&◌, ◌||◌, List, [], ◌∷◌, find, fold, length, slice_set, Option, None, option_map}
 use Rattle.std.specs.List.{range_with_len}
 use Rattle.jl_types.specs.declared.refusal.ReleaseFault.{ReleaseFault}
@@ -8,26 +8,26 @@ use Rattle.jl_types.specs.Values.World.{Sites, unreleased, is_missing}
 use Rattle.jl_types.specs.Linkage.Resolution.{first_of}
 use Rattle.jl_types.specs.Events.Retirement.{is_listed, has_target}
 
--- ---- why they aren't let go, where all of these go at once
+-- ---- why they aren't released, if all of these go at once
 
--- the target invokes one of these call sites, be it on a side that isn't taken
+-- the target invokes one of these call sites, even if only on a side that isn't taken
 abbrev pub invokes_one : List ℕ → Target → Bool
 invokes_one call_sites (Method m) = false
 invokes_one call_sites (Guard p first fallback) = invokes_one call_sites first || invokes_one call_sites fallback
 invokes_one call_sites (Invoker c) = is_listed call_sites c
 
--- the target guards by one of these switch points, be it on a side that isn't taken
+-- the target guards by one of these switch points, even if only on a side that isn't taken
 abbrev pub guards_by_one : List ℕ → Target → Bool
 guards_by_one points (Method m) = false
 guards_by_one points (Guard p first fallback) =
     is_listed points p || (guards_by_one points first || guards_by_one points fallback)
 guards_by_one points (Invoker c) = false
 
--- call site c isn't among those that go, and its target is such a one
+-- call site c isn't among those that go, and the test holds of its target
 abbrev pub stays_with : Sites → List ℕ → (Target → Bool) → ℕ → Bool
 stays_with sites going test c = not (is_listed going c) && has_target test (unreleased sites.call_sites c)
 
--- the least call site that stays with such a target
+-- the least call site that stays and whose target passes the test
 abbrev pub first_with : Sites → List ℕ → (Target → Bool) → Option ℕ
 first_with sites going test = find (stays_with sites going test) (range_with_len 0 (length sites.call_sites))
 

@@ -26,23 +26,23 @@ is_of cs loader c = class_test (λ row. row.loader == loader) cs c
 abbrev pub is_of_any : Classes → List ℕ → ℕ → Bool
 is_of_any cs loaders c = class_test (λ row. is_listed loaders row.loader) cs c
 
--- ---- why a loader isn't retired, where all of these go at once
+-- ---- why a loader isn't retired, if all of these go at once
 
--- x is a present class of a loader that stays, and has an ancestor of this one
+-- x is a present class of a loader that stays, and has an ancestor in this loader
 abbrev pub inherits_from : Classes → List ℕ → ℕ → ℕ → Bool
 inherits_from cs loaders loader x =
     is_present cs x && (not (is_of_any cs loaders x) && list_any (is_of cs loader) (ancestors cs.rows x))
 
--- k is a loader that stays, and records a class of this one; a retired one records none
+-- k is a loader that stays, and records a class of this loader; a retired loader records none
 abbrev pub records_from : Classes → List ℕ → ℕ → ℕ → Bool
 records_from cs loaders loader k =
     not (is_listed loaders k) && option_map_or (list_any (λ r. is_of cs loader r.1)) (slice_get cs.loaders k) false
 
--- the call site isn't released, and its target is such a one
+-- the call site isn't released, and the test holds of its target
 abbrev pub has_target : (Target → Bool) → Option CallSite → Bool
 has_target test row = option_map_or (λ site. test site.target) row false
 
--- the target names a method of a class of the loader, be it on a side that isn't taken
+-- the target names a method of a class of the loader, even if only on a side that isn't taken
 abbrev pub names_from : Classes → ℕ → Target → Bool
 names_from cs loader (Method m) = is_of cs loader m.class
 names_from cs loader (Guard p first fallback) = names_from cs loader first || names_from cs loader fallback
@@ -57,11 +57,11 @@ classes_fault cs loaders loader = first_of (
     ∷ option_map Recorded (find (records_from cs loaders loader) (range_with_len 0 (length cs.loaders)))
     ∷ [])
 
--- the least call site with such a target
+-- the least call site whose target names a method of a class of the loader
 abbrev pub targeted : Classes → List (Option CallSite) → ℕ → Option ℕ
 targeted cs call_sites loader = position (has_target (names_from cs loader)) call_sites
 
--- the first fault
+-- the first fault of a retirement: the classes come before the targets
 abbrev pub retire_fault : World → List ℕ → ℕ → Option RetireFault
 retire_fault w loaders loader = first_of (
     classes_fault w.classes loaders loader

@@ -1,4 +1,4 @@
--- What an event is answered, and the world after it.
+-- The answer to an event, and the world after it.
 use Rattle.std.specs.Prelude.{◌≡◌, ◌≢◌, ◌<◌, ◌≤◌, All, AllPairs, ℕ, Bool, true, false, not, ◌&&◌, ◌||◌, ◌==◌, nat_le, List, [], ◌∷◌, ◌++◌, map}
 use Rattle.std.specs.Prelude.{position, length, slice_get, slice_set, fold, Option, Some, None, Result, Ok, Err, option_map, codes, if◌then◌else◌}
 use Rattle.std.specs.Option.{option_map_or}
@@ -54,7 +54,7 @@ abbrev pub names_array : Operand (List ℕ) → Bool
 names_array (operand.Method ref) = starts_with ◌==◌ ref.owner (codes "[")
 names_array (operand.CallSite specifier) = false
 
--- names a method of one of the classes whose methods any descriptor fits (JVMS 2.9.3)
+-- it names a method of one of the classes whose methods any descriptor fits (JVMS 2.9.3)
 abbrev pub is_polymorphic : Operand (List ℕ) → Bool
 is_polymorphic (operand.Method ref) =
     bytes_eq ref.owner (codes "java/lang/invoke/MethodHandle")
@@ -87,7 +87,7 @@ requested places place = if list_any (same_place place) places then places else 
 
 -- ---- call sites and switch points
 
--- where there are at most so many call sites
+-- the first fault of a new call site, with this limit of call sites
 abbrev pub new_call_site_fault : ℕ → World → List ℕ → Target → Option CallSiteFault
 new_call_site_fault most_call_sites w ty t = first_of (
     then_some (nat_le most_call_sites (length w.sites.call_sites)) fault.Full
@@ -167,7 +167,7 @@ pub record Accepts (w : World) (rows : List (ℕ × Link)) : Type 0 where
 abbrev pub retire_all_fault : World → List ℕ → Option Refusal
 retire_all_fault w loaders = first_of (map (λ l. option_map (RetireAll l) (retire_fault w loaders l)) loaders)
 
--- ---- the verdict on an event, where a linker has these limits: the first refusal, else what it makes
+-- ---- the verdict on an event, with a linker's limits: the first refusal, else what the event makes
 
 abbrev pub verdict : Limits → World → Event → Result Made Refusal
 verdict limits w event.NewLoader =

@@ -11,7 +11,7 @@ put s x [] = (s, x) ∷ []
 put s x (row ∷ rows) =
     if nat_lt s row.0 then (s, x) ∷ row ∷ rows else if s == row.0 then (s, x) ∷ rows else row ∷ put s x rows
 
--- by rising number, where the first entry of a site counts
+-- the values by rising number; of several entries of a site the first counts
 abbrev pub by_site : {A : Type 0} → List (ℕ × A) → List (ℕ × A)
 by_site [] = []
 by_site (entry ∷ entries) = put entry.0 entry.1 (by_site entries)

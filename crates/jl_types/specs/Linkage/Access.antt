@@ -19,7 +19,7 @@ is_accessible_class cs d c = is_public_class cs c || same_package cs c d
 abbrev pub lists_member : Classes → ℕ → List ℕ → Bool
 lists_member cs h name = class_test (λ host. list_any (bytes_eq name) host.file.nest_members) cs h
 
--- m's NestHost names h: h is the host if it is in m's run-time package and lists m, and else m is its own
+-- m's NestHost names h: h is the host if it is in m's run-time package and lists m, and else m is its own host
 abbrev pub host_if_listed : Classes → ℕ → Class → ℕ → ℕ
 host_if_listed cs m row h = if same_package cs m h && lists_member cs h row.file.name then h else m
 
@@ -48,8 +48,8 @@ same_nest None host = NotKnown CallerHost
 same_nest (Some h) None = NotKnown MethodHost
 same_nest (Some h) (Some k) = if h == k then Allowed else Denied
 
--- m is protected, the caller d is a subclass of its class, and, where m isn't static, the class that the reference
--- names is d, a subclass or a superclass of d
+-- m is protected, and the caller d is its class or a subclass of that. If m isn't static, the class that the reference names
+-- is d, or a subclass or a superclass of d.
 abbrev pub by_subclass : Classes → ℕ → ℕ → MethodId → Bool
 by_subclass cs d named m =
     is_protected cs m && (is_subclass cs d m.class && (is_static cs m || (is_subclass cs named d || is_subclass cs d named)))
@@ -64,7 +64,7 @@ by_nest cs d m =
     if not (is_private cs m) then Denied else (
     if m.class == d then Allowed else same_nest (nest_host cs d) (nest_host cs m.class))
 
--- whether m is accessible to d, where the reference names this class
+-- whether m is accessible to d, if the reference names this class
 abbrev pub accessible : Classes → ℕ → ℕ → MethodId → Access
 accessible cs d named m =
     if is_public cs m || (by_subclass cs d named m || by_package cs d m) then Allowed else by_nest cs d m

@@ -37,6 +37,6 @@ answer_of cs (Fails throwable) recv = answer.Throws throwable
 answer_of cs (Calls m) recv = answer.Run m
 answer_of cs (Selects i) recv = selected cs i recv
 
--- what a call of site s on the receiver comes to
+-- the answer to a call of site s on the receiver
 abbrev pub dispatch : World → ℕ → Recv → Answer
 dispatch w s recv = answer_of w.classes (stage w s) recv

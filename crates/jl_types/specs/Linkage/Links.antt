@@ -17,7 +17,7 @@ use Rattle.jl_types.specs.Values.Ancestry.{receivers}
 use Rattle.jl_types.specs.Linkage.Selection.{virtual_outcome, interface_outcome, special_outcome}
 use Rattle.jl_types.specs.Linkage.Stages.{Selector, ByVirtual, ByInterface, BySpecial, ResolvedCall, Stage, Waits, Fails, Calls, Selects, stage}
 
--- ---- what an invocation comes to for a receiver of class x
+-- ---- the outcome of an invocation for a receiver of class x
 
 abbrev pub outcome_by : Classes → ResolvedCall → Selector → ℕ → Outcome
 outcome_by cs i ByVirtual x = virtual_outcome cs x i.method
@@ -40,7 +40,7 @@ abbrev pub runs : MethodId → Outcome → Bool
 runs m (Run n) = (m.class == n.class) && (m.index == n.index)
 runs m (Throws throwable) = false
 
--- where there is a receiver and each runs one same method, that
+-- at invokevirtual: if there are receivers and all run one method, the link is that method
 abbrev pub virtual_link : List (ℕ × Outcome) → Link
 virtual_link [] = Table table.Virtual []
 virtual_link ((x, Throws throwable) ∷ rows) = table_or_mega table.Virtual ((x, Throws throwable) ∷ rows)
@@ -63,6 +63,6 @@ link_of cs (Selects i) = Ok (link_by cs i i.selector)
 abbrev pub scratch : World → ℕ → Result Link Unlinked
 scratch w s = link_of w.classes (stage w s)
 
--- the same link: the derived `==`
+-- whether two links are equal: the derived `==`
 abbrev pub same_link : Link → Link → Bool
 same_link = (equal_links.ghosts).eq

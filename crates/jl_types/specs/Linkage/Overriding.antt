@@ -34,7 +34,7 @@ pub record IsBridged (cs : Classes) (c a : MethodId) : Type 0 where
   pub alike : are_alike cs method a ≡ true
   pub visible : (is_public cs method || is_protected cs method) ≡ true
 
--- ---- the same as a test
+-- ---- overriding as a test
 
 -- the classes above c and below a, and the methods that a class declares
 abbrev pub classes_between : Classes → ℕ → ℕ → List ℕ
@@ -43,7 +43,7 @@ classes_between cs c a = filter (λ b. is_proper_subclass cs c b && is_proper_su
 abbrev pub methods_in : Classes → ℕ → List MethodId
 methods_in cs c = map (λ i. record { class = c; index = i }) (range_with_len 0 (length (methods_of cs c)))
 
--- the last clause is used so many times at most on a path
+-- whether c can override a, if the clause `through` is used fewer than so many times on a path
 abbrev pub can_override_within : ℕ → Classes → MethodId → MethodId → Bool
 can_override_within zero cs c a = false
 can_override_within (suc steps) cs c a =

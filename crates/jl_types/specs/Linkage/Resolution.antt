@@ -27,13 +27,13 @@ abbrev pub first_element : {A : Type 0} → List A → Option A
 first_element [] = None
 first_element (x ∷ xs) = Some x
 
--- the one of these, if there is one, and none and several told apart
+-- what there is of these: none, one alone, or several
 abbrev pub pick : List MethodId → Chosen
 pick [] = Nothing
 pick (m ∷ []) = Picked m
 pick (m ∷ n ∷ ms) = Several
 
--- where there is exactly one
+-- the method, if there is exactly one
 abbrev pub only : Chosen → Option MethodId
 only (Picked m) = Some m
 only Several = None
@@ -62,7 +62,7 @@ defaults cs name ty c = filter (λ m. not (is_abstract cs m)) (max_specific cs n
 abbrev pub declared_upward : Classes → List ℕ → List ℕ → ℕ → Option MethodId
 declared_upward cs name ty c = first_element (filter_map (declared cs name ty) (superclasses cs c))
 
--- java/lang/Object's own, where it is public and not static
+-- the method that java/lang/Object declares, if it is public and not static
 abbrev pub declared_in_object : Classes → List ℕ → List ℕ → Option MethodId
 declared_in_object cs name ty =
     first_element (filter (λ m. is_public cs m && not (is_static cs m))

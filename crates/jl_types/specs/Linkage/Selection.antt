@@ -17,7 +17,7 @@ use Rattle.jl_types.specs.Linkage.Overriding.{can_override}
 
 -- ---- selection
 
--- what was found, else the one of the defaults
+-- what was found, or else what there is of the defaults
 abbrev pub found_or : Option MethodId → List MethodId → Chosen
 found_or (Some m) ms = Picked m
 found_or None ms = pick ms
@@ -35,14 +35,14 @@ chosen_of cs x r (Some method) = found_or (overriding cs x r method) (defaults c
 abbrev pub chosen : Classes → ℕ → MethodId → Chosen
 chosen cs x r = if is_private cs r then Picked r else chosen_of cs x r (method_at cs r)
 
--- ---- what a choice comes to
+-- ---- the outcome of a choice
 
 abbrev pub ending : Classes → Chosen → Outcome
 ending cs (Picked m) = if is_abstract cs m then Throws AbstractMethodError else Run m
 ending cs Several = Throws IncompatibleClassChangeError
 ending cs Nothing = Throws AbstractMethodError
 
--- at invokevirtual
+-- the outcome at invokevirtual
 abbrev pub virtual_outcome : Classes → ℕ → MethodId → Outcome
 virtual_outcome cs x r = ending cs (chosen cs x r)
 
@@ -52,7 +52,7 @@ interface_ending cs (Picked m) =
 interface_ending cs Several = ending cs Several
 interface_ending cs Nothing = ending cs Nothing
 
--- at invokeinterface, where the reference names this interface
+-- the outcome at invokeinterface, if the reference names this interface
 abbrev pub interface_outcome : Classes → ℕ → ℕ → MethodId → Outcome
 interface_outcome cs x named r =
     if is_ancestor cs named x then interface_ending cs (chosen cs x r) else Throws IncompatibleClassChangeError
@@ -62,8 +62,8 @@ interface_outcome cs x named r =
 abbrev pub is_init : List ℕ → Bool
 is_init name = bytes_eq name (codes "<init>")
 
--- the search begins at the caller's direct superclass, if the method isn't `<init>` and a proper superclass of the caller
--- is named, and else where the reference names
+-- The search begins at the caller's direct superclass, if the method isn't `<init>` and the reference names a proper superclass
+-- of the caller. Else it begins at the class that the reference names.
 abbrev pub special_start : Classes → ℕ → ℕ → Reference (List ℕ) → Option ℕ
 special_start cs d named ref =
     if not (is_init ref.name) && (not (is_interface cs named) && is_proper_subclass cs d named)
@@ -90,6 +90,6 @@ abbrev pub special_choice : Classes → Reference (List ℕ) → Option ℕ → 
 special_choice cs ref None = Nothing
 special_choice cs ref (Some c) = found_or (special_found cs ref.name ref.ty c) (defaults cs ref.name ref.ty c)
 
--- at invokespecial, for the caller d, where the reference names this class or interface
+-- the outcome at invokespecial, for the caller d, if the reference names this class or interface
 abbrev pub special_outcome : Classes → ℕ → ℕ → Reference (List ℕ) → Outcome
 special_outcome cs d named ref = ending cs (special_choice cs ref (special_start cs d named ref))

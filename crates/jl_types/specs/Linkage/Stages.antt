@@ -1,4 +1,4 @@
--- What a requested invocation comes to before any receiver is looked at (JVMS 6.5): both its link and its calls rest on it.
+-- The stage of a requested invocation before any receiver is looked at (JVMS 6.5). Both its link and its calls rest on it.
 use Rattle.std.specs.Prelude.{ℕ, not, ◌&&◌, ◌==◌, slice_get, find, Option, Some, None, option_map, option_and_then, Result, Ok, Err, List, if◌then◌else◌}
 use Rattle.jl_pool.specs.declared.reference.Reference.{Reference}
 use Rattle.jl_class.specs.declared.site.Kind.{Kind}
@@ -43,11 +43,11 @@ pub data Stage : Type 0 where
 
 -- ---- the instructions
 
--- a static method where one has to be
+-- the method has to be static
 abbrev pub if_static : Classes → MethodId → Stage
 if_static cs m = if is_static cs m then Calls m else Fails IncompatibleClassChangeError
 
--- and none where none may be
+-- the method may not be static
 abbrev pub selecting : Classes → Selector → ℕ → Reference (List ℕ) → Resolved → Stage
 selecting cs selector d ref r =
     if is_static cs r.method then Fails IncompatibleClassChangeError else
@@ -72,7 +72,7 @@ abbrev pub by_method : Option MethodId → Stage
 by_method None = Waits Gone
 by_method (Some m) = Calls m
 
--- invokedynamic runs what the call site runs to which it is bound
+-- an invokedynamic is bound to a call site, and runs what that runs
 abbrev pub by_binding : Sites → Option ℕ → Stage
 by_binding sites None = Waits Unbound
 by_binding sites (Some c) = by_method (method_of sites c)
@@ -101,6 +101,6 @@ stage_at w s None = Waits NoSite
 stage_at w s (Some place) =
     if is_present w.classes place.class then stage_of w s place.class (invocation_at w.classes place) else Waits Gone
 
--- what site s comes to
+-- the stage of site s
 abbrev pub stage : World → ℕ → Stage
 stage w s = stage_at w s (slice_get w.places s)

@@ -7,7 +7,8 @@ use Rattle.std.specs.Str.{bytes_eq}
 use Rattle.jl_class.specs.Special.{begins_special}
 use Rattle.jl_types.specs.declared.ids.MethodId.{MethodId}
 use Rattle.jl_types.specs.declared.refusal.CallSiteFault.{CallSiteFault}
-use Rattle.jl_types.specs.declared.refusal.CallSiteFault.TheVariants.{UnknownCallSite, UnknownMethod, NotStatic, WrongType, UnknownSwitch, TooDeep, InvokerOrder}
+use Rattle.jl_types.specs.declared.refusal.CallSiteFault.TheVariants.{UnknownCallSite, UnknownMethod, NotStatic, WrongType, UnknownSwitch}
+use Rattle.jl_types.specs.declared.refusal.CallSiteFault.TheVariants.{TooDeep, InvokerOrder}
 use Rattle.jl_types.specs.Values.Target.{Target, Method, Guard, Invoker, depth}
 use Rattle.jl_types.specs.Values.World.{World, Classes, Sites, unreleased, is_missing}
 use Rattle.jl_types.specs.Values.Members.{is_present, method_test, is_static}
@@ -16,20 +17,20 @@ use Rattle.jl_types.specs.Linkage.Resolution.{first_of}
 abbrev pub is_valid : Sites → ℕ → Bool
 is_valid sites p = option_map_or (λ valid. valid) (unreleased sites.switches p) false
 
--- the method that a target stands for now, where these are what call sites run
+-- the method that a target stands for now, if call sites run these
 abbrev pub run_by : Sites → (ℕ → Option MethodId) → Target → Option MethodId
 run_by sites runs (Method m) = Some m
 run_by sites runs (Guard p first fallback) = if is_valid sites p then run_by sites runs first else run_by sites runs fallback
 run_by sites runs (Invoker c) = runs c
 
--- what call site c runs now, if it is one of the first n: its target, over what those before it run
+-- what call site c runs now, if it is one of the first n; its target is evaluated over what the call sites before it run
 abbrev pub run_below : Sites → ℕ → ℕ → Option MethodId
 run_below sites zero c = None
 run_below sites (suc n) c =
     if n == c then option_and_then (λ site. run_by sites (run_below sites n) site.target) (unreleased sites.call_sites c)
     else run_below sites n c
 
--- the method that a target of call site c stands for now, where an invoker stands for what an earlier call site runs
+-- the method that a target of call site c stands for now; an invoker in it stands for what an earlier call site runs
 abbrev pub evaluated : Sites → ℕ → Target → Option MethodId
 evaluated sites c t = run_by sites (run_below sites c) t
 
@@ -55,8 +56,8 @@ is_of_type cs ty m = method_test (λ method. bytes_eq method.ty ty) cs m
 abbrev pub invokes_type : Sites → List ℕ → ℕ → Bool
 invokes_type sites ty c = option_map_or (λ site. bytes_eq site.ty ty) (unreleased sites.call_sites c) false
 
--- of a target of call site c, of this type: a guard before its parts, the first part before the second; an invoker's call site comes
--- before c
+-- The first fault of the parts of a target of call site c, which has this type. A guard is looked at before its parts, and its first
+-- part before the second. An invoker's call site has to come before c.
 abbrev pub part_fault : World → ℕ → List ℕ → Target → Option CallSiteFault
 part_fault w c ty (Method m) = first_of (
     then_some (not (may_be_named w.classes m)) UnknownMethod

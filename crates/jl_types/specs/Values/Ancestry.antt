@@ -19,13 +19,13 @@ pub data IsAncestor (rows : List Class) (a : ℕ) : ℕ → Type 0 where
   over : {x p : ℕ} {row : Class} → slice_get rows x ≡ Some row → is_parent row p ≡ true
       → IsAncestor rows a p → IsAncestor rows a x
 
--- the same as a test, over so many classes upward from x
+-- whether a is x itself or an ancestor of x, as a test, over so many classes upward from x
 abbrev pub is_ancestor_within : ℕ → List Class → ℕ → ℕ → Bool
 is_ancestor_within zero rows a x = false
 is_ancestor_within (suc steps) rows a x =
     option_map_or (λ row. (a == x) || list_any (is_ancestor_within steps rows a) (parents row)) (slice_get rows x) false
 
--- a is among the ancestors of x, as x itself is. From x upward there are x + 1 classes at most.
+-- whether a is x itself or an ancestor of x, as a test; from x upward there are x + 1 classes at most
 abbrev pub is_ancestor : Classes → ℕ → ℕ → Bool
 is_ancestor cs a x = is_ancestor_within (x + 1) cs.rows a x
 
@@ -68,6 +68,6 @@ ancestors rows c = filter (λ a. is_ancestor_within (c + 1) rows a c) (range_wit
 abbrev pub superinterfaces : Classes → ℕ → List ℕ
 superinterfaces cs c = filter (λ k. is_interface cs k && not (k == c)) (ancestors cs.rows c)
 
--- the classes that objects may be of which are a c
+-- the classes that objects may be of, among c and the classes below it
 abbrev pub receivers : Classes → ℕ → List ℕ
 receivers cs c = filter (λ x. is_concrete cs x && is_ancestor cs c x) (numbers cs)

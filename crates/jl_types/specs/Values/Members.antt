@@ -15,7 +15,7 @@ use Rattle.jl_types.specs.Values.World.{Class, Classes}
 abbrev pub has_class : Classes → ℕ → Bool
 has_class cs c = is_some (slice_get cs.rows c)
 
--- the test of the class of this number, and no where there is none
+-- whether the test holds of the class of this number; false if there is none
 abbrev pub class_test : (Class → Bool) → Classes → ℕ → Bool
 class_test test cs c = option_map_or test (slice_get cs.rows c) false
 
@@ -88,7 +88,7 @@ is_abstract cs m = method_test (λ method. has_flag method.flags ABSTRACT) cs m
 abbrev pub is_package_private : Classes → MethodId → Bool
 is_package_private cs m = not (is_public cs m) && (not (is_protected cs m) && not (is_private cs m))
 
--- of this name and descriptor
+-- the method has this name and descriptor
 abbrev pub is_called : List ℕ → List ℕ → Method → Bool
 is_called name ty method = bytes_eq method.name name && bytes_eq method.ty ty
 

@@ -10,14 +10,14 @@ use Rattle.jl_code.proofs.code.scan_onto.Goals as goal
 
 pub loop-rest-init : goal.loop-rest-init
 loop-rest-init c =
-    KeptSoFar-plain c.args.pool.now c.args.code.now c.args.code.now c.behind_plain-rest.result.now c.args.sites.now.items c.args.sites.now.items
-    (KeptSoFar-none c.args.pool.now c.args.code.now c.args.sites.now.items (search rules)) c.behind_plain-rest.ensures
+    KeptSoFar-plain c.args.pool.now c.args.code.now c.args.code.now c.after_plain-rest.result.now c.args.sites.now.items c.args.sites.now.items
+    (KeptSoFar-none c.args.pool.now c.args.code.now c.args.sites.now.items (search rules)) c.after_plain-rest.ensures
 
 pub loop-rest-smaller : goal.loop-rest-smaller
 loop-rest-smaller c =
     let read = shorter c.args.pool.now c.args.code.now c.loop-rest.rest.now c.in-Ok.after.now c.loop-rest.invariant.sites
     (length c.args.code.now - length c.loop-rest.rest.now) c.in-Ok.instruction c.loop-rest.invariant.scanned c.in-Ok.ensures in
-    let skipped = no_longer c.in-Ok.after.now c.behind_plain-rest-in-Ok.result.now c.behind_plain-rest-in-Ok.ensures in
+    let skipped = no_longer c.in-Ok.after.now c.after_plain-rest-in-Ok.result.now c.after_plain-rest-in-Ok.ensures in
     omega (arith, read, skipped)
 
 pub loop-rest-preserved : goal.loop-rest-preserved
@@ -26,7 +26,7 @@ loop-rest-preserved c =
     KeptSoFar-more c.args.pool.now c.args.code.now c.loop-rest.rest.now c.in-Ok.after.now c.args.sites.now.items c.loop-rest.sites.items
     (length c.args.code.now - length c.loop-rest.rest.now) c.in-Ok.instruction _ refl c.loop-rest.invariant c.in-Ok.ensures c.in_ok-site-in-Ok.ensures.ok
     in
-    KeptSoFar-plain c.args.pool.now c.args.code.now c.in-Ok.after.now c.behind_plain-rest-in-Ok.result.now c.args.sites.now.items _
+    KeptSoFar-plain c.args.pool.now c.args.code.now c.in-Ok.after.now c.after_plain-rest-in-Ok.result.now c.args.sites.now.items _
     (elim c.match-branch-2.branch [
       | in-Some+in_ok-push-in-Ok w ↦ rw (w.sites-is, w.in_ok-push-in-Ok.ensures.items) (rw w.in-Some.is at more)
       | in_default w ↦
@@ -34,7 +34,7 @@ loop-rest-preserved c =
           (subst (λ (l : List KeptSite). KeptSoFar c.args.pool.now c.args.code.now c.in-Ok.after.now c.args.sites.now.items l)
           (append-nil c.loop-rest.sites.items) (rw w.in_default.is at more))
     ])
-    c.behind_plain-rest-in-Ok.ensures
+    c.after_plain-rest-in-Ok.ensures
 
 pub returns-in-Err-Cut-clause-fault : goal.returns-in-Err-Cut-clause-fault
 returns-in-Err-Cut-clause-fault c =

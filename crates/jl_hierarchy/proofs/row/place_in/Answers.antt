@@ -1,6 +1,6 @@
 use Rattle.std.proofs.Common.{ap, sym, ◌∙◌}
 use Rattle.std.proofs.lemmas.List.{take_rest}
-use Rattle.jl_hierarchy.proofs.PrintLaws.{found, found_from_start, found_sorted, none_behind}
+use Rattle.jl_hierarchy.proofs.PrintLaws.{found, found_from_start, found_sorted, none_after}
 use Rattle.jl_hierarchy.proofs.row.place_in.Goals as goal
 
 pub loop-entry-init : goal.loop-entry-init
@@ -18,7 +18,7 @@ pub returns-then-entry-print : goal.returns-then-entry-print
 returns-then-entry-print c =
     let prints = c.args.prints.now in
     let start = c.first_not_below-start.result in
-    none_behind c.args.sought.now.name c.args.sought.now.ty c.args.methods.now prints _ start c.loop-entry.entry-index _ c.requires.0
+    none_after c.args.sought.now.name c.args.sought.now.ty c.args.methods.now prints _ start c.loop-entry.entry-index _ c.requires.0
     (λ k d ge lt. rw (sym c.print.ensures) (c.first_not_below-start.ensures.split.1 k d ge lt)) (take_rest prints start) c.loop-entry-test.true
     (λ e. c.if-entry-print.true (e ∙ sym c.print-in-loop-entry.ensures))
     ∙ c.loop-entry.invariant

@@ -1,7 +1,8 @@
 use Rattle.std.proofs.Common.{◌/◌, ◌%◌, ◌∙◌, ap, sym, subst, arith, length, slice_set}
 use Rattle.std.proofs.lemmas.Result.{on_ok_weaker}
 use Rattle.std.proofs.Math.Nat.{div-add-mod}
-use Rattle.jl_slots.specs.ForProofs.Pages.{elements, AreWhole, all_pages}
+use Rattle.jl_pages.specs.ForProofs.Pages.{elements}
+use Rattle.jl_slots.specs.ForProofs.Pages.{AreWhole, all_pages}
 use Rattle.jl_slots.proofs.SlotLaws.{within, listed_whole, whole_listed, as_long, written}
 use Rattle.jl_slots.proofs.slots.set_in.Goals as goal
 

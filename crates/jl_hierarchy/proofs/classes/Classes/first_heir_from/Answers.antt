@@ -11,4 +11,6 @@ returns c =
     let n = length c.args.self.now.rows - c.args.first in
     sym (option_map_id c.find.result)
     ∙ find_from_yields_List (inherits_from c.args.self.now c.args.loaders.now c.args.loader) _ _ _ c.find.ensures.ran
-    (YieldsList-from_range c.args.first (length c.args.self.now.rows) n (λ i. record { start = c.args.first; end = c.count_in_order-count.ensures.count i }) (omega arith)) (λ x b q k. search rules)
+    (YieldsList-from_range c.args.first (length c.args.self.now.rows) n
+    (λ i. record { start = c.args.first; end = c.count_in_order-count.ensures.count i }) (omega arith))
+    (λ x b q k. search rules)

@@ -2,7 +2,7 @@ use Rattle.std.proofs.Common.{◌≡◌, ◌<◌, length}
 use Rattle.jl_types.specs.Values.Ancestry as ancestry
 use Rattle.jl_hierarchy.proofs.classes.Classes.is_subclass.Given as goal
 
--- the chain from here holds the other one where the class's chain does
+-- the chain from here holds the other one exactly if the class's chain does
 abbrev pub invariant-loop-other : goal.invariant-loop-other
 invariant-loop-other l = record {
   there : l.at < length l.self.rows;

@@ -4,10 +4,10 @@ use Rattle.jl_hierarchy.specs.declared.marks.Mark.{Mark}
 use Rattle.jl_hierarchy.proofs.Lines.{IsPassed}
 use Rattle.jl_hierarchy.proofs.classes.Classes.mark_upward.Given as goal
 
--- marks came behind those of before, and each class of the line is still to come or marked
+-- marks came after those of before, and each class of the line is still to come or marked
 abbrev pub invariant-loop-left : goal.invariant-loop-left
 invariant-loop-left l = record {
-  behind : (more : List Mark) × (l.marks.items ≡ l.fn.marks.items ++ more);
+  added : (more : List Mark) × (l.marks.items ≡ l.fn.marks.items ++ more);
   passed : (s : ℕ) → ancestry.is_subclass l.self l.fn.class s ≡ true → IsPassed l.self l.print l.marks.items l.at s;
 }
 

@@ -7,7 +7,8 @@ use Rattle.jl_numbered.proofs.numbered.Numbered.reserve.Goals as goal
 pub invariant_of-self-2 : goal.invariant_of-self-2
 invariant_of-self-2 g c =
     c.self.invariant
-    ∙ ap length (sym (ap (placed 0) (c.add_vacant.ensures ∙ ap (λ xs. xs ++ replicate (c.args.number + 1 - length c.as_slice-room.result.now) None) c.in_ok-reserve.ensures.items)
+    ∙ ap length (sym (ap (placed 0) (c.add_vacant.ensures
+    ∙ ap (λ xs. xs ++ replicate (c.args.number + 1 - length c.as_slice-room.result.now) None) c.in_ok-reserve.ensures.items)
     ∙ roomier 0 (c.args.number + 1 - length c.as_slice-room.result.now) c.self.inside.slots.items))
 
 pub returns-clause-entries : goal.returns-clause-entries

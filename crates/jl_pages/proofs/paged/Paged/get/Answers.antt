@@ -3,7 +3,7 @@ use Rattle.std.proofs.Common.{◌-◌, ◌/◌, ◌%◌, length, slice_get, arit
 use Rattle.std.proofs.Math.Nat.{div-add-mod}
 use Rattle.jl_pages.specs.ForProofs.Pages.{elements}
 use Rattle.jl_pages.specs.Listing.{Listed}
-use Rattle.jl_pages.proofs.PageLaws.{at_page, behind, before}
+use Rattle.jl_pages.proofs.PageLaws.{at_page, after, before}
 use Rattle.jl_pages.proofs.paged.Paged.get.Goals as goal
 
 pub overflow_sub-place : goal.overflow_sub-place
@@ -31,6 +31,6 @@ returns-in-None g c =
     let le = before c.self.inside.full.items (c.args.place / 64) c.args.place (c.args.place % 64) c.self.invariant.0 none (div-add-mod c.args.place 64) in
     c.element_at-in-None.ensures
     ∙ ap (λ xs. slice_get xs (c.args.place - (c.self.inside.count - length c.as_slice-in-None.result.now))) c.as_slice-in-None-2.ensures.value
-    ∙ sym (behind (elements c.self.inside.full.items) c.self.inside.last.items c.args.place
+    ∙ sym (after (elements c.self.inside.full.items) c.self.inside.last.items c.args.place
     (c.args.place - (c.self.inside.count - length c.as_slice-in-None.result.now)) (omega (arith, count, last, le)))
     ∙ ap (λ (l : Listed _). slice_get l.items c.args.place) c.self.view_is

@@ -1,5 +1,6 @@
 use Rattle.std.proofs.Common.{ap, ◌∙◌, replicate}
-use Rattle.jl_slots.specs.ForProofs.Pages.{elements, all_pages}
+use Rattle.jl_pages.specs.ForProofs.Pages.{elements}
+use Rattle.jl_slots.specs.ForProofs.Pages.{all_pages}
 use Rattle.jl_slots.proofs.SlotLaws.{all_alike, none_listed}
 use Rattle.jl_slots.proofs.slots.Slots.filled.Goals as goal
 

@@ -2,7 +2,7 @@ use Rattle.std.specs.Prelude.{option_map}
 use Rattle.jl_classfile.specs.ForProofs.Bodies.{attribute_at, items_at}
 use Rattle.jl_classfile.proofs.ItemLaws.{rest-more, rest-stop, rest-end}
 use Rattle.std.proofs.Common.{sym}
-use Rattle.jl_classfile.proofs.body.behind_so_many.Goals as goal
+use Rattle.jl_classfile.proofs.body.after_so_many.Goals as goal
 
 pub attributes-preserved : goal.attributes-preserved
 attributes-preserved c =

@@ -3,7 +3,7 @@ use Rattle.std.proofs.Common.{ap, ◌∙◌}
 use Rattle.jl_types.specs.Values.Members.{recorded}
 use Rattle.jl_hierarchy.specs.ForProofs.Kept.{are_new}
 use Rattle.jl_hierarchy.proofs.Recents.{new_to_each, one_more_new, left_by}
-use Rattle.jl_hierarchy.proofs.loader.record_behind.Goals as goal
+use Rattle.jl_hierarchy.proofs.loader.record_after.Goals as goal
 
 pub record_shared-requires : goal.record_shared-requires
 record_shared-requires c =

@@ -1,7 +1,7 @@
 use Rattle.std.proofs.Common.{◌∙◌, sym, arith}
 use Rattle.std.proofs.lemmas.List.{take_rest}
 use Rattle.jl_code.proofs.PlainLaws.{stands}
-use Rattle.jl_code.proofs.plain.behind_one.Goals as goal
+use Rattle.jl_code.proofs.plain.after_one.Goals as goal
 
 pub returns-then-length-eq1-clause-stands : goal.returns-then-length-eq1-clause-stands
 returns-then-length-eq1-clause-stands c = rw take_rest
