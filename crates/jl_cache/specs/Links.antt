@@ -19,7 +19,7 @@ AreRising links = AllPairs (λ a b. a.0 < b.0) links
 abbrev pub link_with : List (ℕ × Link) → Option Link → ℕ → Option Link
 link_with rows before s = fold (λ link row. if row.0 == s then Some row.1 else link) before rows
 
--- what a call is answered by the site's installed link alone, without a count of classes
+-- the answer to a call by the site's installed link alone, without a count of classes
 abbrev pub fast_link : Option Link → Recv → Fast
 fast_link None recv = Miss
 fast_link (Some link) recv = link_answer link recv

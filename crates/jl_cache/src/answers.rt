@@ -11,8 +11,7 @@ ghost use Rattle.jl_cache.specs.ForProofs.Few.{rows_of};
 use crate::few::{Few, method_of, receiver_of};
 use jl_types::{Answer, ClassId, Fast, Link, Outcome, Recv, Table, TableKind, Throwable};
 
-/// What a call is answered by the site's installed link alone: nothing where there is none, and where it is megamorphic. Takes no
-/// memory.
+/// The answer to a call by the site's installed link alone: none if there is no link, or if it is megamorphic. Takes no memory.
 pub fn fast(link: Option<Link>, recv: Recv) -> Fast
     ensures { result ≡ fast_link link recv }
 {
@@ -34,8 +33,7 @@ pub fn fast(link: Option<Link>, recv: Recv) -> Fast
     }
 }
 
-/// What a call is answered by a link of one outcome, where there are so many classes: nothing where the receiver's class is newer. Takes
-/// no memory.
+/// The answer to a call by a link of one outcome, with so many classes: none if the receiver's class is newer. Takes no memory.
 pub fn direct_answer(classes: usize, outcome: Outcome, recv: Recv) -> Fast
     ensures { result ≡ fast.fast_answer (Some (variant.Direct outcome)) classes recv }
 {
@@ -51,7 +49,7 @@ pub fn direct_answer(classes: usize, outcome: Outcome, recv: Recv) -> Fast
     }
 }
 
-/// What a call is answered by a table, where there are so many classes: nothing where the receiver's class is newer. Takes no memory.
+/// The answer to a call by a table, with so many classes: none if the receiver's class is newer. Takes no memory.
 pub fn table_answer(classes: usize, kind: TableKind, table: &Table, recv: Recv) -> Fast
     ensures { result ≡ fast.fast_answer (Some (variant.Table kind table.now)) classes recv }
 {
@@ -61,7 +59,7 @@ pub fn table_answer(classes: usize, kind: TableKind, table: &Table, recv: Recv) 
     }
 }
 
-/// What a call is answered by a table of one or two classes, where there are so many: nothing where the receiver's class is newer. Takes no
+/// The answer to a call by a table of one or two receivers, with so many classes: none if the receiver's class is newer. Takes no
 /// memory.
 pub(crate) fn few_answer(classes: usize, kind: TableKind, few: &Few, recv: Recv) -> Fast
     ensures { result ≡ fast.fast_answer (Some (variant.Table kind (rows_of few.now))) classes recv }
@@ -78,7 +76,7 @@ pub(crate) fn few_answer(classes: usize, kind: TableKind, few: &Few, recv: Recv)
     }
 }
 
-/// The answer of one of the rows, or of there being none for the class.
+/// The answer of the row of the class, or the answer that there is if no row has it.
 fn few_entry(kind: TableKind, few: &Few, class: ClassId) -> Answer
     ensures { result ≡ fast.entry_answer kind (find (λ row. row.0 == class) (rows_of few.now)) }
 {
@@ -102,7 +100,7 @@ fn few_entry(kind: TableKind, few: &Few, class: ClassId) -> Answer
     }
 }
 
-/// The answer of a table on an object of the class.
+/// The answer by a table to a call on an object of the class, with so many classes: none if the class is newer.
 fn row_for(classes: usize, kind: TableKind, table: &Table, class: ClassId) -> Fast
     ensures { result ≡ fast.fast_answer (Some (variant.Table kind table.now)) classes (Of class) }
 {
@@ -126,7 +124,7 @@ fn row_of(rows: &[(ClassId, Outcome)], class: ClassId) -> Option<&(ClassId, Outc
     rows.iter().find(|row| row.0 == class)
 }
 
-/// The answer of the row of the receiver's class, or of there being none.
+/// The answer of the row of the receiver's class, or the answer that there is without such a row.
 fn entry_answer(kind: TableKind, row: Option<&(ClassId, Outcome)>) -> Answer
     ensures { result ≡ fast.entry_answer kind (option_copied row.entry) }
 {

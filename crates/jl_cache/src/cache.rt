@@ -51,7 +51,7 @@ impl Cache {
         }
     }
 
-    /// The same links once more. Want of memory is an error.
+    /// A copy of the links, which shares their tables.
     pub fn copy(&self) -> Result<Cache, AllocError>
         ensures { IfOk result (λ copy. copy ≡ self.now) }
     {
@@ -67,7 +67,7 @@ impl Cache {
         ensures rising { AreRising self.now }
     {
         let _count = self.links.len();
-        link_of(self.links.get(place_of(site)))
+        link_kept(self.links.get(place_of(site)))
     }
 
     /// The site's link as it is kept, if one is installed. Takes no memory.
@@ -91,7 +91,7 @@ impl Cache {
         self.len() == 0
     }
 
-    /// Each site that has a link, with it, by rising number. Want of memory is an error.
+    /// Each site that has a link, with it, by rising number.
     pub fn list(&self, alloc: Global) -> Result<Vec<(SiteNo, Link)>, AllocError>
         ensures items { IfOk result (λ rows. rows.items ≡ self.now) }
         ensures rising { AreRising self.now }
@@ -126,7 +126,7 @@ impl Cache {
         put_kept_rows(&mut self.links, rows)
     }
 
-    /// The site has the link that it has ahead, or none. A table is shared.
+    /// The site gets the link that it has in `ahead`, or none if it has none there. A table is shared.
     ///
     /// # Errors
     ///
@@ -163,7 +163,7 @@ fn place_of(site: SiteNo) -> usize
 }
 
 /// The link that is kept, if there is one.
-fn link_of(kept: Option<&KeptLink>) -> Option<Link>
+fn link_kept(kept: Option<&KeptLink>) -> Option<Link>
     ensures { result ≡ option_copied kept.entry }
 {
     match kept {
@@ -172,7 +172,7 @@ fn link_of(kept: Option<&KeptLink>) -> Option<Link>
     }
 }
 
-/// The sites with their links, by rising number. Want of memory is an error.
+/// The sites with their links, by rising number.
 fn rows_of(alloc: Global, links: &Numbered<KeptLink>) -> Result<Vec<(SiteNo, Link)>, AllocError>
     requires { HaveSites links.now.entries }
     ensures items { IfOk result (λ rows. rows.items ≡ links.now.entries) }
@@ -187,7 +187,7 @@ fn rows_of(alloc: Global, links: &Numbered<KeptLink>) -> Result<Vec<(SiteNo, Lin
     Ok(rows)
 }
 
-/// Adds the site with its value. Want of memory is an error.
+/// Adds the site with its value.
 fn push_row<T: Drop>(rows: &mut Vec<(SiteNo, T)>, site: SiteNo, value: T) -> Result<(), AllocError>
     ensures { OnOk result (rows.new.items ≡ rows.old.items ++ (site, value) ∷ []) }
 {
@@ -195,7 +195,7 @@ fn push_row<T: Drop>(rows: &mut Vec<(SiteNo, T)>, site: SiteNo, value: T) -> Res
     Ok(())
 }
 
-/// What is kept of each row. Want of memory is an error.
+/// What is kept of each row.
 pub fn kept_rows(
     alloc: Global,
     rows: &[(SiteNo, Link)],
@@ -210,7 +210,7 @@ pub fn kept_rows(
     Ok(kept)
 }
 
-/// Makes room for the links of the rows. Want of memory is an error; the links are as they were.
+/// Makes room for the links of the rows. On an error the links are as they were.
 fn make_room(links: &mut Numbered<KeptLink>, rows: &[(SiteNo, KeptLink)]) -> Result<(), AllocError>
     ensures sites { AllByRecursion (λ row. row.0 < 2 ^ 32) rows.now }
     ensures same { links.new.entries ≡ links.old.entries }
@@ -241,7 +241,7 @@ fn put_all(links: &mut Numbered<KeptLink>, rows: Vec<(SiteNo, KeptLink)>)
     }
 }
 
-/// Puts the links of the rows in place of those that the sites have. Want of memory is an error; some of the rows are put then.
+/// Puts the links of the rows in place of those that the sites have. On an error some of the rows are put.
 fn put_kept_rows(
     links: &mut Numbered<KeptLink>,
     rows: &[(SiteNo, KeptLink)],
@@ -256,7 +256,7 @@ fn put_kept_rows(
     Ok(())
 }
 
-/// Puts the link in place of the one that the site has. Want of memory is an error.
+/// Puts the link in place of the one that the site has.
 fn put_kept(links: &mut Numbered<KeptLink>, site: SiteNo, kept: &KeptLink) -> Result<(), AllocError>
     requires { HaveSites links.old.entries }
     ensures sites { HaveSites links.new.entries }

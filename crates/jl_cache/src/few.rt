@@ -5,7 +5,7 @@ ghost use Rattle.jl_cache.specs.ForProofs.Few.{row_of, rows_of};
 
 use jl_types::{ClassId, MethodId, Outcome, Table};
 
-/// A receiver's class and the method that runs, where the numbers of both classes fit 16 bits.
+/// A receiver's class and the method that runs, if the numbers of both classes fit 16 bits.
 #[derive(Clone, Copy)]
 pub(crate) struct ShortRow {
     pub(crate) receiver: u16,
@@ -20,7 +20,7 @@ pub(crate) enum Few {
     Two(ShortRow, ShortRow),
 }
 
-/// The rows of the table, where they are one or two that run methods, of numbers that fit.
+/// The rows of the table, if there are one or two, they run methods, and their numbers fit.
 pub(crate) fn few_of(table: &Table) -> Option<Few>
     ensures { IfSome result (λ few. rows_of few ≡ table.now) }
 {
@@ -31,7 +31,7 @@ pub(crate) fn few_of(table: &Table) -> Option<Few>
     }
 }
 
-/// The row in little room, where it runs a method and its numbers fit.
+/// The row in little room, if it runs a method and its numbers fit.
 fn short_row(row: &(ClassId, Outcome)) -> Option<ShortRow>
     ensures { IfSome result (λ short. row_of short ≡ row.now) }
 {
@@ -41,7 +41,7 @@ fn short_row(row: &(ClassId, Outcome)) -> Option<ShortRow>
     }
 }
 
-/// The row of these numbers, where they fit.
+/// The row of these numbers, if they fit.
 fn short_of(receiver: u32, class: u32, index: u16) -> Option<ShortRow>
     ensures { IfSome result (λ short. (short.receiver ≡ receiver) × (short.class ≡ class) × (short.index ≡ index)) }
 {

@@ -58,7 +58,7 @@ impl Model for KeptSlot {
     ghost view = { λ s. link_of s.kept };
 }
 
-/// The same once more, with the same table. More copies than can be counted are an error.
+/// A copy of the slot, which shares its table. More copies than can be counted are an error.
 impl Clone for KeptSlot {
     ghost is_clone = { λ slot copy. copy ≡ slot };
 
@@ -73,7 +73,7 @@ impl Clone for KeptSlot {
     }
 }
 
-/// As it is cloned: it takes no memory.
+/// A copy is a clone, and takes no memory.
 impl Again for KeptSlot {
     fn again(&self, _alloc: Global) -> Result<KeptSlot, AllocError> {
         self.clone()
@@ -90,7 +90,7 @@ impl KeptSlot {
         }
     }
 
-    /// What is kept of the link. Want of memory is an error.
+    /// What is kept of the link.
     fn new(alloc: Global, link: &Link) -> Result<KeptSlot, AllocError>
         ensures { IfOk result (λ slot. slot ≡ Some link.now) }
     {
@@ -132,8 +132,13 @@ impl KeptSlot {
         }
     }
 
-    /// What a call is answered by the link, where there are so many classes: nothing where there is none, where it is megamorphic, and
-    /// where the answer hangs on the receiver and its class is newer. Takes no memory.
+    /// The answer to a call by the link, with so many classes. Takes no memory.
+    ///
+    /// There is none
+    ///
+    /// - if there is no link
+    /// - if the link is megamorphic
+    /// - if the answer depends on the receiver and its class is newer
     #[inline(always)]
     pub fn answer(&self, classes: usize, recv: Recv) -> Fast
         ensures { result ≡ fast.fast_answer self.now classes recv }
@@ -149,7 +154,7 @@ impl KeptSlot {
     }
 }
 
-/// What is kept of a table. Want of memory is an error.
+/// What is kept of a table.
 fn kept_table(alloc: Global, kind: TableKind, table: &Table) -> Result<Kept, AllocError>
     ensures { IfOk result (λ kept. link_of kept ≡ Some (link.Table kind table.now)) }
 {
@@ -185,7 +190,7 @@ impl Model for KeptLink {
     ghost invariant = { λ k. is_some k.slot ≡ true };
 }
 
-/// The same link once more, with the same table. More copies than can be counted are an error.
+/// A copy of the kept link, which shares its table. More copies than can be counted are an error.
 impl Clone for KeptLink {
     ghost is_clone = { λ kept copy. copy ≡ kept };
 
@@ -197,7 +202,7 @@ impl Clone for KeptLink {
 }
 
 impl KeptLink {
-    /// What is kept of the link. Want of memory is an error.
+    /// What is kept of the link.
     pub fn new(alloc: Global, link: &Link) -> Result<KeptLink, AllocError>
         ensures { IfOk result (λ kept. kept ≡ link.now) }
     {
@@ -216,7 +221,7 @@ impl KeptLink {
         }
     }
 
-    /// The same link for a slot, with the same table. More copies than can be counted are an error.
+    /// A slot with this link, which shares its table. More copies than can be counted are an error.
     pub fn slot(&self) -> Result<KeptSlot, AllocError>
         ensures { IfOk result (λ slot. slot ≡ Some self.now) }
     {
@@ -224,7 +229,7 @@ impl KeptLink {
     }
 }
 
-/// As it is cloned: it takes no memory.
+/// A copy is a clone, and takes no memory.
 impl Again for KeptLink {
     fn again(&self, _alloc: Global) -> Result<KeptLink, AllocError> {
         self.clone()

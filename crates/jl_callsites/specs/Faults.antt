@@ -20,21 +20,21 @@ world_of cs sites = record { classes = cs; places = []; bindings = []; sites = s
 
 -- ---- faults
 
--- where there are at most so many call sites
+-- why a call site isn't made, if there may be at most so many
 abbrev pub new_site_fault : ℕ → Classes → Sites → List ℕ → Target → Option CallSiteFault
 new_site_fault most_call_sites cs sites ty t = new_call_site_fault most_call_sites (world_of cs sites) ty t
 
 abbrev pub set_target_fault : Classes → Sites → ℕ → Target → Option CallSiteFault
 set_target_fault cs sites c t = events.set_target_fault (world_of cs sites) c (unreleased sites.call_sites c) t
 
--- where there are at most so many switch points
+-- why a switch point isn't made, if there may be at most so many
 abbrev pub new_switch_fault : ℕ → Sites → Option CallSiteFault
 new_switch_fault most_switches sites = then_some (nat_le most_switches (length sites.switches)) Full
 
 abbrev pub invalidate_fault : Sites → List ℕ → Option CallSiteFault
 invalidate_fault sites points = events.invalidate_fault (world_of (record { loaders = []; rows = []; retired = [] }) sites) points
 
--- of a method alone
+-- the fault of a method alone
 abbrev pub method_fault : Classes → List ℕ → MethodId → Option CallSiteFault
 method_fault cs ty m = first_of (
     then_some (not (may_be_named cs m)) UnknownMethod
@@ -42,7 +42,7 @@ method_fault cs ty m = first_of (
     ∷ then_some (not (is_of_type cs ty m)) WrongType
     ∷ [])
 
--- of an invoker alone, in a target of call site c
+-- the fault of an invoker alone, in a target of call site c
 abbrev pub invoker_fault : Sites → ℕ → List ℕ → ℕ → Option CallSiteFault
 invoker_fault sites c ty d = first_of (
     then_some (nat_le c d) (InvokerOrder d)

@@ -1,5 +1,5 @@
--- Every guard of a call site's target names a switch point that was made, every invoker an earlier call site, and which changes leave what
--- runs as it was.
+-- Every guard of a call site's target names a switch point that was made, and every invoker an earlier call site. And which changes leave
+-- what runs as it was.
 use Rattle.std.specs.Prelude.{◌≡◌, ℕ, ◌<◌, ◌+◌, Bool, true, false, ◌&&◌, nat_lt, List, [], ◌∷◌, length, Option, Some, None}
 use Rattle.jl_types.specs.declared.key.Key.TheVariants as key
 use Rattle.jl_types.specs.Values.Target.{Target, Method, Guard, Invoker}
@@ -13,7 +13,7 @@ is_known points c (Method m) = true
 is_known points c (Guard p first fallback) = nat_lt p points && (is_known points c first && is_known points c fallback)
 is_known points c (Invoker d) = nat_lt d c
 
--- the same of the targets of call sites with numbers from c on, of which those are passed over that are released
+-- each target of these call sites, which have numbers from c on, is known in this way; a released call site is passed over
 abbrev pub all_known : ℕ → ℕ → List (Option CallSite) → Bool
 all_known points c [] = true
 all_known points c (None ∷ rows) = all_known points (c + 1) rows

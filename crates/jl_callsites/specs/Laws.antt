@@ -1,4 +1,4 @@
--- What the events of call sites and switch points come to at any world.
+-- What the events of call sites and switch points do at any world.
 use Rattle.std.specs.Prelude.{◌≡◌, ℕ, List, Option, option_map}
 use Rattle.jl_types.specs.declared.limits.Limits.{Limits}
 use Rattle.jl_types.specs.Events.Event.{Event}
@@ -12,13 +12,13 @@ use Rattle.jl_types.specs.Events.Release.{release_fault, released_from}
 use Rattle.jl_types.specs.Events.Verdict.{unless}
 use Rattle.jl_types.specs.Events.Verdict as events
 
--- the event is refused where there is this fault, and else makes this; afterwards these are the call sites and switch points,
--- and all else stays
+-- If there is this fault, the event is refused with it. Else it makes this. Afterwards these are the call sites and switch points, and all
+-- else stays.
 pub record ComesTo (limits : Limits) (w : World) (e : Event) (f : Option CallSiteFault) (m : Made) (after : Sites) : Type 0 where
   pub verdict : events.verdict limits w e ≡ unless (option_map CallSite f) m
   pub step : events.step w e ≡ record w { sites = after }
 
--- a release of these is refused where there is a fault of a release, and else makes nothing; afterwards they are gone, and all else stays
+-- If there is a fault of a release of these, it is refused with it. Else it makes nothing. Afterwards they are gone, and all else stays.
 pub record Releases (limits : Limits) (w : World) (call_sites points : List ℕ) : Type 0 where
   pub verdict : events.verdict limits w (event.Release call_sites points)
       ≡ unless (option_map Release (release_fault w.sites call_sites points)) made.Nothing

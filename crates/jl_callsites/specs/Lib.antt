@@ -1,5 +1,5 @@
--- Faults over classes and sites alone, which call sites run on, and what the events of call sites come to at a world. `ForProofs` is a
--- means of proof.
+-- Faults over classes and sites alone, which call sites run on, and what the events of call sites do at a world. `ForProofs` is a means of
+-- proof.
 pub mod Faults
 pub mod Known
 pub mod Earlier

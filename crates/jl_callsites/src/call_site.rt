@@ -86,7 +86,7 @@ impl CallSite {
         self.target = target;
     }
 
-    /// The same call site once more. Want of memory is an error.
+    /// A copy of the call site.
     pub(crate) fn copy(&self, alloc: Global) -> Result<CallSite, AllocError>
         ensures { IfOk result (λ copy. copy ≡ self.now) }
     {

@@ -20,15 +20,19 @@ use jl_types::{CallSiteFault, CallSiteId, CallSiteKind, OrMemory, SwitchId, Targ
 use std::alloc::AllocError;
 
 impl Sites {
-    /// A new call site of this kind and type with its first target, by its number (ConstantCallSite, MutableCallSite,
-    /// VolatileCallSite).
+    /// Adds a call site of this kind and type with its first target (ConstantCallSite, MutableCallSite, VolatileCallSite).
     ///
     /// # Errors
     ///
-    /// `Full` where there are so many call sites already; `TooDeep` of a target that is deeper than 64 or has more than 255 parts; then
-    /// the first fault of the target's parts, a guard before its parts and the first part before the fallback: `UnknownSwitch`
-    /// of a guard, `UnknownMethod`, `NotStatic` and `WrongType` (WrongMethodTypeException) of a method, and `InvokerOrder`,
-    /// `UnknownCallSite` and `WrongType` of an invoker; else want of memory. Nothing has changed then.
+    /// The first of these. Nothing has changed then.
+    ///
+    /// - `Full`: there are so many call sites already.
+    /// - `TooDeep`: the target is deeper than 64, or has more than 255 parts.
+    /// - The first fault of the target's parts. A guard comes before its parts, and the first part before the fallback.
+    ///   - Of a guard: `UnknownSwitch`.
+    ///   - Of a method: `UnknownMethod`, `NotStatic`, `WrongType` (WrongMethodTypeException).
+    ///   - Of an invoker: `InvokerOrder`, `UnknownCallSite`, `WrongType`.
+    /// - Want of memory.
     pub fn new_site(
         &mut self,
         classes: &Classes,
@@ -58,8 +62,11 @@ impl Sites {
     ///
     /// # Errors
     ///
-    /// `UnknownCallSite`; `Constant` of a call site that keeps its target (UnsupportedOperationException), before the target is
-    /// looked at; then the faults of a target, as of a new call site. Nothing has changed then.
+    /// The first of these. Nothing has changed then.
+    ///
+    /// - `UnknownCallSite`.
+    /// - `Constant`: the call site keeps its target (UnsupportedOperationException).
+    /// - The faults of a target, as in [`new_site`](Sites::new_site).
     pub fn set_target(
         &mut self,
         classes: &Classes,
@@ -81,11 +88,11 @@ impl Sites {
         Ok(())
     }
 
-    /// A new switch point, which is valid, by its number (java.lang.invoke.SwitchPoint).
+    /// Adds a switch point, which is valid (java.lang.invoke.SwitchPoint).
     ///
     /// # Errors
     ///
-    /// `Full` where there are so many already, else want of memory. Nothing has changed then.
+    /// `Full` if there are so many already, else want of memory. Nothing has changed then.
     pub fn new_switch(&mut self, most_switches: u32) -> Result<SwitchId, OrMemory<CallSiteFault>>
         requires { most_switches ≤ 2 ^ 20 }
         ensures accepted { OnOk result (faults.new_switch_fault most_switches self.old ≡ None) }
@@ -102,12 +109,12 @@ impl Sites {
         Ok(self.add_switch()?)
     }
 
-    /// The switch points are invalid from now on, for good (SwitchPoint.invalidateAll). None at all, one that is invalid
-    /// already and one that comes twice are accepted. Takes no memory.
+    /// The switch points are invalid from now on, for good (SwitchPoint.invalidateAll). The list may be empty, and a switch point in
+    /// it may be invalid already or come twice. Takes no memory.
     ///
     /// # Errors
     ///
-    /// `UnknownSwitch` where one of them isn't there or is released. Nothing has changed then.
+    /// `UnknownSwitch` if one of them isn't there or is released. Nothing has changed then.
     pub fn invalidate_all(&mut self, points: &[SwitchId]) -> Result<(), CallSiteFault>
         ensures accepted { OnOk result (faults.invalidate_fault self.old points.now ≡ None) }
         ensures ok { OnOk result (self.new ≡ faults.with_invalid self.old points.now) }
@@ -130,8 +137,8 @@ impl Sites {
         invalidate(self.switches.as_mut_slice(), points);
     }
 
-    /// The call site, which is there, runs this target from now on, whose switch points are there and which invokes earlier call
-    /// sites alone: the second half of [`set_target`](Sites::set_target). Takes no memory.
+    /// The call site, which is there, runs this target from now on: the second half of [`set_target`](Sites::set_target). The
+    /// target's switch points are there, and it invokes only earlier call sites. Takes no memory.
     pub fn put_target(&mut self, site: CallSiteId, target: Target)
         requires there { is_missing self.old.call_sites site ≡ false }
         requires known { is_known (length self.old.switches) site target ≡ true }
@@ -142,8 +149,8 @@ impl Sites {
         retarget_in(&mut self.call_sites, site, target);
     }
 
-    /// A new call site, by its number, where there are fewer than there may be, and whose target's switch points and invoked call
-    /// sites are there: the second half of [`new_site`](Sites::new_site).
+    /// Adds a call site: the second half of [`new_site`](Sites::new_site). There are fewer than there may be, and the target's
+    /// switch points and invoked call sites are there.
     ///
     /// # Errors
     ///
@@ -166,8 +173,7 @@ impl Sites {
         Ok(site)
     }
 
-    /// A new switch point, which is valid, by its number, where there are fewer than there may be: the second half of
-    /// [`new_switch`](Sites::new_switch).
+    /// Adds a switch point, which is valid: the second half of [`new_switch`](Sites::new_switch). There are fewer than there may be.
     ///
     /// # Errors
     ///
@@ -193,7 +199,7 @@ fn retarget_in(call_sites: &mut Vec<Option<CallSite>>, site: CallSiteId, target:
     retarget(call_sites.as_mut_slice(), site, target);
 }
 
-/// The same in a slice.
+/// In the slice of all call sites, the one of this number, which is there, runs this target from now on.
 fn retarget(call_sites: &mut [Option<CallSite>], site: CallSiteId, target: Target)
     requires { is_missing call_sites.old site ≡ false }
     ensures { call_sites.new ≡ events.retargeted call_sites.old site target }

@@ -8,7 +8,7 @@ use jl_types::{Part, Target};
 use std::alloc::{AllocError, Global};
 
 impl Sites {
-    /// The same call sites and switch points once more. Want of memory is an error.
+    /// A copy of the call sites and switch points.
     pub fn copy(&self, alloc: Global) -> Result<Sites, AllocError>
         ensures { IfOk result (λ copy. copy ≡ self.now) }
     {
@@ -19,7 +19,7 @@ impl Sites {
     }
 }
 
-/// The same call sites once more. Want of memory is an error.
+/// A copy of the call sites.
 fn copy_call_sites(
     alloc: Global,
     call_sites: &[Option<CallSite>],
@@ -33,7 +33,7 @@ fn copy_call_sites(
     Ok(made)
 }
 
-/// The same call site once more, unless it is released. Want of memory is an error.
+/// A copy of the call site, unless it is released.
 fn copy_row(alloc: Global, row: &Option<CallSite>) -> Result<Option<CallSite>, AllocError>
     ensures { IfOk result (λ copy. copy ≡ row.now) }
 {
@@ -43,8 +43,7 @@ fn copy_row(alloc: Global, row: &Option<CallSite>) -> Result<Option<CallSite>, A
     }
 }
 
-/// The same target once more. Want of memory is an error. It goes as deep as the target, and no call site has one that is
-/// deeper than 64.
+/// A copy of the target. It recurses as deep as the target, and no call site has one that is deeper than 64.
 pub fn copy_target(alloc: Global, target: &Target) -> Result<Target, AllocError>
     ensures { IfOk result (λ copy. copy ≡ target.now) }
 {

@@ -21,8 +21,8 @@ pub fn discard_target(target: Target) {
     }
 }
 
-/// What is left of a guard of these parts: the fallback where the first part is no guard; else the first part's own first one
-/// before all that comes behind it.
+/// What is left of a guard of these parts. If the first part is no guard, that is the fallback. Else it is the guard of the first
+/// part, with its own first part, and with a guard of all the others as its fallback.
 fn turned(point: SwitchId, first: Box<Target>, fallback: Box<Target>) -> Target
     ensures { turns_left result < 2 * turns_left first.value + turns_left fallback.value + 1 }
 {

@@ -27,9 +27,11 @@ impl Sites {
         self.evaluated(site, self.call_site_at(site)?.target())
     }
 
-    /// The method that the target, as one of this call site, stands for now: at a guard the first part's while its switch point is
-    /// valid, and then the fallback's; at an invoker what that call site runs, which has to come before this one. It goes down one
-    /// path of each target, and takes no memory.
+    /// The method that the target, as one of this call site, stands for now. It goes down one path of each target. Takes no memory.
+    ///
+    /// - A method stands for itself.
+    /// - A guard stands for what its first part does while its switch point is valid, and then for what its fallback does.
+    /// - An invoker stands for what its call site runs, which has to come before this one.
     pub fn evaluated(&self, site: CallSiteId, target: &Target) -> Option<MethodId>
         ensures { result ≡ targets.evaluated self.now site target.now }
     {

@@ -14,8 +14,7 @@ ghost use Rattle.jl_types.specs.Linkage.Stages.{by_binding, by_operand, bound_to
 ghost use Rattle.jl_callsites.specs.Faults as faults;
 ghost use Rattle.jl_callsites.specs.Laws.{ComesTo, Releases};
 
-/// What the events of call sites and switch points come to at a world: the changes of its classes and sites, whatever else is
-/// in it.
+/// What the events of call sites and switch points do at a world: the changes of its classes and sites, whatever else is in it.
 pub fn events_of_call_sites()
     ensures new_site { (limits : Limits) (w : World) (kind : CallSiteKind) (ty : List ℕ) (t : Target)
         → ComesTo limits w (event.NewCallSite kind ty t) (faults.new_site_fault limits.call_sites w.classes w.sites ty t)
@@ -32,7 +31,7 @@ pub fn events_of_call_sites()
     ensures release { (limits : Limits) (w : World) (call_sites points : List ℕ) → Releases limits w call_sites points }
 {}
 
-/// An invokedynamic runs what the call site runs to which it is bound (JVMS SE 17 §6.5).
+/// An invokedynamic runs what its call site runs (JVMS SE 17 §6.5).
 pub fn bound_sites_run()
     ensures { (w : World) (s d : ℕ) (kind : Kind) (specifier : CallSiteSpecifier (List ℕ)) → by_operand w s d kind (operand.CallSite specifier)
         ≡ by_binding w.sites (bound_to w s) }

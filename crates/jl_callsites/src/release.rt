@@ -13,10 +13,14 @@ use jl_types::{CallSiteId, Part, ReleaseFault, SwitchId, Target};
 use std::alloc::{AllocError, Global};
 
 impl Sites {
-    /// Why these call sites and switch points aren't let go: a call site of the list that isn't there or is released; such a switch
-    /// point; then the least call site that stays and invokes one of the call sites; then the least one that stays and guards by one of
-    /// the switch points. Where nothing speaks against it, it is one walk over all targets, unless memory lacks for a mark of
-    /// each number.
+    /// Why these call sites and switch points aren't let go. It is the first of these that there is:
+    ///
+    /// - a call site of the list that isn't there or is released
+    /// - a switch point of the list that isn't there or is released
+    /// - the least call site that stays and invokes one of the call sites
+    /// - the least call site that stays and guards by one of the switch points
+    ///
+    /// If nothing speaks against it, it is one walk over all targets, unless there is no memory for a mark of each number.
     pub fn release_fault(
         &self,
         alloc: Global,
@@ -104,8 +108,7 @@ impl Sites {
         }
     }
 
-    /// The number of the least call site that stays and needs one of the call sites or of the switch points, all of which are there. Want
-    /// of memory is an error.
+    /// The number of the least call site that stays and needs one of the call sites or of the switch points, all of which are there.
     fn first_needing(
         &self,
         alloc: Global,
@@ -220,7 +223,7 @@ fn is_marked(marks: &[bool], number: u32) -> bool
     }
 }
 
-/// A mark for each of so many call sites: whether it is listed. Want of memory is an error.
+/// A mark for each of so many call sites: whether it is listed.
 fn marked_sites(alloc: Global, count: usize, listed: &[CallSiteId]) -> Result<Vec<bool>, AllocError>
     requires { list_any (nat_le count) listed.now ≡ false }
     ensures { IfOk result (λ marks. marks.items ≡ marking.marked count listed.now) }
@@ -240,7 +243,7 @@ fn mark_sites(marks: &mut [bool], listed: &[CallSiteId])
     }
 }
 
-/// A mark for each of so many switch points: whether it is listed. Want of memory is an error.
+/// A mark for each of so many switch points: whether it is listed.
 fn marked_switches(
     alloc: Global,
     count: usize,
@@ -280,7 +283,7 @@ fn release_switches_in(rows: &mut Vec<Option<bool>>, going: &[SwitchId])
     release_switches(rows.as_mut_slice(), going);
 }
 
-/// The same in a slice.
+/// In the slice of all call sites, these are let go.
 fn release_sites(rows: &mut [Option<CallSite>], going: &[CallSiteId])
     requires { list_any (nat_le (length rows.old)) going.now ≡ false }
     ensures { rows.new ≡ release.without rows.old going.now }
@@ -290,7 +293,7 @@ fn release_sites(rows: &mut [Option<CallSite>], going: &[CallSiteId])
     }
 }
 
-/// The same in a slice.
+/// In the slice of all switch points, these are let go.
 fn release_switches(rows: &mut [Option<bool>], going: &[SwitchId])
     requires { list_any (nat_le (length rows.old)) going.now ≡ false }
     ensures { rows.new ≡ release.without rows.old going.now }

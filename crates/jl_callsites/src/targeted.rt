@@ -31,7 +31,7 @@ impl Sites {
         !self.targets_any(classes, leaving)
     }
 
-    /// Whether some target names one.
+    /// Whether some target names a method of a class of one of the loaders.
     fn targets_any(&self, classes: &Classes, leaving: &Leaving) -> bool
         ensures { result ≡ list_any (has_target (names_any classes.now leaving.now)) self.now.call_sites }
     {
@@ -41,7 +41,7 @@ impl Sites {
             .any(|row| row_names_any(classes, leaving, row))
     }
 
-    /// Its place.
+    /// The place of the least call site whose target names a method of one of the loader's classes.
     fn first_targeted(&self, classes: &Classes, loader: LoaderId) -> Option<usize>
         ensures first { result ≡ retirement.targeted classes.now self.now.call_sites loader }
         ensures few { IfSome result (λ place. place < 2 ^ 20) }

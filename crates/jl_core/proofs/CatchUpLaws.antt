@@ -1,10 +1,11 @@
 -- An instance that is one event behind another one, and what it is once the event was replayed.
-use Rattle.std.specs.Prelude.{◌≡◌, ℕ, zero, suc, ◌+◌, ◌≤◌, ◌&&◌, Bool, true, false, List, [], ◌∷◌, ◌++◌, map, take, length}
+use Rattle.std.specs.Prelude.{◌≡◌, ℕ, zero, suc, ◌+◌, ◌≤◌, true, List, [], ◌∷◌, ◌++◌, map, take, length}
 use Rattle.std.specs.Prelude.{slice_get, Option, Some, None, option_map, is_some, IsOk, Ok, if◌then◌else◌}
 use Rattle.std.specs.List.{cons_option, list_all}
 use Rattle.std.proofs.Common.{refl, ap, sym, subst, ◌∙◌, arith}
 use Rattle.std.proofs.lemmas.List.{map-append}
 use Rattle.std.proofs.lemmas.Option.{same_Some}
+use Rattle.std.proofs.lemmas.Bool.{and_parts}
 use Rattle.jl_types.specs.declared.limits.Limits.{Limits}
 use Rattle.jl_types.specs.Events.Limits.{AreAllowed, IsWithin}
 use Rattle.jl_types.specs.declared.link.Link.{Link}
@@ -35,15 +36,11 @@ use Rattle.jl_core.proofs.HistoryLaws.{core_of, IsExact, exact_links, shown_furt
 
 -- ---- what an entry tells
 
-both : (a b : Bool) → (a && b) ≡ true → (a ≡ true) × (b ≡ true)
-both true b e = (refl, e)
-both false b e = cc
-
 pub told_at : (rows : List Class) (log : List Entry) (n : ℕ) (entry : Entry) → are_told rows log ≡ true → slice_get log n ≡ Some entry
     → (p : Event × Reply) × (told rows entry ≡ Some p) × (slice_get (shown rows log) n ≡ Some p)
 told_at rows [] n entry all at = absurd (cc at)
 told_at rows (one ∷ log) n entry all at =
-    let parts = both (is_some (told rows one)) (are_told rows log) all in
+    let parts = and_parts (is_some (told rows one)) (are_told rows log) all in
     by_first n (told rows one) refl parts.0 (λ k. told_at rows log k entry parts.1) at
   where
     by_first : (n : ℕ) (o : Option (Event × Reply)) → told rows one ≡ o → is_some o ≡ true

@@ -1,4 +1,4 @@
--- the links and the index behind an event
+-- the links and the index after an event
 pub mod KeptLaws
 pub mod InstallLaws
 pub mod GivenLaws

@@ -1,9 +1,10 @@
 -- A log tells the same as classes are added, and one entry more tells one event more.
-use Rattle.std.specs.Prelude.{◌≡◌, ℕ, suc, ◌&&◌, Bool, true, false, List, [], ◌∷◌, ◌++◌, length, slice_get, Option, Some, None, option_map, is_some}
+use Rattle.std.specs.Prelude.{◌≡◌, ℕ, suc, ◌&&◌, Bool, true, List, [], ◌∷◌, ◌++◌, length, slice_get, Option, Some, None, option_map, is_some}
 use Rattle.std.specs.List.{cons_option}
 use Rattle.std.proofs.Common.{refl, ap, ◌∙◌}
 use Rattle.std.proofs.lemmas.List.Elements.{filter_map-append}
 use Rattle.std.proofs.lemmas.List.Folds.{list_all-append}
+use Rattle.std.proofs.lemmas.Bool.{and_parts}
 use Rattle.jl_types.specs.Events.Event.{Event}
 use Rattle.jl_types.specs.declared.event.Reply.{Reply}
 use Rattle.jl_types.specs.Values.World.{Class}
@@ -23,14 +24,10 @@ module _ (rows more : List Class) (stay : (c : ℕ) (row : Class) → slice_get 
       ap (λ (o : Option Event). option_map (λ (x : Event). (x, entry.reply)) o)
       (event_still rows more stay entry.event (some_event (event_of rows entry.event) entry.reply e))
 
-  both : (a b : Bool) → (a && b) ≡ true → (a ≡ true) × (b ≡ true)
-  both true b e = (refl, e)
-  both false b e = cc
-
   pub all_still : (entries : List Entry) → are_told rows entries ≡ true → (are_told more entries ≡ true) × (shown more entries ≡ shown rows entries)
   all_still [] e = (refl, refl)
   all_still (entry ∷ entries) e =
-      let parts = both (is_some (told rows entry)) (are_told rows entries) e in
+      let parts = and_parts (is_some (told rows entry)) (are_told rows entries) e in
       let here = told_still entry parts.0 in
       let rest = all_still entries parts.1 in (
         (λ i. is_some (here i) && rest.0 i) ∙ ap (λ (b : Bool). b && true) parts.0,

@@ -1,4 +1,4 @@
--- What an install of links that are made at once comes to.
+-- What an install of links does that are looked up at once.
 use Rattle.std.specs.Prelude.{◌≡◌, ℕ, List, None}
 use Rattle.jl_types.specs.declared.link.Link.{Link}
 use Rattle.jl_types.specs.declared.event.EventOf.TheVariants as event

@@ -14,13 +14,13 @@ pub record Entry : Type 0 where
   pub event : Accepted
   pub reply : Reply
 
--- a definition or a delegation, by which a loader comes to know a class
+-- a definition or a delegation, by which a loader records a class
 abbrev pub tells_classes : Accepted → Bool
 tells_classes (event.Define loader c) = true
 tells_classes (event.Delegate loader name to) = true
 tells_classes _ = false
 
--- where a log forgets what is past, it keeps these: no world tells in which order they came
+-- when a log forgets what is past, it keeps these: no world tells in which order they came
 abbrev pub is_kept : Entry → Bool
 is_kept entry = tells_classes entry.event
 

@@ -1,5 +1,5 @@
--- A core as its callers see it: the events that it accepted, each with its reply. What there is to link and which links are
--- installed (polymorphic inline caches: Hölzle, Chambers and Ungar 1991) is what these events come to.
+-- A core as its callers see it: the events that it accepted, each with its reply. What there is to link, and which links are
+-- installed (polymorphic inline caches: Hölzle, Chambers and Ungar 1991), follows from these events.
 use Rattle.std.specs.Prelude.{◌≡◌, ◌⊎◌, ℕ, List, [], ◌∷◌, ◌++◌, map, take, slice_get, Some, Result, Ok, Err, IsOk}
 use Rattle.jl_types.specs.declared.limits.Limits.{Limits}
 use Rattle.jl_types.specs.declared.link.Link.{Link}
@@ -40,7 +40,7 @@ AreAnswered core = (n : ℕ) (e : Event) (reply : Reply) → slice_get core.log 
 
 -- ---- one event
 
--- why an event is refused: for the verdict's refusal, or, where it accepts, for want of memory
+-- why an event is refused: for the verdict's refusal, or, if it accepts, for want of memory
 abbrev pub IsRefused : Result Made Refusal → Refusal → Type 0
 IsRefused made r = (made ≡ Err r) ⊎ ((r ≡ Memory) × IsOk made)
 
@@ -51,7 +51,7 @@ pub record IsAccepted (old new : State) (e : Event) (reply : Reply) : Type 0 whe
   pub logged : new ≡ record old { log = old.log ++ (e, reply) ∷ [] }
   pub constant : IsConstant (world_of old).classes (world_of new).classes
 
--- What an event does, by its answer: where it is refused, the core is as before.
+-- What an event does, by its answer. If it is refused, the core is as before.
 abbrev pub IsApplied : State → Event → Result Reply Refusal → State → Type 0
 IsApplied old e (Ok reply) new = IsAccepted old new e reply
 IsApplied old e (Err r) new = IsRefused (verdict old.limits (world_of old) e) r × (new ≡ old)

@@ -1,5 +1,5 @@
-//! An accepted event once more, in an instance that is behind. It is not judged again, nothing is evaluated, and no footprint is
-//! looked up: what the event changed is taken over from the instance ahead.
+//! An accepted event in an instance that is one event behind another one. It is not judged again, nothing is evaluated, and no
+//! footprint is looked up: what the event changed is taken over from the instance ahead.
 
 ghost use Rattle.std.specs.Prelude.{◌≡◌, ◌<◌, ◌^◌, ◌++◌, ◌∷◌, [], ℕ, false, Some, None, length, IfOk, OnOk, if◌then◌else◌};
 ghost use Rattle.jl_types.specs.Events.Event.{Event};
@@ -30,8 +30,8 @@ use std::alloc::{AllocError, Global};
 use std::slice::from_ref;
 use std::sync::Arc;
 
-/// The world, the links, their index and the log come after the entry, the last one of those ahead. Want of memory is an error; what
-/// is there is of no use then.
+/// Brings the world, the links, their index and the log up to date with the entry, the last one of those ahead. Want of memory is an
+/// error; what is there is of no use then.
 pub(crate) fn catch_up(
     world: &mut Arc<World>,
     links: &mut Cache,
@@ -67,9 +67,9 @@ pub(crate) fn catch_up(
     Ok(())
 }
 
-/// The links and their index come after the entry's event, which leads from the one world to the one ahead. What links rest on stays
-/// where a class was defined, so that the links that it dropped are all that is looked at then. Want of memory is an error; what is there
-/// is of no use then.
+/// Brings the links and their index up to date with the entry's event, which leads from the one world to the one ahead. If a class was
+/// defined, what links rest on stays, so only the links that the event dropped are looked at. On an error what is there
+/// is of no use.
 fn catch_up_links(
     alloc: Global,
     world: &World,
@@ -105,7 +105,8 @@ fn catch_up_links(
     }
 }
 
-/// The same for any event, at each site that it touches.
+/// Brings the links and their index up to date with any event, at each site that it touches. On an error what is there is
+/// of no use.
 fn catch_up_touched(
     alloc: Global,
     world: &World,
@@ -136,7 +137,7 @@ fn catch_up_touched(
     Ok(())
 }
 
-/// Where the event retires loaders, the sites in their classes have no links and no footprints any more. Want of memory is an error.
+/// If the event retires loaders, the sites in their classes have no links and no footprints any more.
 fn forget_retired(
     alloc: Global,
     world: &World,
@@ -163,7 +164,7 @@ fn forget_retired(
     }
 }
 
-/// The sites in the classes of the loaders have no links and no footprints any more. Want of memory is an error.
+/// The sites in the classes of the loaders have no links and no footprints any more.
 fn forget_sites_of(
     alloc: Global,
     world: &World,
@@ -184,7 +185,7 @@ fn forget_sites_of(
     Ok(())
 }
 
-/// The sites whose links and footprints the event may change. Want of memory is an error.
+/// The sites whose links and footprints the event may change.
 fn changed_sites(
     alloc: Global,
     world: &World,
@@ -209,7 +210,7 @@ fn changed_sites(
     }
 }
 
-/// What the event changes of what links rest on. Want of memory is an error.
+/// What the event changes of what links rest on.
 fn keys_told(
     alloc: Global,
     world: &World,

@@ -16,14 +16,14 @@ pub trait EventMachine {
     ///
     /// # Errors
     ///
-    /// The first refusal; want of memory where there is none. What a clause sees has not changed then.
+    /// The first refusal, or want of memory if there is none. What a clause sees has not changed then.
     fn accept(&mut self, alloc: Global, event: Event) -> Result<Reply, Refusal>
         ensures accepted { IfOk result (IsAccepted (state self.old) (state self.new) event) }
         ensures refused { IfErr result (IsRefused (verdict (state self.old).limits (world_of (state self.old)) event)) }
         ensures unchanged { OnErr result (state self.new ≡ state self.old) };
 
-    /// The same for an event of which the caller knows that it is accepted: it isn't judged, so that of an install no link is looked up.
-    /// Want of memory is the only error, and what a clause sees has not changed then.
+    /// Applies an event of which the caller knows that it is accepted, and answers the reply. The event isn't judged, so for an install no
+    /// link is looked up. Want of memory is the only error, and what a clause sees has not changed then.
     fn accept_judged(&mut self, alloc: Global, event: Event) -> Result<Reply, AllocError>
         requires { IsOk (verdict (state self.old).limits (world_of (state self.old)) event) }
         ensures accepted { IfOk result (IsAccepted (state self.old) (state self.new) event) }

@@ -82,7 +82,7 @@ impl Model for Instance {
 }
 
 impl Instance {
-    /// One of no events. Want of memory is an error.
+    /// One of no events.
     pub(crate) fn new(alloc: Global, limits: Limits) -> Result<Self, AllocError>
         requires { AreAllowed limits }
         ensures { IfOk result (λ instance. instance ≡ empty_core limits) }
@@ -96,7 +96,7 @@ impl Instance {
         })
     }
 
-    /// The same once more, with the same world, which both share until one of them is to change it. Want of memory is an error.
+    /// A copy of the instance. Both share the world until one of them is to change it.
     pub(crate) fn copy(&self, alloc: Global) -> Result<Self, AllocError>
         ensures { IfOk result (λ copy. copy ≡ self.now) }
     {
@@ -109,7 +109,7 @@ impl Instance {
         })
     }
 
-    /// The event once more, if it is accepted, and what it takes to tell.
+    /// The event itself, if it is accepted. The work that it takes to tell is counted.
     ///
     /// # Errors
     ///
@@ -128,8 +128,7 @@ impl Instance {
         judged(alloc, &self.world, self.limits, event, work)
     }
 
-    /// The instance after the accepted event, with its reply; and counts what that takes. Want of memory is an error; the instance is
-    /// gone then.
+    /// The instance after the accepted event, with the reply. The work is counted. On an error the instance is gone.
     pub(crate) fn perform(
         self,
         alloc: Global,
@@ -166,7 +165,7 @@ impl Instance {
         Ok((next, reply))
     }
 
-    /// Comes after the other one, which is one event ahead or none. Want of memory is an error; the instance is gone then.
+    /// Takes over the last event of the other one, which is one event ahead or none. On an error the instance is gone.
     pub(crate) fn catch_up(self, alloc: Global, ahead: &Instance) -> Result<Instance, AllocError>
         requires { IsBehind self ahead.now }
         ensures { IfOk result (λ next. next ≡ ahead.now) }

@@ -11,8 +11,8 @@ ghost use Rattle.jl_types.specs.Events.History.{Settled};
 ghost use Rattle.jl_core.specs.State.{State, empty_core, events, world_of, links_of};
 ghost use Rattle.jl_core.specs.Headline.{AreApplied};
 
-/// The installed links are exactly those that linking every requested site that isn't pending gives from scratch in the present
-/// world, where a site is pending until it is settled. After any events, each accepted one was answered as those before it say.
+/// The installed links are exactly those from scratch, in the present world, of all requested sites that aren't pending. A site is
+/// pending until it is settled. After any events, each accepted one was answered as those before it say.
 pub fn links_are_exact()
     ensures links { (core : State) (s : ℕ) (l : Link)
         → Contains (links_of core) (s, l)

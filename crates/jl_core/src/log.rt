@@ -124,7 +124,7 @@ impl<'a> EntryEvent<'a> {
 }
 
 impl Entry {
-    /// An entry of this event with its reply. Want of memory is an error.
+    /// An entry of this event with its reply.
     pub(crate) fn new(alloc: Global, event: Accepted, reply: Reply) -> Result<Entry, AllocError>
         ensures { IfOk result (λ entry. entry ≡ record { event = event; reply = reply }) }
     {
@@ -185,7 +185,7 @@ fn plain_request(event: &Accepted, reply: &Reply) -> Option<(Place, SiteNo)>
     }
 }
 
-/// Definitions and delegations are kept where a log forgets: no world tells in which order loaders came to know classes.
+/// Definitions and delegations are kept when a log forgets: no world tells in which order loaders recorded classes.
 impl Keep for Entry {
     ghost use Rattle.jl_core.specs.Logs.{is_kept};
 
@@ -217,7 +217,7 @@ fn tells_classes(event: &Accepted) -> bool
     }
 }
 
-/// An entry is not copied. It is an error where it can count no more owners.
+/// An entry is not copied but shared. It is an error if it can count no more owners.
 impl Share for Entry {
     fn share(&self) -> Result<Entry, AllocError> {
         let kept = match &self.kept {
@@ -228,7 +228,7 @@ impl Share for Entry {
     }
 }
 
-/// The same entries once more, which both share. Want of memory is an error.
+/// A second list of the entries. Both lists share them.
 pub fn share_log(alloc: Global, log: &[Entry]) -> Result<Vec<Entry>, AllocError>
     ensures { IfOk result (λ copy. copy.items ≡ log.now) }
 {

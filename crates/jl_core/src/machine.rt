@@ -31,12 +31,12 @@ use std::alloc::{AllocError, Global};
 use std::marker::Model;
 use std::mem;
 
-/// The accepted events, each with its reply. A clause sees these, and how many sites there may be; what there is to link and which
-/// links are installed is what the events come to.
+/// The accepted events, each with its reply. A clause sees these and the limits. What there is to link, and which links are installed,
+/// follows from the events.
 ///
-/// Once an event was planned there is a second instance of all that is kept, which lacks one event at most, so that the next plan has
-/// where to make the event without a change of the core. Want of memory loses it, and so does a plan that is dropped; the next plan
-/// then copies what the core keeps.
+/// Once an event was planned, there is a second instance of all that is kept, at most one event behind. The next plan makes its event
+/// there, without a change of the core. Want of memory loses the second instance, and so does a plan that is dropped. The next plan then
+/// copies what the core keeps.
 pub struct Core {
     present: Instance,
     next: Option<Instance>,
@@ -74,7 +74,7 @@ impl Model for Core {
 
 impl Core {
     /// A core that has accepted no event, with the limits of the programs: so many places may be requested, and there may be 1,024
-    /// loaders, and 65,536 classes, call sites and switch points. Want of memory is an error.
+    /// loaders, and 65,536 classes, call sites and switch points.
     pub fn new(alloc: Global, max_sites: u32) -> Result<Self, AllocError>
         requires some { 1 ≤ max_sites }
         ensures { IfOk result (λ core. core ≡ empty_core (fixed max_sites)) }
@@ -82,8 +82,7 @@ impl Core {
         Core::with_limits(alloc, Limits::fixed(max_sites))
     }
 
-    /// A core that has accepted no event, with limits of its own: it has no classes, no requested places and no links. Want of memory
-    /// is an error.
+    /// A core that has accepted no event, with limits of its own: it has no classes, no requested places and no links.
     pub fn with_limits(alloc: Global, limits: Limits) -> Result<Self, AllocError>
         requires { AreAllowed limits }
         ensures { IfOk result (λ core. core ≡ empty_core limits) }
@@ -108,7 +107,7 @@ impl Core {
     ///
     /// # Errors
     ///
-    /// The first refusal; want of memory where there is none. Nothing has changed then.
+    /// The first refusal, or want of memory if there is none. Nothing has changed then.
     pub fn apply(&mut self, alloc: Global, event: Event) -> Result<Reply, Refusal>
         ensures accepted { IfOk result (IsAccepted self.old self.new event) }
         ensures refused { IfErr result (IsRefused (verdict self.old.limits (world_of self.old) event)) }
@@ -121,9 +120,9 @@ impl Core {
         Ok(reply)
     }
 
-    /// As [`apply`](Core::apply), for an event of which the caller knows that it is accepted: it isn't judged, so that of an install no link
-    /// is looked up. Want of memory is the only error, and nothing has changed then. What the change itself took is what
-    /// [`last_work`](Core::last_work) tells: of an install nothing.
+    /// Does what [`apply`](Core::apply) does, for an event of which the caller knows that it is accepted. It isn't judged, so for an
+    /// install no link is looked up. Want of memory is the only error, and nothing has changed then. [`last_work`](Core::last_work) tells
+    /// what the change itself took, which is nothing for an install.
     pub fn apply_judged(&mut self, alloc: Global, event: Event) -> Result<Reply, AllocError>
         requires { IsOk (verdict self.old.limits (world_of self.old) event) }
         ensures accepted { IfOk result (IsAccepted self.old self.new event) }
@@ -135,9 +134,9 @@ impl Core {
         Ok(reply)
     }
 
-    /// Looks up the links of these sites from scratch, and installs them: what is prepared by [`prepare`](Core::prepare) and installed by
-    /// [`apply`](Core::apply), but each link is looked up once, since what was prepared in the same world is accepted. What that took is
-    /// what [`last_work`](Core::last_work) tells.
+    /// Looks up the links of these sites from scratch, and installs them. It does what [`prepare`](Core::prepare) and then
+    /// [`apply`](Core::apply) do, but looks up each link once, since what was prepared in the same world is accepted.
+    /// [`last_work`](Core::last_work) tells what that took.
     ///
     /// # Errors
     ///
@@ -159,9 +158,9 @@ impl Core {
         }
     }
 
-    /// The second instance, if there is none or it lacks the last event, comes to be as the core is, so that the next event doesn't pay for
-    /// the last one: a host calls this when it waits. No clause sees a change. Want of memory is an error, and the next event copies what
-    /// the core keeps then.
+    /// Makes the second instance equal to the core, if there is none or it is one event behind. Then the next event doesn't pay for the
+    /// last one: a host calls this when it waits. No clause sees a change. On an error the next event copies what the core
+    /// keeps.
     pub fn catch_up(&mut self, alloc: Global) -> Result<(), AllocError>
         ensures { self.new ≡ self.old }
     {
@@ -176,7 +175,7 @@ impl Core {
     ///
     /// # Errors
     ///
-    /// The first refusal; want of memory where there is none.
+    /// The first refusal, or want of memory if there is none.
     pub fn plan(&mut self, alloc: Global, event: Event) -> Result<Planned, Refusal>
         ensures planned { IfOk result (IsPlanned self.old event) }
         ensures refused { IfErr result (IsRefused (verdict self.old.limits (world_of self.old) event)) }
@@ -186,8 +185,8 @@ impl Core {
         self.plan_counted(alloc, event, &mut work)
     }
 
-    /// As [`plan`](Core::plan), and counts the selections, special searches and evaluations of call sites that it takes: no more than the
-    /// event may take where it is accepted, and those of a refused event, too.
+    /// Does what [`plan`](Core::plan) does, and counts the selections, special searches and evaluations of call sites that it takes. An
+    /// accepted event takes no more than it may. Those of a refused event are counted, too.
     ///
     /// # Errors
     ///
@@ -210,8 +209,8 @@ impl Core {
         Ok(planned)
     }
 
-    /// The first half of [`apply`](Core::apply) for an event of which the caller knows that it is accepted: as
-    /// [`plan`](Core::plan), but the event isn't judged, so that of an install no link is looked up. Want of memory is the only
+    /// The first half of [`apply`](Core::apply) for an event of which the caller knows that it is accepted. It does what
+    /// [`plan`](Core::plan) does, but the event isn't judged, so for an install no link is looked up. Want of memory is the only
     /// error.
     pub fn plan_judged(&mut self, alloc: Global, event: Event) -> Result<Planned, AllocError>
         requires { IsOk (verdict self.old.limits (world_of self.old) event) }
@@ -222,7 +221,7 @@ impl Core {
         self.plan_accepted(alloc, event, &mut work)
     }
 
-    /// Plans an event that is accepted, and counts what that takes beside what it took to judge it. Want of memory is an error.
+    /// Plans an event that is accepted, and counts what that takes beside what it took to judge it.
     fn plan_accepted(
         &mut self,
         alloc: Global,
@@ -240,8 +239,8 @@ impl Core {
         Planned::new(alloc, &self.present, next, reply, work.ticks())
     }
 
-    /// The second instance after an event that is accepted, with its reply; and counts what that takes beside what it took to judge the
-    /// event. Want of memory is an error.
+    /// The second instance after an event that is accepted, with its reply. It counts what that takes beside what it took to judge the
+    /// event.
     fn perform_next(
         &mut self,
         alloc: Global,
@@ -261,7 +260,7 @@ impl Core {
         Ok((after, reply))
     }
 
-    /// The second half of [`apply`](Core::apply): the core is as the plan left it, and comes to be what it was planned to be.
+    /// The second half of [`apply`](Core::apply): the core, which is as the plan left it, becomes what it was planned to be.
     /// Takes no memory.
     pub fn commit(&mut self, planned: Planned) -> Reply
         requires { IsAsPlanned self.old planned }
@@ -273,7 +272,7 @@ impl Core {
         reply
     }
 
-    /// The core comes to be this instance, to which one event has led that took so much work. Takes no memory.
+    /// The core becomes this instance, to which one event of so much work has led. Takes no memory.
     fn come_to(&mut self, after: Instance, work: u64)
         requires after { (e : Event) × (reply : Reply) × IsAccepted self.old after e reply }
         requires work { work ≤ most_of_last (events after) }
@@ -284,7 +283,7 @@ impl Core {
         self.last_work = work;
     }
 
-    /// The second instance, which is as the core is. Want of memory is an error.
+    /// The second instance, which is as the core is.
     fn take_next(&mut self, alloc: Global) -> Result<Instance, AllocError>
         ensures next { IfOk result (λ next. next ≡ self.old) }
         ensures unchanged { self.new ≡ self.old }
@@ -296,8 +295,8 @@ impl Core {
     }
 
     /// How many selections, special searches and evaluations of call sites the last accepted event took. A selection counts one for each
-    /// receiver that is looked at, and one where no receiver has to be, since no subclass redeclares the method. A refused event and a
-    /// plan that was dropped leave it. Takes no memory.
+    /// receiver that is looked at. It counts one also if no receiver has to be looked at, since no subclass redeclares the method. A
+    /// refused event and a plan that was dropped leave the count. Takes no memory.
     pub fn last_work(&self) -> u64
         ensures { result ≤ most_of_last (events self.now) }
     {
@@ -336,8 +335,8 @@ impl Core {
     }
 
     /// The accepted events in order, each with its reply, which is what the events before it say. An entry of a definition names its
-    /// class, which has the loader and the file: one that was there once the event was accepted. Each class file was read. A clause sees all
-    /// entries; those that are [forgotten](Core::forget) can't be read any more. Takes no memory.
+    /// class, which has the loader and the file and was there once the event was accepted. Each class file was read. A clause sees all
+    /// entries. Those that are [forgotten](Core::forget) can't be read any more. Takes no memory.
     pub fn log(&self) -> &Journal<Entry>
         ensures told { are_told (world_of self.now).classes.rows result.now ≡ true }
         ensures events { shown (world_of self.now).classes.rows result.now ≡ self.now.log }
@@ -358,8 +357,7 @@ impl Core {
         forget_in(&mut self.next);
     }
 
-    /// Looks up the links of these sites from scratch, as a preparation in a snapshot does that is taken now, but without
-    /// the snapshot.
+    /// Looks up the links of these sites from scratch, as a preparation in a snapshot of now does, but without the snapshot.
     ///
     /// # Errors
     ///
@@ -370,7 +368,7 @@ impl Core {
         prepare_in(alloc, self.world(), self.serial(), sites)
     }
 
-    /// Each site that has an installed link, with it, by rising number. Want of memory is an error.
+    /// Each site that has an installed link, with it, by rising number.
     pub fn list_links(&self, alloc: Global) -> Result<Vec<(SiteNo, Link)>, AllocError>
         ensures { IfOk result (λ rows. rows.items ≡ links_of self.now) }
     {
@@ -378,7 +376,7 @@ impl Core {
     }
 
     /// The world as it is, with the count of the events that were accepted. Of no kind it has more than the limits allow. It is not
-    /// copied: an event that is to change it while the snapshot holds it changes a copy. Want of memory is an error.
+    /// copied: an event that is to change it while the snapshot holds it changes a copy.
     pub fn snapshot(&self, _alloc: Global) -> Result<Snapshot, AllocError>
         ensures snapshot { IfOk result (λ snapshot. snapshot ≡ record { world = world_of self.now; serial = length self.now.log }) }
         ensures within { IfOk result (λ snapshot. IsWithin self.now.limits snapshot.world) }

@@ -61,8 +61,7 @@ pub(crate) fn perform(
     Ok(reply)
 }
 
-/// Sites that the event retires, each that has a link among them: what a retirement drops is found before the loader is gone. Want of
-/// memory is an error.
+/// Sites that the event retires, each that has a link among them: what a retirement drops is found before the loader is gone.
 fn retired_sites(alloc: Global, world: &World, event: &Event) -> Result<Vec<SiteNo>, AllocError>
     requires { length world.now.places < 2 ^ 32 }
     ensures { IfOk result (λ sites. AreRetired world.now event.now sites.items) }
@@ -74,8 +73,8 @@ fn retired_sites(alloc: Global, world: &World, event: &Event) -> Result<Vec<Site
     }
 }
 
-/// The links and the index come after the event, which has led to the world. It gives the sites whose links went. Want of memory is an
-/// error; the links and the index are of no use then.
+/// Brings the links and the index up to date with the event, which has led to the world. It gives the sites whose links went. Want of
+/// memory is an error; the links and the index are of no use then.
 fn relink(
     alloc: Global,
     world: &World,
@@ -114,7 +113,8 @@ fn relink(
     }
 }
 
-/// The same for an install of these rows: no link goes.
+/// Brings the links and the index up to date with an install of these rows. No link goes. On an error the links and the
+/// index are of no use.
 fn install_links(
     alloc: Global,
     world: &World,
@@ -130,8 +130,9 @@ fn install_links(
     Ok(Vec::new(alloc))
 }
 
-/// The same for a retirement: the links of the loaders' sites are dropped without a look at them, and of the others those that the
-/// event touches are looked up, each once.
+/// Brings the links and the index up to date with a retirement. The links of the loaders' sites are dropped without a look at them. Of the
+/// others those that the event touches are looked up, each once. It gives the sites whose links went. On an error the
+/// links and the index are of no use.
 fn retire_links(
     alloc: Global,
     world: &World,
@@ -159,8 +160,7 @@ fn retire_links(
     Ok(gone)
 }
 
-/// Keeps an event in the log that drops the links of these sites, and answers it. Want of memory is an error; the log is of no use
-/// then.
+/// Keeps the event, which drops the links of these sites, in the log, and answers it. On an error the log is of no use.
 fn answered(
     log: &mut Journal<Entry>,
     alloc: Global,
@@ -189,7 +189,7 @@ fn reply(made: &Made, dropped: Vec<SiteNo>) -> Reply
     }
 }
 
-/// The same sites, each once, by rising number. Takes no memory.
+/// The sites, each once, by rising number. Takes no memory.
 pub(crate) fn each_once(sites: Vec<SiteNo>) -> Vec<SiteNo>
     ensures { AreTouched sites.items result.items }
 {

@@ -52,7 +52,7 @@ impl Model for Planned {
 }
 
 impl Planned {
-    /// The event that leads from the one instance to the other, with its reply. Want of memory is an error.
+    /// The event that leads from the one instance to the other, with its reply.
     pub(crate) fn new(
         alloc: Global,
         before: &Instance,

@@ -17,7 +17,7 @@ use jl_types::{Link, SiteNo};
 use std::alloc::{AllocError, Global};
 
 /// The sites at which the one instance's last event changed the links of the other, by rising number, each with its new link or
-/// none. Want of memory is an error.
+/// none.
 pub(crate) fn changed(
     alloc: Global,
     before: &Instance,
@@ -32,7 +32,7 @@ pub(crate) fn changed(
     slots_among(alloc, before.links(), after.links(), &sites)
 }
 
-/// The sites that the entry's event may change, by rising number. Want of memory is an error.
+/// The sites that the entry's event may change, by rising number.
 fn touched(alloc: Global, entry: &Entry) -> Result<Vec<SiteNo>, AllocError>
     ensures { IfOk result (λ sites. AreTouched (touched_by entry.now.event entry.now.reply.dropped) sites.items) }
 {
@@ -40,7 +40,7 @@ fn touched(alloc: Global, entry: &Entry) -> Result<Vec<SiteNo>, AllocError>
     Ok(each_once(sites))
 }
 
-/// The sites that the entry's event drops, and those that it installs. Want of memory is an error.
+/// The sites that the entry's event drops, and those that it installs.
 fn listed(alloc: Global, entry: &Entry) -> Result<Vec<SiteNo>, AllocError>
     ensures { IfOk result (λ sites. sites.items ≡ touched_by entry.now.event entry.now.reply.dropped) }
 {
@@ -52,7 +52,7 @@ fn listed(alloc: Global, entry: &Entry) -> Result<Vec<SiteNo>, AllocError>
     }
 }
 
-/// These sites, and behind them those of the links. Want of memory is an error.
+/// These sites, followed by those of the links.
 pub(crate) fn with_sites(
     sites: Vec<SiteNo>,
     rows: &[(SiteNo, KeptLink)],
@@ -64,7 +64,7 @@ pub(crate) fn with_sites(
     Ok(all)
 }
 
-/// Of these sites those whose links differ, each with its new link or none. Want of memory is an error.
+/// Of these sites those whose links differ, each with its new link or none.
 fn slots_among(
     alloc: Global,
     before: &Cache,
@@ -80,7 +80,7 @@ fn slots_among(
     Ok(slots)
 }
 
-/// Adds the site with what stands there afterwards, where that differs. Want of memory is an error.
+/// Adds the site with what stands there afterwards, if that differs.
 fn add_slot(
     slots: &mut Vec<(SiteNo, Option<Link>)>,
     site: SiteNo,
@@ -95,7 +95,7 @@ fn add_slot(
     push_slot(slots, site, after)
 }
 
-/// Adds the site with what stands there. Want of memory is an error.
+/// Adds the site with what stands there.
 fn push_slot<T: Copy>(slots: &mut Vec<(SiteNo, T)>, site: SiteNo, slot: T) -> Result<(), AllocError>
     ensures { OnOk result (slots.new.items ≡ slots.old.items ++ (site, slot) ∷ []) }
 {

@@ -5,7 +5,7 @@ use Rattle.std.specs.List.{list_any}
 use Rattle.std.specs.Option.{option_map_or}
 use Rattle.std.specs.Map.{lookup}
 use Rattle.std.proofs.Common.{refl, ap, sym, ◌∙◌, arith, inl, inr}
-use Rattle.std.proofs.lemmas.Bool.{or_cases, or_left, or_right, and_from}
+use Rattle.std.proofs.lemmas.Bool.{or_cases, or_left, or_right, and_from, and_parts}
 use Rattle.std.proofs.lemmas.Bool.Decides.{Decides-eqb}
 use Rattle.std.proofs.lemmas.Option.{same_Some, slice_get_within, get_or_from_slice_get}
 use Rattle.std.proofs.lemmas.List.{take_more}
@@ -155,10 +155,6 @@ module _ (entries : List (Form × List ℕ)) where
 -- ---- what is asked under one key
 
 module _ {S T : Type 0} (sites : List (ℕ × Rests)) (lists : IndexMap Key (IndexMap Form (List ℕ) S) T) (are : AreListed sites lists) (k : Key) where
-  both : (a b : Bool) → (a && b) ≡ true → (a ≡ true) × (b ≡ true)
-  both true b h = (refl, h)
-  both false b h = cc
-
   same_key_itself : (j : Key) → same_key j j ≡ true
   same_key_itself (key.Receivers c) = (Decides-eqb c c).1 refl
   same_key_itself (key.Target c) = (Decides-eqb c c).1 refl
@@ -182,8 +178,8 @@ module _ {S T : Type 0} (sites : List (ℕ × Rests)) (lists : IndexMap Key (Ind
       by_rests None p a b = cc
       by_rests (Some r) None a b = cc
       by_rests (Some r) (Some q) a b =
-          let of_r = both (form_eq r.form f) (has_key r.footprint k) a in
-          let of_q = both (form_eq q.form f) (has_key q.footprint k) b in
+          let of_r = and_parts (form_eq r.form f) (has_key r.footprint k) a in
+          let of_q = and_parts (form_eq q.form f) (has_key q.footprint k) b in
           and_from (selects r.form) (form_eq q.form r.form && meets r.footprint q.footprint)
           (ap selects (form_is r.form f of_r.0) ∙ by)
           (and_from (form_eq q.form r.form) (meets r.footprint q.footprint)
@@ -203,7 +199,7 @@ module _ {S T : Type 0} (sites : List (ℕ × Rests)) (lists : IndexMap Key (Ind
           → ((t == s) || are_together sites s t) ≡ true
       weaker f at_s t p = elim (or_cases (t == s) (selects f && listed_in groups f t) p) [
         | inl same ↦ or_left (t == s) (are_together sites s t) same
-        | inr alike ↦ (let r = both (selects f) (listed_in groups f t) alike in
+        | inr alike ↦ (let r = and_parts (selects f) (listed_in groups f t) alike in
             or_right (t == s) (are_together sites s t) (are_alike f s t r.0 at_s (sym (listed_so f t) ∙ r.1)))
       ]
 

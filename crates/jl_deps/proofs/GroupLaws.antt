@@ -63,10 +63,10 @@ one_group p s f h (e ∷ entries) unique at =
     here : has s e.1 ≡ (form_eq f e.0 && h)
     here = ap found (sym (form_same e.0)) ∙ at e.0
 
-    -- in the groups behind it
-    behind : (h' : Bool) → ((g : Form) → form_eq g e.0 ≡ true → false ≡ (form_eq f g && h'))
+    -- in the groups after it
+    later_group : (h' : Bool) → ((g : Form) → form_eq g e.0 ≡ true → false ≡ (form_eq f g && h'))
         → ((g : Form) → form_eq g e.0 ≡ false → (form_eq f g && h) ≡ (form_eq f g && h')) → (g : Form) → in_group entries g s ≡ (form_eq f g && h')
-    behind h' at_it beside g = by_test (form_eq g e.0) refl
+    later_group h' at_it beside g = by_test (form_eq g e.0) refl
       where
         in_these : Option (List ℕ) → Bool
         in_these o = option_map_or (λ (sites : List ℕ). has s sites) o false
@@ -82,7 +82,7 @@ one_group p s f h (e ∷ entries) unique at =
         → ((p e.0 && has s e.1) || list_any (λ d. p d.0 && has s d.1) entries) ≡ (p f && h)
     by_form true is rest =
         (λ i. (p (sym (form_is f e.0 is) i) && (here ∙ ap (λ (b : Bool). b && h) is) i)
-        || (rest false (behind false (λ g same. never (form_eq f g)) (λ g other. not_it g other)) ∙ sym (never (p f))) i)
+        || (rest false (later_group false (λ g same. never (form_eq f g)) (λ g other. not_it g other)) ∙ sym (never (p f))) i)
         ∙ alone (p f && h)
       where
         alone : (b : Bool) → (b || false) ≡ b
@@ -96,7 +96,7 @@ one_group p s f h (e ∷ entries) unique at =
     by_form false is rest =
         ap (λ (b : Bool). (p e.0 && b) || list_any (λ d. p d.0 && has s d.1) entries) (here ∙ ap (λ (b : Bool). b && h) is)
         ∙ ap (λ (b : Bool). b || list_any (λ d. p d.0 && has s d.1) entries) (sym (never (p e.0)))
-        ∙ rest h (behind h (λ g same. sym (ap (λ (b : Bool). b && h) (ap (form_eq f) (form_is g e.0 same) ∙ is))) (λ g other. refl))
+        ∙ rest h (later_group h (λ g same. sym (ap (λ (b : Bool). b && h) (ap (form_eq f) (form_is g e.0 same) ∙ is))) (λ g other. refl))
 
 -- ---- the groups of a key
 

@@ -4,6 +4,7 @@ use Rattle.std.specs.Option.{option_map_or}
 use Rattle.std.proofs.Common.{refl, ap, sym, ◌∙◌}
 use Rattle.std.proofs.lemmas.Bool.Decides.{Decides-eqb}
 use Rattle.std.proofs.lemmas.List.Folds.{list_any-append}
+use Rattle.std.proofs.lemmas.Bool.{and_parts}
 use Rattle.indexmap.specs.IndexMap.{IndexMap}
 use Rattle.jl_types.specs.declared.ids.MethodId.{MethodId}
 use Rattle.jl_types.specs.declared.key.Key.{Key}
@@ -176,17 +177,9 @@ listed_anew true e g other h all next now before was same listed less =
 
 method_is : (m n : MethodId) → ((m.class == n.class) && (m.index == n.index)) ≡ true → m ≡ n
 method_is m n e = λ k. record {
-  class = (Decides-eqb m.class n.class).0 (first (m.class == n.class) (m.index == n.index) e) k;
-  index = (Decides-eqb m.index n.index).0 (second (m.class == n.class) (m.index == n.index) e) k;
+  class = (Decides-eqb m.class n.class).0 (and_parts (m.class == n.class) (m.index == n.index) e).0 k;
+  index = (Decides-eqb m.index n.index).0 (and_parts (m.class == n.class) (m.index == n.index) e).1 k;
 }
-  where
-    first : (a b : Bool) → (a && b) ≡ true → a ≡ true
-    first true b h = refl
-    first false b h = h
-
-    second : (a b : Bool) → (a && b) ≡ true → b ≡ true
-    second true b h = h
-    second false b h = cc
 
 -- forms that are equal by their derived `==`
 pub form_is : (f g : Form) → form_eq f g ≡ true → f ≡ g

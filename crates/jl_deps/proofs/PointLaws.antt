@@ -8,6 +8,7 @@ use Rattle.std.proofs.Common.{refl, ap, sym, subst, ◌∙◌, arith}
 use Rattle.std.proofs.lemmas.Bool.Decides.{Decides-eqb}
 use Rattle.std.proofs.lemmas.Option.{slice_get_within}
 use Rattle.std.proofs.lemmas.List.Folds.{list_any-append}
+use Rattle.std.proofs.lemmas.Bool.{and_parts}
 use Rattle.jl_types.specs.Values.World.{Sites}
 use Rattle.jl_types.specs.Linkage.Targets.{is_valid}
 use Rattle.jl_types.proofs.Bools.{Passing, any-filter, any-filter-at, any-range-from}
@@ -40,10 +41,6 @@ there sites p valid = by_slot (slice_get sites.switches p) refl valid
     by_slot None is e = cc
     by_slot (Some b) is e = slice_get_within sites.switches p b is
 
-second : (a b : Bool) → (a && b) ≡ true → b ≡ true
-second true b e = e
-second false b e = cc
-
 -- what a filter leaves of a range, where what passes is in the range
 pub in_range : (p : ℕ → Bool) (n : ℕ) → ((s : ℕ) → p s ≡ true → s < n) → (s : ℕ) → has s (filter p (range_with_len 0 n)) ≡ p s
 in_range p n within s = one_answer (has s (filter p (range_with_len 0 n))) (p s) (λ e. e, λ e. e) (back, forth)
@@ -62,7 +59,7 @@ in_range p n within s = one_answer (has s (filter p (range_with_len 0 n))) (p s)
 pub valid_has : (sites : Sites) (points : List ℕ) (p : ℕ) → has p (still_valid sites points) ≡ (has p points && is_valid sites p)
 valid_has sites points p =
     ap (has p) (twice (is_valid sites) (λ n. has n points) (range_with_len 0 (length sites.switches)))
-    ∙ in_range (λ n. has n points && is_valid sites n) (length sites.switches) (λ s e. there sites s (second (has s points) (is_valid sites s) e)) p
+    ∙ in_range (λ n. has n points && is_valid sites n) (length sites.switches) (λ s e. there sites s (and_parts (has s points) (is_valid sites s) e).1) p
 
 -- one point more, listed where it passes
 pub listed_more : (test : ℕ → Bool) (next now old : Bool) (front : List ℕ) (site s : ℕ) → next ≡ (now || ((site == s) && test site))

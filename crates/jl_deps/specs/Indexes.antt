@@ -51,7 +51,7 @@ pub record AreAsked (index : List (ℕ × Rests)) (keys : List Key) (sites : Lis
 
 -- ---- the index of installed links
 
--- what the site rests on, with its form, where it has a link
+-- what the site rests on, with its form, if it has a link
 abbrev pub rests_if : World → ℕ → Option Link → Option Rests
 rests_if w s link = option_map (λ l. rests w s) link
 
@@ -59,7 +59,7 @@ rests_if w s link = option_map (λ l. rests w s) link
 abbrev pub IsIndex : World → (ℕ → Option Link) → List (ℕ × Rests) → Type 0
 IsIndex w links index = (s : ℕ) → rests_at index s ≡ rests_if w s (links s)
 
--- after the event the site has the link that it had, if any, and that rests on what it rested on
+-- after the event the site has the link that it had, if any, and the link rests on what it rested on
 pub record StaysIndexed (w : World) (e : Event) (links : ℕ → Option Link) (index : List (ℕ × Rests)) (s : ℕ) : Type 0 where
   pub link : kept false (links s) (scratch (step w e) s) ≡ links s
   pub rests_on : rests_if (step w e) s (links s) ≡ rests_at index s

@@ -7,7 +7,8 @@ ghost use Rattle.jl_types.specs.Linkage.Stages as stages;
 ghost use Rattle.jl_types.specs.Linkage.Links.{link_of, scratch};
 ghost use Rattle.jl_types.specs.declared.key.Key.TheVariants as key;
 ghost use Rattle.jl_types.specs.Events.Footprints as footprints;
-ghost use Rattle.jl_types.specs.Events.Footprints.{of_stage, of_operand, call_site_in, point_in, path};
+ghost use Rattle.jl_types.specs.Events.Footprints.{of_stage, call_site_in, point_in, path};
+ghost use Rattle.jl_relink.specs.Placed.{asking};
 ghost use Rattle.jl_deps.specs.ForProofs.Telling.{tells_receivers};
 ghost use Rattle.jl_deps.specs.Ways.{has, way};
 ghost use Rattle.jl_class.specs.declared.site.Kind.TheVariants.{Virtual, Interface};
@@ -16,16 +17,16 @@ use crate::form::Rests;
 use crate::kept::Footprint;
 use crate::resting::{of_resolution, rests_of};
 use jl_callsites::Sites;
-use jl_class::{Kind, Operand, Site};
+use jl_class::{Kind, Operand};
 use jl_hierarchy::Classes;
 use jl_names::LentName;
 use jl_pool::Reference;
 use jl_relink::{World, invocation_at};
 use jl_resolve::named_class;
-use jl_types::{CallSiteId, ClassId, Key, Link, Outcome, Part, SiteNo, SwitchId, Target};
+use jl_types::{CallSiteId, ClassId, Key, Link, Outcome, Part, Place, SiteNo, SwitchId, Target};
 use std::alloc::{AllocError, Global};
 
-/// What the link of the site rests on. No receiver is looked at. Want of memory is an error.
+/// What the link of the site rests on. No receiver is looked at.
 pub fn footprint_of(alloc: Global, world: &World, site: SiteNo) -> Result<Footprint, AllocError>
     ensures { IfOk result (λ keys. keys ≡ footprints.footprint world.now site) }
 {
@@ -36,53 +37,26 @@ pub fn footprint_of(alloc: Global, world: &World, site: SiteNo) -> Result<Footpr
     Ok(footprint)
 }
 
-/// The same of a site of which this is the link from scratch. It tells whether receivers are looked at, so that only the class is looked
-/// up that the reference names, and mostly no method. Want of memory is an error.
-pub fn footprint_of_linked(
-    alloc: Global,
-    world: &World,
-    site: SiteNo,
-    link: &Link,
-) -> Result<Footprint, AllocError>
-    requires { scratch world.now site ≡ Ok link.now }
-    ensures { IfOk result (λ keys. keys ≡ footprints.footprint world.now site) }
+/// What the link of the invocation at this place rests on, of which this is the link from scratch. It needs no request. Takes no memory.
+pub fn footprint_at(classes: &Classes, place: &Place, link: &Link) -> Footprint
+    requires { scratch (asking classes.now place.now) 0 ≡ Ok link.now }
+    ensures { result ≡ footprints.footprint (asking classes.now place.now) 0 }
 {
-    let Some(place) = world.places.get_index(site.number() as usize) else {
-        return Ok(Footprint::nothing());
+    if !classes.is_present(place.class) {
+        return Footprint::nothing();
+    }
+    let Some(invocation) = invocation_at(classes, place) else {
+        return Footprint::nothing();
     };
-    if !world.classes.is_present(place.class) {
-        return Ok(Footprint::nothing());
-    }
-    match invocation_at(&world.classes, place) {
-        Some(invocation) => of_invocation(alloc, world, site, place.class, &invocation, link),
-        None => Ok(Footprint::nothing()),
-    }
-}
-
-/// What the link of the site's invocation in the caller's class rests on, which is this one. Want of memory is an error.
-fn of_invocation(
-    alloc: Global,
-    world: &World,
-    site: SiteNo,
-    caller: ClassId,
-    invocation: &Site<'_>,
-    link: &Link,
-) -> Result<Footprint, AllocError>
-    requires { link_of world.now.classes (stages.by_operand world.now site caller invocation.now.kind invocation.now.operand) ≡ Ok link.now }
-    ensures { IfOk result (λ keys. keys ≡ of_operand world.now site caller invocation.now.kind invocation.now.operand) }
-{
     match invocation.operand() {
-        Operand::Method(reference) => Ok(looked_at(
-            &world.classes,
+        Operand::Method(reference) => looked_at(
+            classes,
             invocation.kind(),
-            caller,
+            place.class,
             reference,
             link,
-        )),
-        Operand::CallSite(_) => match world.bound_to(site) {
-            Some(call_site) => of_call_site(alloc, &world.sites, call_site),
-            None => Ok(Footprint::nothing()),
-        },
+        ),
+        Operand::CallSite(_) => Footprint::nothing(),
     }
 }
 
@@ -96,8 +70,8 @@ fn of_class(class: Option<ClassId>) -> Footprint
     }
 }
 
-/// The receivers at which an invocation of the reference in the caller's class looks. Where the instruction looks at none, nothing is
-/// resolved. Takes no memory.
+/// The receivers that the link of an invocation of the reference in the caller's class, which is this one, rests on. If the instruction
+/// looks at none, nothing is resolved. Takes no memory.
 fn looked_at(
     classes: &Classes,
     kind: Kind,
@@ -119,7 +93,8 @@ fn looked_at(
     }
 }
 
-/// The same where the instruction may select by the receiver.
+/// The receivers that the link of an invocation of the reference, which is this one, rests on, if the instruction may select by the
+/// receiver.
 fn selected_from(
     classes: &Classes,
     kind: Kind,
@@ -143,7 +118,7 @@ fn selected_from(
     footprint
 }
 
-/// Whether the link of an instruction that may select by the receiver tells that it does: of a private method, and where linking fails,
+/// Whether the link of an instruction that may select by the receiver tells that it does. For a private method, and if linking fails,
 /// no receiver is looked at.
 fn tells_receivers(classes: &Classes, link: &Link) -> bool
     ensures { result ≡ tells_receivers classes.now link.now }
@@ -158,7 +133,7 @@ fn tells_receivers(classes: &Classes, link: &Link) -> bool
     }
 }
 
-/// The targets of the call sites on the path of this one, and the valid points on it. Want of memory is an error.
+/// The targets of the call sites on the path of this one, and the valid points on it.
 pub(crate) fn of_call_site(
     alloc: Global,
     sites: &Sites,
@@ -177,7 +152,7 @@ pub(crate) fn of_call_site(
     Footprint::of(alloc, keys)
 }
 
-/// Adds the targets of these call sites. Want of memory is an error.
+/// Adds the targets of these call sites.
 pub(crate) fn push_targets(keys: &mut Vec<Key>, call_sites: &[CallSiteId]) -> Result<(), AllocError>
     ensures { OnOk result (keys.new.items ≡ keys.old.items ++ map key.Target call_sites.now) }
 {
@@ -187,7 +162,7 @@ pub(crate) fn push_targets(keys: &mut Vec<Key>, call_sites: &[CallSiteId]) -> Re
     Ok(())
 }
 
-/// Adds that these points are valid. Want of memory is an error.
+/// Adds that these points are valid.
 pub(crate) fn push_points(keys: &mut Vec<Key>, points: &[SwitchId]) -> Result<(), AllocError>
     ensures { OnOk result (keys.new.items ≡ keys.old.items ++ map key.Valid points.now) }
 {
@@ -215,7 +190,7 @@ fn order_points(points: &mut Vec<SwitchId>)
     points.dedup();
 }
 
-/// Adds the call sites on the path of this one, itself first, and the valid points on it, in order. Want of memory is an error.
+/// Adds the call sites on the path of this one, itself first, and the valid points on it, in order.
 fn push_path(
     sites: &Sites,
     call_site: CallSiteId,
@@ -233,7 +208,7 @@ fn push_path(
     }
 }
 
-/// Adds the call sites that a target of this one comes by, and the valid points, in order. Want of memory is an error.
+/// Adds the call sites that a target of this one comes by, and the valid points, in order.
 fn push_way(
     sites: &Sites,
     call_site: CallSiteId,

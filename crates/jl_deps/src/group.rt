@@ -3,7 +3,7 @@
 ghost use Rattle.std.specs.Prelude.{◌≡◌, ◌==◌, ◌&&◌, ◌||◌, ◌∷◌, [], not, ℕ, nat_eq, true, false, IfOk, OnOk, OnErr};
 ghost use Rattle.indexmap.specs.IndexSet.{contains};
 ghost use Rattle.jl_deps.specs.Ways.{has};
-ghost use Rattle.jl_deps.specs.ForProofs.Grouped.{sites_of};
+ghost use Rattle.jl_deps.specs.ForProofs.Grouped.{kept_sites};
 
 use indexmap::IndexSet;
 use jl_types::SiteNo;
@@ -36,11 +36,11 @@ impl Drop for Group {
 
 impl Model for Group {
     ghost use Rattle.std.specs.Prelude.{List, ℕ};
-    ghost use Rattle.jl_deps.specs.ForProofs.Grouped.{sites_of};
+    ghost use Rattle.jl_deps.specs.ForProofs.Grouped.{kept_sites};
 
     ghost Value = { List ℕ };
 
-    ghost view = { λ g. sites_of g.kept };
+    ghost view = { λ g. kept_sites g.kept };
 }
 
 impl Group {
@@ -64,7 +64,7 @@ impl Group {
         }
     }
 
-    /// One site more, where it isn't there. Want of memory is an error; nothing has changed then.
+    /// Adds the site, unless it is there. On an error nothing has changed.
     pub(crate) fn add(&mut self, alloc: Global, site: SiteNo) -> Result<(), AllocError>
         ensures ok { OnOk result ((s : ℕ) → has s self.new ≡ ((site == s) || has s self.old)) }
         ensures err { OnErr result ((s : ℕ) → has s self.new ≡ has s self.old) }
@@ -81,10 +81,10 @@ impl Group {
     }
 }
 
-/// One site more, where it isn't there. Want of memory is an error; nothing has changed then.
+/// Adds the site, unless it is there. On an error nothing has changed.
 fn add_to_kept(kept: &mut Kept, alloc: Global, site: SiteNo) -> Result<(), AllocError>
-    ensures ok { OnOk result ((s : ℕ) → has s (sites_of kept.new) ≡ ((site == s) || has s (sites_of kept.old))) }
-    ensures err { OnErr result ((s : ℕ) → has s (sites_of kept.new) ≡ has s (sites_of kept.old)) }
+    ensures ok { OnOk result ((s : ℕ) → has s (kept_sites kept.new) ≡ ((site == s) || has s (kept_sites kept.old))) }
+    ensures err { OnErr result ((s : ℕ) → has s (kept_sites kept.new) ≡ has s (kept_sites kept.old)) }
 {
     match kept {
         Kept::Nothing => {
@@ -104,7 +104,7 @@ fn add_to_kept(kept: &mut Kept, alloc: Global, site: SiteNo) -> Result<(), Alloc
     }
 }
 
-/// Two sites. Want of memory is an error.
+/// Two sites.
 fn both(alloc: Global, first: SiteNo, second: SiteNo) -> Result<Box<IndexSet<SiteNo>>, AllocError>
     ensures { IfOk result (λ sites. (s : ℕ) → contains nat_eq sites.value s ≡ ((second == s) || (first == s))) }
 {
@@ -114,7 +114,7 @@ fn both(alloc: Global, first: SiteNo, second: SiteNo) -> Result<Box<IndexSet<Sit
     Ok(Box::new(alloc, sites)?)
 }
 
-/// One site more, where it isn't there. Want of memory is an error; nothing has changed then.
+/// Adds the site, unless it is there. On an error nothing has changed.
 fn add_to(sites: &mut IndexSet<SiteNo>, site: SiteNo) -> Result<(), AllocError>
     ensures ok { OnOk result ((s : ℕ) → contains nat_eq sites.new s ≡ ((site == s) || contains nat_eq sites.old s)) }
     ensures err { OnErr result ((s : ℕ) → contains nat_eq sites.new s ≡ contains nat_eq sites.old s) }
@@ -125,8 +125,8 @@ fn add_to(sites: &mut IndexSet<SiteNo>, site: SiteNo) -> Result<(), AllocError>
 
 /// The site isn't there any more. Answers whether no other is. Takes no memory.
 fn remove_from_kept(kept: &mut Kept, site: SiteNo) -> bool
-    ensures others { (s : ℕ) → has s (sites_of kept.new) ≡ (not (site == s) && has s (sites_of kept.old)) }
-    ensures last { result ≡ true → (s : ℕ) → has s (sites_of kept.new) ≡ false }
+    ensures others { (s : ℕ) → has s (kept_sites kept.new) ≡ (not (site == s) && has s (kept_sites kept.old)) }
+    ensures last { result ≡ true → (s : ℕ) → has s (kept_sites kept.new) ≡ false }
 {
     match kept {
         Kept::Nothing => true,

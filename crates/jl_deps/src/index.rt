@@ -66,7 +66,7 @@ impl Index {
         }
     }
 
-    /// The same index once more. Want of memory is an error.
+    /// A copy of the index. Footprints of more than one key are shared.
     pub fn copy(&self, alloc: Global) -> Result<Index, AllocError>
         ensures { IfOk result (λ copy. copy ≡ self.now) }
     {
@@ -119,7 +119,7 @@ impl Index {
         self.sites.get(site.number() as usize)
     }
 
-    /// The sites whose footprints meet the keys, by rising number. Want of memory is an error.
+    /// The sites whose footprints meet the keys, by rising number.
     pub fn touched_by(&self, alloc: Global, keys: &[Key]) -> Result<Vec<SiteNo>, AllocError>
         ensures sites { IfOk result (λ sites. sites.items ≡ touched_by self.now keys.now) }
         ensures rising { AreRising self.now }
@@ -129,8 +129,8 @@ impl Index {
         Ok(sites)
     }
 
-    /// Of the sites whose footprints meet the keys, by rising number, all that don't select by their receivers, and of those that do so
-    /// alike one: these have one link. Want of memory is an error.
+    /// Of the sites whose footprints meet the keys, by rising number: all that don't select by their receivers, and one of each group of
+    /// those that select alike, which have one link.
     pub fn asked(&self, alloc: Global, keys: &[Key]) -> Result<Vec<SiteNo>, AllocError>
         ensures asked { IfOk result (λ sites. AreAsked self.now keys.now sites.items) }
         ensures rising { AreRising self.now }
@@ -140,7 +140,7 @@ impl Index {
         Ok(sites)
     }
 
-    /// These sites, and all others that select alike on a key of one of them, by rising number. Want of memory is an error.
+    /// These sites, and all others that select alike on a key of one of them, by rising number.
     pub fn together(&self, alloc: Global, sites: &[SiteNo]) -> Result<Vec<SiteNo>, AllocError>
         ensures { IfOk result (λ all. (s : ℕ) → has s all.items ≡ is_asked self.now sites.now s) }
     {
@@ -152,7 +152,7 @@ impl Index {
         Ok(all)
     }
 
-    /// The sites that are listed under one of the keys, in no order and some of them more than once. Want of memory is an error.
+    /// The sites that are listed under one of the keys, in no order and some of them more than once.
     fn listed_under(&self, alloc: Global, keys: &[Key]) -> Result<Vec<SiteNo>, AllocError>
         ensures sites { IfOk result (λ sites. (s : ℕ) → has s sites.items ≡ has s (touched_by self.now keys.now)) }
         ensures rising { AreRising self.now }
@@ -166,7 +166,7 @@ impl Index {
         Ok(sites)
     }
 
-    /// Adds the sites that are listed under the key. Want of memory is an error.
+    /// Adds the sites that are listed under the key.
     fn push_listed(&self, key: &Key, sites: &mut Vec<SiteNo>) -> Result<(), AllocError>
         ensures { OnOk result ((s : ℕ) → has s sites.new.items
             ≡ (has s sites.old.items || has s (touched_by self.now (key.now ∷ [])))) }
@@ -179,7 +179,7 @@ impl Index {
         push_groups(groups, sites)
     }
 
-    /// What is asked under the keys, in no order and some of it more than once. Want of memory is an error.
+    /// What is asked under the keys, in no order and some of it more than once.
     fn asked_under(&self, alloc: Global, keys: &[Key]) -> Result<Vec<SiteNo>, AllocError>
         ensures touched { IfOk result (λ sites. (s : ℕ) → has s sites.items ≡ true → has s (touched_by self.now keys.now) ≡ true) }
         ensures all { IfOk result (λ sites. (s : ℕ) → has s (touched_by self.now keys.now) ≡ true → is_asked self.now sites.items s ≡ true) }
@@ -194,7 +194,7 @@ impl Index {
         Ok(sites)
     }
 
-    /// Adds what is asked under the key. Want of memory is an error.
+    /// Adds what is asked under the key.
     fn push_asked(&self, key: &Key, sites: &mut Vec<SiteNo>) -> Result<(), AllocError>
         ensures touched { OnOk result ((s : ℕ) → has s sites.new.items ≡ true
             → (has s sites.old.items || has s (touched_by self.now (key.now ∷ []))) ≡ true) }
@@ -209,7 +209,7 @@ impl Index {
         push_firsts(groups, sites)
     }
 
-    /// Adds the site, and those that select alike on one of its keys. Want of memory is an error.
+    /// Adds the site, and those that select alike on one of its keys.
     fn push_together(&self, site: SiteNo, all: &mut Vec<SiteNo>) -> Result<(), AllocError>
         ensures { OnOk result ((s : ℕ) → has s all.new.items
             ≡ (has s all.old.items || ((site == s) || are_together self.now s site))) }
@@ -225,7 +225,7 @@ impl Index {
         self.push_of_form(rests.keys(), &form, all)
     }
 
-    /// Adds the sites of the form that rest on one of the keys. Want of memory is an error.
+    /// Adds the sites of the form that rest on one of the keys.
     fn push_of_form(
         &self,
         keys: &[Key],
@@ -240,7 +240,7 @@ impl Index {
         Ok(())
     }
 
-    /// Adds the sites of the form that rest on the key. Want of memory is an error.
+    /// Adds the sites of the form that rest on the key.
     fn push_of_key(&self, key: &Key, form: &Form, all: &mut Vec<SiteNo>) -> Result<(), AllocError>
         ensures { OnOk result ((s : ℕ) → has s all.new.items ≡ (has s all.old.items || rests self.now s key.now form.now)) }
     {
@@ -251,7 +251,7 @@ impl Index {
     }
 }
 
-/// Each site rests on what it has there. Want of memory is an error.
+/// Each site rests on what it has there.
 fn add_all(alloc: Global, sites: &Sites, copy: &mut Index) -> Result<(), AllocError>
     requires empty { copy.old ≡ [] }
     requires below { AreBelow sites.now.entries }
@@ -268,7 +268,7 @@ fn add_all(alloc: Global, sites: &Sites, copy: &mut Index) -> Result<(), AllocEr
     Ok(())
 }
 
-/// The site rests on this. Want of memory is an error; nothing has changed then.
+/// The site rests on this. On an error nothing has changed.
 fn put(
     sites: &mut Sites,
     lists: &mut Lists,
@@ -328,7 +328,7 @@ fn take(sites: &mut Sites, lists: &mut Lists, site: SiteNo)
     }
 }
 
-/// Adds the sites of all groups. Want of memory is an error.
+/// Adds the sites of all groups.
 fn push_groups(groups: &Groups, sites: &mut Vec<SiteNo>) -> Result<(), AllocError>
     ensures added { OnOk result ((s : ℕ) → has s sites.new.items ≡ (has s sites.old.items || any_listed groups.now.entries s)) }
     ensures unique { IsUnique form_eq groups.now }
@@ -343,7 +343,7 @@ fn push_groups(groups: &Groups, sites: &mut Vec<SiteNo>) -> Result<(), AllocErro
     Ok(())
 }
 
-/// Adds the sites of the form. Want of memory is an error.
+/// Adds the sites of the form.
 fn push_group(groups: &Groups, form: &Form, all: &mut Vec<SiteNo>) -> Result<(), AllocError>
     ensures { OnOk result ((s : ℕ) → has s all.new.items ≡ (has s all.old.items || listed_in groups.now form.now s)) }
 {
@@ -353,7 +353,7 @@ fn push_group(groups: &Groups, form: &Form, all: &mut Vec<SiteNo>) -> Result<(),
     all.extend_from_slice(sites.as_slice())
 }
 
-/// Adds what is asked of the groups. Want of memory is an error.
+/// Adds what is asked of the groups.
 fn push_firsts(groups: &Groups, sites: &mut Vec<SiteNo>) -> Result<(), AllocError>
     ensures touched { OnOk result ((s : ℕ) → has s sites.new.items ≡ true → (has s sites.old.items || any_listed groups.now.entries s) ≡ true) }
     ensures kept { OnOk result ((s : ℕ) → has s sites.old.items ≡ true → has s sites.new.items ≡ true) }
@@ -370,7 +370,7 @@ fn push_firsts(groups: &Groups, sites: &mut Vec<SiteNo>) -> Result<(), AllocErro
     Ok(())
 }
 
-/// Adds what is asked of a group: its first site, if it selects, and else each one. Want of memory is an error.
+/// Adds what is asked of a group: its first site, if it selects, and else each one.
 fn push_first(form: &Form, listed: &[SiteNo], sites: &mut Vec<SiteNo>) -> Result<(), AllocError>
     ensures touched { OnOk result ((s : ℕ) → has s sites.new.items ≡ true → (has s sites.old.items || has s listed.now) ≡ true) }
     ensures kept { OnOk result ((s : ℕ) → has s sites.old.items ≡ true → has s sites.new.items ≡ true) }

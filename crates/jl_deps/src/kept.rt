@@ -11,8 +11,8 @@ use std::mem::size_of;
 use std::sync::Arc;
 use std::{fmt, slice};
 
-/// What the link of a site rests on: keys, rising, none of them twice. One key or none takes no memory of its own; more stand apart, and
-/// copies share them. A clause sees the keys.
+/// What the link of a site rests on: keys, rising, none of them twice. One key or none takes no memory of its own. More keys stand apart,
+/// and copies share them. A clause sees the keys.
 pub struct Footprint {
     kept: Kept,
 }
@@ -72,7 +72,7 @@ impl Footprint {
         }
     }
 
-    /// These keys, in order. Want of memory is an error; one key or none wants none.
+    /// These keys, in order. One key or none takes no memory.
     pub fn of(alloc: Global, keys: Vec<Key>) -> Result<Self, AllocError>
         ensures { IfOk result (λ footprint. footprint ≡ keys.items) }
     {

@@ -18,10 +18,11 @@ use jl_types::{CallSiteId, ClassId, Event, Key, LoaderId, SwitchId};
 use std::alloc::{AllocError, Global};
 use std::slice::from_ref;
 
-/// What an event changes of what links rest on: keys. Those of a release come as it lists them, and all others rise, none of them twice.
+/// What an event changes of what links rest on, as keys. Those of a release are in the order in which it lists them. All others rise, none
+/// of them twice.
 pub type Keys = Seq<Key>;
 
-/// What the event, which the world is to accept, changes of what links rest on. Want of memory is an error.
+/// What the event, which the world is to accept, changes of what links rest on.
 pub fn keys_of(alloc: Global, world: &World, event: &Event) -> Result<Keys, AllocError>
     ensures { IfOk result (λ keys. keys ≡ footprints.keys world.now event.now) }
 {
@@ -36,8 +37,8 @@ pub fn keys_of(alloc: Global, world: &World, event: &Event) -> Result<Keys, Allo
     }
 }
 
-/// What a definition changes: the receivers of the ancestors of the class that the loader makes of the file, where objects may be of
-/// it. Want of memory is an error.
+/// What a definition changes. If objects may be of the class that the loader makes of the file, that is the receivers of the ancestors of
+/// the class. Else it is nothing.
 pub fn keys_of_definition(
     alloc: Global,
     classes: &Classes,
@@ -52,7 +53,7 @@ pub fn keys_of_definition(
     Ok(Seq::of(keys))
 }
 
-/// What a retirement changes: the receivers of the ancestors of the loaders' classes that objects may be of. Want of memory is an error.
+/// What a retirement changes: the receivers of the ancestors of the loaders' classes that objects may be of.
 pub fn keys_of_retirement(
     alloc: Global,
     classes: &Classes,
@@ -66,7 +67,7 @@ pub fn keys_of_retirement(
     Ok(Seq::of(keys))
 }
 
-/// Adds the receivers of these classes. Want of memory is an error.
+/// Adds the receivers of these classes.
 fn push_receivers(keys: &mut Vec<Key>, classes: &[ClassId]) -> Result<(), AllocError>
     ensures { OnOk result (keys.new.items ≡ keys.old.items ++ map key.Receivers classes.now) }
 {
@@ -76,7 +77,7 @@ fn push_receivers(keys: &mut Vec<Key>, classes: &[ClassId]) -> Result<(), AllocE
     Ok(())
 }
 
-/// What a new target changes. Want of memory is an error.
+/// What a new target changes.
 pub fn keys_of_target(alloc: Global, site: CallSiteId) -> Result<Keys, AllocError>
     ensures { IfOk result (λ keys. keys ≡ key.Target site ∷ []) }
 {
@@ -86,7 +87,7 @@ pub fn keys_of_target(alloc: Global, site: CallSiteId) -> Result<Keys, AllocErro
 }
 
 /// What a release of these call sites changes. The switch points that go with them change nothing more, since only targets that go guard
-/// by them. Want of memory is an error.
+/// by them.
 pub fn keys_of_release(alloc: Global, call_sites: &[CallSiteId]) -> Result<Keys, AllocError>
     ensures { IfOk result (λ keys. keys ≡ map key.Target call_sites.now) }
 {
@@ -95,7 +96,7 @@ pub fn keys_of_release(alloc: Global, call_sites: &[CallSiteId]) -> Result<Keys,
     Ok(Seq::of(keys))
 }
 
-/// What becomes of these points: those that are valid aren't any more. Want of memory is an error.
+/// What an invalidation of these points changes: those that are valid aren't any more.
 pub fn keys_of_points(alloc: Global, sites: &Sites, points: &[SwitchId]) -> Result<Keys, AllocError>
     ensures { IfOk result (λ keys. keys ≡ map key.Valid (footprints.still_valid sites.now points.now)) }
 {
@@ -105,7 +106,7 @@ pub fn keys_of_points(alloc: Global, sites: &Sites, points: &[SwitchId]) -> Resu
     Ok(Seq::of(keys))
 }
 
-/// Those of the points that are valid, each once, by rising number. Want of memory is an error.
+/// Those of the points that are valid, each once, by rising number.
 fn valid_among(
     alloc: Global,
     sites: &Sites,
@@ -120,7 +121,7 @@ fn valid_among(
     Ok(valid)
 }
 
-/// Adds those of the points that are valid. Want of memory is an error.
+/// Adds those of the points that are valid.
 fn push_valid(
     sites: &Sites,
     points: &[SwitchId],
@@ -135,7 +136,7 @@ fn push_valid(
     Ok(())
 }
 
-/// Adds the point, if so. Want of memory is an error.
+/// Adds the point, if so.
 fn push_if(valid: &mut Vec<SwitchId>, is_valid: bool, point: SwitchId) -> Result<(), AllocError>
     ensures { OnOk result ((p : ℕ) → list_any (λ q. q == p) valid.new.items
         ≡ (list_any (λ q. q == p) valid.old.items || ((point == p) && is_valid))) }

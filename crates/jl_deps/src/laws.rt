@@ -15,9 +15,10 @@ ghost use Rattle.jl_types.specs.Events.Footprints.{touches, keys, retires};
 ghost use Rattle.jl_relink.specs.Laws.{IsInOrder};
 ghost use Rattle.jl_deps.specs.Indexes.{AreRising, IsIndex, StaysIndexed, touched_by};
 
-/// Where the index has the footprint of each site that has a link, which is the one from scratch, the sites that it gives for an
-/// event's keys are those that have a link and that the event touches, and nothing changes at any other site, where the event is
-/// accepted and retires no site that has a link.
+/// If the index has the footprint of each site that has a link, the sites that it gives for an event's keys are those that have a link
+/// and that the event touches.
+///
+/// Nothing changes at any other site, if each link is the one from scratch, and the event is accepted and retires no site that has a link.
 pub fn only_touched_sites_change()
     ensures touched { (w : World) (e : Event) (links : ℕ → Option Link) (index : List (ℕ × Rests)) → AreRising index
         → IsIndex w links index → (s : ℕ)

@@ -16,7 +16,7 @@ mod lists;
 mod resting;
 mod rests;
 
-pub use footprint::{footprint_of, footprint_of_linked};
+pub use footprint::{footprint_at, footprint_of};
 pub use form::{Form, Rests};
 pub use index::Index;
 pub use kept::Footprint;

@@ -53,7 +53,7 @@ fn kept_of<'a>(keys: &'a [Key], form: &Form, other: &Form) -> &'a [Key]
     if form == other { keys } else { &[] }
 }
 
-/// Lists the site under each of the keys, by the form. Want of memory is an error; some of the keys are done then.
+/// Lists the site under each of the keys, by the form. On an error some of the keys are done.
 fn list_all(
     lists: &mut Lists,
     alloc: Global,
@@ -73,7 +73,7 @@ fn list_all(
     Ok(())
 }
 
-/// Lists the site under the key, by the form. Want of memory is an error; nothing has changed then.
+/// Lists the site under the key, by the form. On an error nothing has changed.
 fn list(
     lists: &mut Lists,
     alloc: Global,
@@ -96,7 +96,7 @@ fn list(
     }
 }
 
-/// Lists the site by the form. Want of memory is an error; nothing has changed then.
+/// Lists the site by the form. On an error nothing has changed.
 fn list_in(groups: &mut Groups, alloc: Global, form: &Form, site: SiteNo) -> Result<(), AllocError>
     ensures ok { OnOk result ((f : forms.Form) (s : ℕ) → listed_in groups.new f s
         ≡ (((site == s) && form_eq form.now f) || listed_in groups.old f s)) }

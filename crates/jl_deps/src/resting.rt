@@ -19,7 +19,7 @@ use jl_resolve::{Resolved, resolve_reference};
 use jl_types::{ClassId, SiteNo};
 use std::alloc::{AllocError, Global};
 
-/// What the link of the site rests on, with its form. No receiver is looked at. Want of memory is an error.
+/// What the link of the site rests on, with its form. No receiver is looked at.
 pub fn rests_of(alloc: Global, world: &World, site: SiteNo) -> Result<Rests, AllocError>
     ensures { IfOk result (λ rests. rests ≡ forms.rests world.now site) }
 {
@@ -35,7 +35,7 @@ pub fn rests_of(alloc: Global, world: &World, site: SiteNo) -> Result<Rests, All
     }
 }
 
-/// The same of the site's invocation in the caller's class. Want of memory is an error.
+/// What the link of the site's invocation in the caller's class rests on, with its form.
 fn of_invocation(
     alloc: Global,
     world: &World,
@@ -65,7 +65,8 @@ fn of_invocation(
     }
 }
 
-/// The same of an invocation of the reference. Where the instruction selects by no receiver, nothing is resolved. Takes no memory.
+/// What the link of an invocation of the reference rests on, with its form. If the instruction selects by no receiver, nothing is
+/// resolved. Takes no memory.
 fn of_reference(
     classes: &Classes,
     kind: Kind,
@@ -86,7 +87,8 @@ fn of_reference(
     }
 }
 
-/// The same where the instruction may select by the receiver. Takes no memory.
+/// What the link of an invocation of the reference rests on, with its form, if the instruction may select by the receiver. Takes no
+/// memory.
 pub(crate) fn of_resolution(
     classes: &Classes,
     kind: Kind,
@@ -105,7 +107,8 @@ pub(crate) fn of_resolution(
     }
 }
 
-/// The same where the reference is resolved. Takes no memory.
+/// What the link of an invocation of the resolved reference rests on, with its form, if the instruction may select by the receiver. Takes
+/// no memory.
 fn of_resolved(
     classes: &Classes,
     kind: Kind,

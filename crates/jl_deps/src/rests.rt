@@ -99,7 +99,7 @@ impl KeptRests {
         }
     }
 
-    /// The same once more, and of more than one key the same list. More copies than can be counted are an error.
+    /// The keys and the form. A list of more than one key is shared. More copies than can be counted are an error.
     pub fn again(&self) -> Result<Rests, AllocError>
         ensures { IfOk result (λ copy. copy ≡ self.now) }
     {
@@ -109,7 +109,7 @@ impl KeptRests {
         })
     }
 
-    /// The keys once more. More copies than can be counted are an error.
+    /// The keys. A list of more than one key is shared. More copies than can be counted are an error.
     fn footprint(&self) -> Result<Footprint, AllocError>
         ensures { IfOk result (λ footprint. footprint ≡ self.now.footprint) }
     {

@@ -28,7 +28,7 @@ module _ (old : Classes) (order : AreInOrder old) where
         → IsConstant old new
     constant_delegated loader name to none is =
         constant old new order stays (subst (λ (cs : Classes). AreOrdered cs.rows) (sym is) (rows_delegated old order loader name to))
-        (subst IsClosed (sym is) (closed_delegated old order loader name to none))
+        (subst IsClosed (sym is) (closed_delegated old order.closed loader name to none))
 
     pub constant_with_loader : new ≡ record old { loaders = old.loaders ++ [] ∷ [] } → IsConstant old new
     constant_with_loader is =

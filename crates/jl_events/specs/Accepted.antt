@@ -6,7 +6,7 @@ use Rattle.jl_types.specs.declared.event.EventOf.TheVariants as event
 use Rattle.jl_types.specs.declared.link.Link.{Link}
 use Rattle.jl_types.specs.Values.World.{Class}
 
--- the event, where a definition carries the number of its class
+-- the event, but a definition has the number of its class in place of the file
 abbrev pub Accepted : Type 0
 Accepted = EventOf ℕ (List (ℕ × Link))
 

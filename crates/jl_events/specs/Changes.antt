@@ -33,7 +33,7 @@ abbrev pub defined_by : World → Event → Option ℕ
 defined_by w (variant.Define loader file) = Some (length w.classes.rows)
 defined_by w _ = None
 
--- and what is kept of it tells the event
+-- the event leads from one world to another, gives this a number, and what is kept of it tells the event
 pub record IsStepped (old new : World) (e : Event) (told : Accepted) (made : Made) : Type 0 where
   pub moved : IsMoved old new e made
   pub tells : event_of new.classes.rows told ≡ Some e

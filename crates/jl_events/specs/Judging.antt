@@ -10,14 +10,14 @@ use Rattle.jl_types.specs.Linkage.Links.{scratch}
 use Rattle.jl_types.specs.Events.Verdict.{row_fault}
 use Rattle.jl_types.specs.Events.Footprints.{most_for}
 
--- by the verdict: the event once more, or its refusal
+-- the answer by the verdict: the event itself, or its refusal
 abbrev pub IsJudged : Result Made Refusal → Event → Result Event Refusal → Type 0
 IsJudged given e (Ok same) = (same ≡ e) × IsOk given
 IsJudged given e (Err r) = given ≡ Err r
 
 -- ---- installs
 
--- row by row, that a link isn't the one from scratch
+-- for each row its refusal, if the link isn't the one from scratch
 abbrev pub row_faults : World → List (ℕ × Link) → List (Option Refusal)
 row_faults w rows = map (λ row. row_fault row.0 row.1 (scratch w row.0)) rows
 
@@ -25,7 +25,7 @@ row_faults w rows = map (λ row. row_fault row.0 row.1 (scratch w row.0)) rows
 abbrev pub most_of_rows : World → List (ℕ × Link) → ℕ
 most_of_rows w rows = sum_by (λ row. most_for w row.0) rows
 
--- only the links of an install are looked up
+-- how many evaluations it may take to judge the event: only the links of an install are looked up
 abbrev pub most_to_judge : World → Event → ℕ
 most_to_judge w (event.Install rows) = most_of_rows w rows
 most_to_judge w _ = 0

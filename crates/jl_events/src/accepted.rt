@@ -7,8 +7,8 @@ use jl_cache::KeptLink;
 use jl_names::Seq;
 use jl_types::{ClassId, EventOf, SiteNo};
 
-/// An event that was accepted. A definition names the class that it made, which keeps its file for good, so that there is no second
-/// copy of the file; an install has its links as they are kept, so that there is no second copy of a table.
+/// An event that was accepted. A definition names the class that it made. That class keeps the file for good, so there is no second
+/// copy of it. An install has its links as they are kept, so there is no second copy of a table.
 pub type Accepted = EventOf<ClassId, Seq<(SiteNo, KeptLink)>>;
 
 /// The class that the event defined, if it is a definition.

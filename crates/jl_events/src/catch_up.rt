@@ -12,8 +12,8 @@ use jl_relink::World;
 use std::alloc::{AllocError, Global};
 use std::sync::Arc;
 
-/// The world comes to be the one ahead. One that others hold, too, is let go, and the one ahead is shared from then on. Want of memory
-/// is an error; the world is of no use then.
+/// The world becomes equal to the one ahead. If others hold the world, too, it is let go, and the one ahead is shared from then on.
+/// On an error the world is of no use.
 pub fn catch_up_world(
     world: &mut Arc<World>,
     alloc: Global,
@@ -33,7 +33,7 @@ pub fn catch_up_world(
     }
 }
 
-/// The world, which no other holds, comes to be the one ahead. Want of memory is an error; the world is of no use then.
+/// The world, which no other holds, becomes equal to the one ahead. On an error the world is of no use.
 fn catch_up_owned(
     world: &mut World,
     alloc: Global,

@@ -1,4 +1,4 @@
-//! What an accepted event makes of the world. Nothing is judged, so an event that is new and one that is followed go the same way.
+//! What an accepted event makes of the world. Nothing is judged, so a new event and one that another instance has made go the same way.
 //! Want of memory is an error of each, and then the world is of no use.
 
 ghost use Rattle.std.specs.Prelude.{◌≡◌, ◌<◌, ◌^◌, length, IfOk, OnOk};

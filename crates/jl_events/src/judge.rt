@@ -26,7 +26,7 @@ use jl_types::{
 use std::alloc::Global;
 use std::slice::from_ref;
 
-/// The event once more, if the world accepts it at these limits, and what it takes to tell: only the links of an install are looked up.
+/// The event itself, if the world accepts it at these limits. The work is counted: only the links of an install are looked up.
 ///
 /// # Errors
 ///
@@ -118,7 +118,7 @@ fn discard(event: Event) {
     }
 }
 
-/// Why there is no loader more, where there may be so many.
+/// Why no loader is added, if there may be so many.
 fn loader_refusal(classes: &Classes, most_loaders: u32) -> Option<Refusal>
     ensures { result ≡ then_some (nat_le most_loaders (length classes.now.loaders)) refusal.LoadersFull }
 {
@@ -152,7 +152,7 @@ fn retire_refusal(world: &World, loader: LoaderId) -> Option<Refusal>
     Some(Refusal::Retire(fault))
 }
 
-/// Why the loader can't go where all of these go at once: the classes come before the targets of call sites.
+/// Why the loader can't go if all of these go at once. A fault of classes comes before one of the targets of call sites.
 fn loader_fault(world: &World, loaders: &[LoaderId], loader: LoaderId) -> Option<RetireFault>
     ensures { result ≡ retire_fault world.now loaders.now loader }
 {
@@ -163,7 +163,7 @@ fn loader_fault(world: &World, loaders: &[LoaderId], loader: LoaderId) -> Option
     Some(RetireFault::Targeted(site))
 }
 
-/// Why the loaders can't go at once. Where they can, the classes and the call sites are walked once. Where one can't, or memory is
+/// Why the loaders can't go at once. If they can, the classes and the call sites are walked once. If one can't, or memory is
 /// short, they are walked once more for each loader up to the first that can't.
 fn retirement_refusal(alloc: Global, world: &World, loaders: &[LoaderId]) -> Option<Refusal>
     ensures { result ≡ retire_all_fault world.now loaders.now }
@@ -174,7 +174,7 @@ fn retirement_refusal(alloc: Global, world: &World, loaders: &[LoaderId]) -> Opt
     first_held(world, loaders)
 }
 
-/// Whether it shows by one walk that the loaders can go at once. It doesn't where memory is short.
+/// Whether it shows by one walk that the loaders can go at once. It doesn't if memory is short.
 fn may_all_go(alloc: Global, world: &World, loaders: &[LoaderId]) -> bool
     ensures { result ≡ true → retire_all_fault world.now loaders.now ≡ None }
 {

@@ -13,7 +13,7 @@ use jl_class::Site;
 use jl_relink::{World, invocation_at};
 use jl_types::{Event, Limits, NotLinkable, Place, Refusal, is_polymorphic, names_array};
 
-/// The request once more, if the world accepts it. A place that is requested already keeps its number.
+/// The request itself, if the world accepts it. A place that is requested already keeps its number.
 ///
 /// # Errors
 ///
@@ -31,7 +31,7 @@ pub(crate) fn judged_request(world: &World, limits: Limits, place: Place) -> Res
     Ok(Event::Request(place))
 }
 
-/// The refusal of the place if it isn't requested yet, where it isn't refused anyway.
+/// The refusal that the place gets only if it isn't requested yet, or none. The error is a refusal that it gets anyway.
 fn refusal_if_new(world: &World, limits: Limits, place: &Place) -> Result<Option<Refusal>, Refusal>
     ensures ok { IfOk result (λ refusal. (invocation : site.Site)
         × (invocation_at world.now.classes place.now ≡ Some invocation)

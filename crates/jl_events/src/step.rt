@@ -20,8 +20,8 @@ use jl_types::{
 use std::alloc::{AllocError, Global};
 use std::sync::Arc;
 
-/// The world comes after the accepted event. It gives what the log keeps of it, and what it gave a number to. Where others hold the
-/// world, too, a copy of it is changed. Want of memory is an error; the world is of no use then.
+/// Changes the world as the accepted event says. It gives what the log keeps of the event, and what the event gave a number to. If
+/// others hold the world, too, a copy of it is changed. On an error the world is of no use.
 pub fn step_world(
     world: &mut Arc<World>,
     alloc: Global,
@@ -37,7 +37,7 @@ pub fn step_world(
     }
 }
 
-/// The same by a copy of the world. An install changes no world and copies none.
+/// Puts a copy of the world that the accepted event has changed in its place. An install changes no world and copies none.
 fn step_copy(
     world: &mut Arc<World>,
     alloc: Global,
@@ -58,7 +58,7 @@ fn step_copy(
     }
 }
 
-/// The same for a world that no other holds.
+/// Changes a world that no other holds as the accepted event says.
 fn step_owned(
     world: &mut World,
     alloc: Global,
@@ -91,7 +91,7 @@ fn step_owned(
     }
 }
 
-/// The same for a definition.
+/// Changes the world as a definition says.
 fn define(
     world: &mut World,
     alloc: Global,
@@ -105,7 +105,7 @@ fn define(
     Ok((Accepted::Define(loader, class), Made::Class(class)))
 }
 
-/// The same for a delegation.
+/// Changes the world as a delegation says.
 fn delegate(
     world: &mut World,
     alloc: Global,
@@ -120,7 +120,7 @@ fn delegate(
     Ok((Accepted::Delegate(loader, name, to), Made::Nothing))
 }
 
-/// The same for a request.
+/// Changes the world as a request says.
 fn request(world: &mut World, alloc: Global, place: Place) -> Result<(Accepted, Made), AllocError>
     requires accepted { IsAcceptable world.old (events.Request place) }
     requires few { length world.old.places < 2 ^ 32 }
@@ -130,7 +130,7 @@ fn request(world: &mut World, alloc: Global, place: Place) -> Result<(Accepted, 
     Ok((Accepted::Request(place), Made::Site(site)))
 }
 
-/// The same for a new call site.
+/// Adds a new call site to the world.
 fn new_call_site(
     world: &mut World,
     alloc: Global,
@@ -148,7 +148,7 @@ fn new_call_site(
     ))
 }
 
-/// The same for a new target.
+/// Gives a call site of the world its new target.
 fn set_target(
     world: &mut World,
     alloc: Global,
@@ -162,7 +162,7 @@ fn set_target(
     Ok((Accepted::SetTarget(site, target), Made::Nothing))
 }
 
-/// The same for an invalidation, which takes no memory.
+/// Changes the world as an invalidation says. Takes no memory.
 fn invalidate(world: &mut World, points: Seq<SwitchId>) -> (Accepted, Made)
     requires { IsAcceptable world.old (events.Invalidate points) }
     ensures { IsStepped world.old world.new (events.Invalidate points) result.0 result.1 }
@@ -171,7 +171,7 @@ fn invalidate(world: &mut World, points: Seq<SwitchId>) -> (Accepted, Made)
     (Accepted::Invalidate(points), Made::Nothing)
 }
 
-/// The same for a binding.
+/// Changes the world as a binding says.
 fn bind(
     world: &mut World,
     site: SiteNo,
@@ -184,7 +184,7 @@ fn bind(
     Ok((Accepted::Bind(site, call_site), Made::Nothing))
 }
 
-/// What the log keeps of an install of these rows, which changes no world. Want of memory is an error.
+/// What the log keeps of an install of these rows, which changes no world.
 fn install(alloc: Global, rows: &[(SiteNo, Link)]) -> Result<(Accepted, Made), AllocError>
     ensures { IfOk result (λ told. (told.0 ≡ events.Install rows.now) × (told.1 ≡ made.Nothing)) }
 {
@@ -192,7 +192,7 @@ fn install(alloc: Global, rows: &[(SiteNo, Link)]) -> Result<(Accepted, Made), A
     Ok((Accepted::Install(Seq::of(kept)), Made::Nothing))
 }
 
-/// The same for a retirement.
+/// Changes the world as a retirement says.
 fn retire(
     world: &mut World,
     alloc: Global,
@@ -205,7 +205,7 @@ fn retire(
     Ok((Accepted::Retire(loader), Made::Nothing))
 }
 
-/// The same for a retirement of several loaders at once.
+/// Changes the world as a retirement of several loaders at once says.
 fn retire_each(
     world: &mut World,
     alloc: Global,
@@ -218,7 +218,7 @@ fn retire_each(
     Ok((Accepted::RetireAll(loaders), Made::Nothing))
 }
 
-/// The same for a release, which takes no memory.
+/// Changes the world as a release says. Takes no memory.
 fn release(
     world: &mut World,
     call_sites: Seq<CallSiteId>,

@@ -169,11 +169,11 @@ appended [] e more = refl
 appended (f ∷ h) e more = ap (λ (k : List Event). f ∷ k) (appended h e more)
 
 pub all_events : (more h : List Event) → StaysOn (world_after h) (world_after (h ++ more))
-all_events [] h = subst (λ (k : List Event). StaysOn (world_after h) (world_after k)) (nothing_behind h) (itself (world_after h))
+all_events [] h = subst (λ (k : List Event). StaysOn (world_after h) (world_after k)) (nothing_after h) (itself (world_after h))
   where
-    nothing_behind : (k : List Event) → k ≡ k ++ []
-    nothing_behind [] = refl
-    nothing_behind (f ∷ k) = ap (λ (ks : List Event). f ∷ ks) (nothing_behind k)
+    nothing_after : (k : List Event) → k ≡ k ++ []
+    nothing_after [] = refl
+    nothing_after (f ∷ k) = ap (λ (ks : List Event). f ∷ ks) (nothing_after k)
 all_events (e ∷ more) h =
     let next : StaysOn (world_after h) (world_after (h ++ e ∷ [])) =
     subst (λ (w : World). StaysOn (world_after h) w) (sym (world_more h e)) (one_event (world_after h) (world_good h) e) in

@@ -1,4 +1,4 @@
--- Answers by a link, and where that is megamorphic by what is remembered; and what is right to remember.
+-- Answers by a link, or by what is remembered if the link is megamorphic; and what is right to remember.
 use Rattle.std.specs.Prelude.{◌≡◌, ℕ, Bool, true, false, List, slice_get, Option, Some, None, if◌then◌else◌}
 use Rattle.std.specs.Option.{option_map_or}
 use Rattle.jl_types.specs.declared.answer.Outcome.{Outcome}
@@ -31,12 +31,12 @@ abbrev pub remembered_answer : List Set → ℕ → Recv → Fast
 remembered_answer sets s Null = Now (answer.Throws NullPointerException)
 remembered_answer sets s (Of x) = outcome_answer (remembered sets s x)
 
--- by what is remembered alone, whatever the link is
+-- the answer by what is remembered alone, whatever the link is
 abbrev pub recalled : List Set → ℕ → Recv → Fast
 recalled sets s Null = Miss
 recalled sets s (Of x) = outcome_answer (remembered sets s x)
 
--- what a call of site s is answered at once by its link, for a caller that knows of n classes; by what is remembered where that is megamorphic
+-- the answer at once to a call of site s by its link, for a caller that knows of n classes; by what is remembered if that is megamorphic
 abbrev pub answer_with : List Set → Option Link → ℕ → ℕ → Recv → Fast
 answer_with sets link n s recv = if is_mega link then remembered_answer sets s recv else fast_answer link n recv
 
@@ -56,13 +56,13 @@ abbrev pub noted : List Set → ℕ → Recv → Option Outcome → List Set
 noted sets s Null outcome = sets
 noted sets s (Of x) outcome = noted_of sets s x outcome
 
--- once a call of site s was answered so, where its link is megamorphic
+-- the sets once a call of site s was answered so, which remember that if its link is megamorphic
 abbrev pub told : List Set → Option Link → ℕ → Recv → Answer → List Set
 told sets link s recv a = if is_mega link then noted sets s recv (outcome_of a) else sets
 
 -- ---- which rows are right
 
--- the test of the class in which site s stands, and no where there is no such site
+-- the test of the class in which site s stands, and no if there is no such site
 abbrev pub site_test : (Classes → ℕ → Bool) → World → ℕ → Bool
 site_test test w s = option_map_or (λ place. test w.classes place.class) (slice_get w.places s) false
 

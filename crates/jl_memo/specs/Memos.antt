@@ -1,4 +1,4 @@
--- What calls came to, by site and receiver's class, in sets of two rows (a method cache: Deutsch and Schiffman 1984).
+-- The outcomes of calls, by site and receiver's class, in sets of two rows (a method cache: Deutsch and Schiffman 1984).
 use Rattle.std.specs.Prelude.{ℕ, ◌+◌, ◌*◌, ◌/◌, ◌%◌, ◌^◌, ◌==◌, ◌&&◌, Bool, false, List, length, get_or, slice_set, Option, Some, None, if◌then◌else◌}
 use Rattle.std.specs.Option.{option_or}
 use Rattle.jl_types.specs.declared.answer.Outcome.{Outcome}
@@ -32,7 +32,7 @@ place_of n s x = ((((s * 4294967296 + x) * 11400714819323198485) % 2 ^ 64 / 4294
 abbrev pub remembered : List Set → ℕ → ℕ → Option Outcome
 remembered sets s x = in_set (get_or sets (place_of (length sets) s x) no_rows) s x
 
--- once the row is put into its set
+-- the sets once the row is put into its set
 abbrev pub put_at : List Set → ℕ → Row → List Set
 put_at sets place row = slice_set sets place (with_row (get_or sets place no_rows) row)
 

@@ -8,7 +8,7 @@ use crate::set::Row;
 use jl_cache::KeptSlot;
 use jl_types::{Answer, ClassId, Fast, Link, Outcome, Recv, SiteNo, Throwable};
 
-/// What a call of the site is answered at once by what stands there, where there are so many classes; at a megamorphic link by what is
+/// The answer at once to a call of the site, by the link that stands there, with so many classes. At a megamorphic link it is by what is
 /// remembered. Takes no memory.
 pub fn answer(memo: &Memo, slot: &KeptSlot, classes: usize, site: SiteNo, recv: Recv) -> Fast
     ensures { result ≡ by_memo.answer_with memo.now slot.now classes site recv }
@@ -19,7 +19,7 @@ pub fn answer(memo: &Memo, slot: &KeptSlot, classes: usize, site: SiteNo, recv: 
     slot.answer(classes, recv)
 }
 
-/// What a call of the site is answered by what is remembered alone. Takes no memory.
+/// The answer to a call of the site by what is remembered alone. Takes no memory.
 pub fn recalled(memo: &Memo, site: SiteNo, recv: Recv) -> Fast
     ensures { result ≡ by_memo.recalled memo.now site recv }
 {
@@ -29,7 +29,7 @@ pub fn recalled(memo: &Memo, site: SiteNo, recv: Recv) -> Fast
     }
 }
 
-/// Remembers what a call of the site came to, where its link is megamorphic and the call has an outcome for its receiver's class.
+/// Remembers the outcome of a call of the site, if its link is megamorphic and the call has an outcome for its receiver's class.
 /// Takes no memory.
 pub fn told(memo: &mut Memo, link: &Option<Link>, site: SiteNo, recv: Recv, answer: Answer)
     ensures { memo.new ≡ by_memo.told memo.old link.now site recv answer }
@@ -39,7 +39,7 @@ pub fn told(memo: &mut Memo, link: &Option<Link>, site: SiteNo, recv: Recv, answ
     }
 }
 
-/// What a call of a site with a megamorphic link is answered by what is remembered. Takes no memory.
+/// The answer to a call of a site with a megamorphic link, by what is remembered. Takes no memory.
 pub fn remembered_answer(memo: &Memo, site: SiteNo, recv: Recv) -> Fast
     ensures { result ≡ by_memo.remembered_answer memo.now site recv }
 {

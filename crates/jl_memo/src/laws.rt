@@ -13,9 +13,10 @@ ghost use Rattle.jl_memo.specs.declared.set.Set.{Set};
 ghost use Rattle.jl_memo.specs.Memos.{remembered, put};
 ghost use Rattle.jl_memo.specs.Answers.{is_site_present, IsRight};
 
-/// A row that is right after some events says what the call comes to after whatever events come behind them, while the site is present
-/// and objects may be of the class, where what is present rests on what is present, as it does after accepted events. It stays right
-/// where classes came in order.
+/// A row that is right after some events tells the outcome of the call after all further events, while the site is present and objects
+/// may be of the class. What is present has to rest on what is present, as it does after accepted events.
+///
+/// The row stays right if classes came in order.
 pub fn what_is_remembered_stays()
     ensures answer { (h more : List Event) (s x : ℕ) (o : Outcome) → IsRight (world_after h) s x o → IsClosed (world_after (h ++ more)).classes
         → is_site_present (world_after (h ++ more)) s ≡ true → is_concrete (world_after (h ++ more)).classes x ≡ true

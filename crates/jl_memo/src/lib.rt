@@ -1,7 +1,7 @@
-//! What calls at megamorphic links came to, remembered by site and receiver's class, so that whoever calls again asks nobody.
+//! The outcomes of calls at megamorphic links, remembered by site and receiver's class, so that whoever calls again asks nobody.
 //!
-//! A memo has room for a fixed number of rows. Once an invocation selects by its receiver, what it comes to for a class that is there
-//! stays, whatever is defined later; so a row that was right once is right. `specs/Memos` has the definitions.
+//! A memo has room for a fixed number of rows. Once an invocation selects by its receiver, its outcome for a class that is there
+//! stays, whatever is defined later. So a row that was right once is right. `specs/Memos` has the definitions.
 #![tactic(auto)]
 
 mod answers;

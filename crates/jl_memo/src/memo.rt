@@ -31,7 +31,7 @@ impl Model for Memo {
 }
 
 impl Memo {
-    /// No rows, and room for twice as many as there are sets. Want of memory is an error.
+    /// No rows, and room for twice as many as there are sets.
     pub fn new(alloc: Global, sets: u32) -> Result<Memo, AllocError>
         ensures { IfOk result (λ memo. memo ≡ replicate sets no_rows) }
     {
@@ -44,7 +44,7 @@ impl Memo {
         })
     }
 
-    /// What the site's calls on objects of the class come to, where that is remembered. Takes no memory.
+    /// The outcome of the site's calls on objects of the class, if it is remembered. Takes no memory.
     pub fn get(&self, site: SiteNo, class: ClassId) -> Option<Outcome>
         ensures { result ≡ remembered self.now site class }
     {
@@ -55,7 +55,7 @@ impl Memo {
         }
     }
 
-    /// Remembers the row, in the place of another one where its set is full. Takes no memory.
+    /// Remembers the row, in the place of another one if its set is full. Takes no memory.
     pub fn put(&mut self, row: Row)
         ensures { self.new ≡ put self.old row }
     {
@@ -67,7 +67,7 @@ impl Memo {
     }
 }
 
-/// So many copies of a value. Want of memory is an error.
+/// So many copies of a value.
 fn filled<T: Copy + Drop>(alloc: Global, value: T, count: usize) -> Result<Vec<T>, AllocError>
     ensures { IfOk result (λ made. made.items ≡ replicate count value) }
 {

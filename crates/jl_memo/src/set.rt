@@ -5,7 +5,7 @@ ghost use Rattle.jl_memo.specs.Memos.{is_of, outcome_in, in_set, with_row};
 
 use jl_types::{ClassId, Outcome, SiteNo};
 
-/// What the calls of a site come to on objects of a class (JVMS SE 17 §5.4.6, §6.5).
+/// The outcome of the calls of a site on objects of a class (JVMS SE 17 §5.4.6, §6.5).
 #[derive(Clone, Copy)]
 pub struct Row {
     pub site: SiteNo,
@@ -31,7 +31,7 @@ impl Set {
         }
     }
 
-    /// With this row as its newer one. The one that was newer is the older one then, unless it was of the same calls.
+    /// The two rows once this one is the newer one. The one that was newer is the older one then, unless it was of the same calls.
     pub(crate) fn with(&self, row: Row) -> Set
         ensures { result ≡ with_row self.now row }
     {

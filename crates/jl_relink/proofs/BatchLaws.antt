@@ -26,8 +26,8 @@ use Rattle.jl_types.proofs.Lists.{rest_at}
 
 module _ {A : Type 0} (site : A → ℕ) where
   -- the sites of these rows, the last one first
-  abbrev pub sites_of : List A → List ℕ
-  sites_of rows = fold (λ sites row. site row ∷ sites) [] rows
+  abbrev pub sites_before : List A → List ℕ
+  sites_before rows = fold (λ sites row. site row ∷ sites) [] rows
 
   any_fold : (s : ℕ) (rows : List A) (sites : List ℕ)
       → list_any (λ t. t == s) (fold (λ sites row. site row ∷ sites) sites rows) ≡ (list_any (λ row. site row == s) rows || list_any (λ t. t == s) sites)
@@ -41,7 +41,7 @@ module _ {A : Type 0} (site : A → ℕ) where
       turned false true c = refl
       turned false false c = refl
 
-  pub any_site : (s : ℕ) (rows : List A) → list_any (λ t. t == s) (sites_of rows) ≡ list_any (λ row. site row == s) rows
+  pub any_site : (s : ℕ) (rows : List A) → list_any (λ t. t == s) (sites_before rows) ≡ list_any (λ row. site row == s) rows
   any_site s rows = any_fold s rows [] ∙ or_none (list_any (λ row. site row == s) rows)
 
   fold_end : (sites : List ℕ) (rows : List A) (row : A) → fold (λ sites row. site row ∷ sites) sites (rows ++ row ∷ []) ≡ site row
@@ -49,7 +49,7 @@ module _ {A : Type 0} (site : A → ℕ) where
   fold_end sites [] row = refl
   fold_end sites (x ∷ rows) row = fold_end (site x ∷ sites) rows row
 
-  pub sites_more : (rows : List A) (row : A) → sites_of (rows ++ row ∷ []) ≡ site row ∷ sites_of rows
+  pub sites_more : (rows : List A) (row : A) → sites_before (rows ++ row ∷ []) ≡ site row ∷ sites_before rows
   sites_more rows row = fold_end [] rows row
 
 pub repeated_site : (w : World) (earlier : List ℕ) (s : ℕ) (sites : List ℕ) → nat_le (length w.places) s ≡ false → list_any (λ t. t == s) earlier ≡ true
@@ -64,24 +64,25 @@ new_site w earlier s sites e f = rw (e, f) (first_alone (sites_fault w (s ∷ ea
 module _ {A : Type 0} (site : A → ℕ) (w : World) (rows : List A) (n : ℕ) (row : A) (lt : n < length rows) (is : row ≡ get_or rows n row) (s : ℕ)
     (same : s ≡ site row) (known : s < length w.places) where
   abbrev left : ℕ → Option SitesFault
-  left k = sites_fault w (sites_of site (take k rows)) (map site (drop k rows))
+  left k = sites_fault w (sites_before site (take k rows)) (map site (drop k rows))
 
-  split : left n ≡ sites_fault w (sites_of site (take n rows)) (s ∷ map site (drop (n + 1) rows))
+  split : left n ≡ sites_fault w (sites_before site (take n rows)) (s ∷ map site (drop (n + 1) rows))
   split =
-      ap (λ (rs : List A). sites_fault w (sites_of site (take n rows)) (map site rs)) (rest_at rows n row lt is)
-      ∙ ap (λ t. sites_fault w (sites_of site (take n rows)) (t ∷ map site (drop (n + 1) rows))) (sym same)
+      ap (λ (rs : List A). sites_fault w (sites_before site (take n rows)) (map site rs)) (rest_at rows n row lt is)
+      ∙ ap (λ t. sites_fault w (sites_before site (take n rows)) (t ∷ map site (drop (n + 1) rows))) (sym same)
 
   pub comes_again : list_any (λ r. site r == s) (take n rows) ≡ true → left n ≡ Some (Repeated s)
-  comes_again h = split ∙ repeated_site w (sites_of site (take n rows)) s (map site (drop (n + 1) rows)) (lt-leb (length w.places) s known)
+  comes_again h = split ∙ repeated_site w (sites_before site (take n rows)) s (map site (drop (n + 1) rows)) (lt-leb (length w.places) s known)
       (any_site site s (take n rows) ∙ h)
 
   pub comes_first : list_any (λ r. site r == s) (take n rows) ≡ false → left (n + 1) ≡ left n
   comes_first h =
       ap (λ (earlier : List ℕ). sites_fault w earlier (map site (drop (n + 1) rows)))
-      (ap (sites_of site) (take_more rows n row lt ∙ ap (λ (r : A). take n rows ++ r ∷ []) (sym is))
+      (ap (sites_before site) (take_more rows n row lt ∙ ap (λ (r : A). take n rows ++ r ∷ []) (sym is))
       ∙ sites_more site (take n rows) row
-      ∙ ap (λ t. t ∷ sites_of site (take n rows)) (sym same))
-      ∙ sym (new_site w (sites_of site (take n rows)) s (map site (drop (n + 1) rows)) (lt-leb (length w.places) s known) (any_site site s (take n rows) ∙ h))
+      ∙ ap (λ t. t ∷ sites_before site (take n rows)) (sym same))
+      ∙ sym (new_site w (sites_before site (take n rows)) s (map site (drop (n + 1) rows)) (lt-leb (length w.places) s known)
+      (any_site site s (take n rows) ∙ h))
       ∙ sym split
 
 -- ---- sites below a bound

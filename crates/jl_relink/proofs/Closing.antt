@@ -58,10 +58,7 @@ may_release_then limits w call_sites points accepted =
 pub free_loaders : (limits : Limits) (w : World) (loaders : List ℕ) → IsOk (verdict limits w (event.RetireAll loaders)) → AreFree w loaders
 free_loaders limits w loaders accepted = all_free w loaders (no_refusal (retire_all_fault w loaders) _ accepted)
 
-module _ (cs : Classes) (order : AreInOrder cs) where
-  good : IsGood cs
-  good = record { there = order.there; ordered = order.ordered }
-
+module _ (cs : Classes) (closed : IsClosed cs) where
   pub closed_delegated : (loader : ℕ) (name : List ℕ) (to : ℕ) → delegate_fault cs loader name to ≡ None → IsClosed (delegated cs loader name to)
   closed_delegated loader name to none = by_found (lookup cs to name) refl
     where
@@ -77,11 +74,34 @@ module _ (cs : Classes) (order : AreInOrder cs) where
           last false false c e = e
 
       by_found : (o : Option ℕ) → lookup cs to name ≡ o → IsClosed (record cs { loaders = option_map_or (with_record cs.loaders loader name) o cs.loaders })
-      by_found None is = order.closed
-      by_found (Some c) is = closed_with_record cs order.closed loader name c (order.closed.records to name c live is)
+      by_found None is = closed
+      by_found (Some c) is = closed_with_record cs closed loader name c (closed.records to name c live is)
+
+module _ (cs : Classes) (order : AreInOrder cs) where
+  good : IsGood cs
+  good = record { there = order.there; ordered = order.ordered }
 
   pub rows_delegated : (loader : ℕ) (name : List ℕ) (to : ℕ) → AreOrdered (delegated cs loader name to).rows
   rows_delegated loader name to = order.ordered
+
+module _ (limits : Limits) (w : World) (is_good : IsGood w.classes) (closed : IsClosed w.classes) where
+  pub closed_once : (e : Event) → IsOk (verdict limits w e) → IsClosed (step w e).classes
+  closed_once event.NewLoader accepted = closed_with_loader w.classes closed
+  closed_once (event.Define loader file) accepted = closed_defined w.classes is_good loader file closed
+  closed_once (event.Delegate loader name to) accepted =
+      closed_delegated w.classes closed loader name to (no_fault Delegate (delegate_fault w.classes loader name to) _ accepted)
+  closed_once (event.Request place) accepted = closed
+  closed_once (event.NewCallSite kind ty t) accepted = closed
+  closed_once (event.SetTarget c t) accepted = closed
+  closed_once event.NewSwitch accepted = closed
+  closed_once (event.Invalidate points) accepted = closed
+  closed_once (event.Bind s c) accepted = closed
+  closed_once (event.Install rows) accepted = closed
+  closed_once (event.Retire loader) accepted =
+      closed_retired w.classes is_good.ordered closed (loader ∷ []) (may_retire w (loader ∷ []) (free_loader limits w loader accepted))
+  closed_once (event.RetireAll loaders) accepted =
+      closed_retired w.classes is_good.ordered closed loaders (may_retire w loaders (free_loaders limits w loaders accepted))
+  closed_once (event.Release call_sites points) accepted = closed
 
 module _ (w : World) (order : AreInOrder w.classes) where
   pub ordered_after : (e : Event) → AreOrdered (step w e).classes.rows
@@ -100,22 +120,7 @@ module _ (w : World) (order : AreInOrder w.classes) where
   ordered_after (event.Release call_sites points) = order.ordered
 
   pub closed_after : (limits : Limits) (e : Event) → IsOk (verdict limits w e) → IsClosed (step w e).classes
-  closed_after limits event.NewLoader accepted = closed_with_loader w.classes order.closed
-  closed_after limits (event.Define loader file) accepted = closed_defined w.classes (good w.classes order) loader file order.closed
-  closed_after limits (event.Delegate loader name to) accepted =
-      closed_delegated w.classes order loader name to (no_fault Delegate (delegate_fault w.classes loader name to) _ accepted)
-  closed_after limits (event.Request place) accepted = order.closed
-  closed_after limits (event.NewCallSite kind ty t) accepted = order.closed
-  closed_after limits (event.SetTarget c t) accepted = order.closed
-  closed_after limits event.NewSwitch accepted = order.closed
-  closed_after limits (event.Invalidate points) accepted = order.closed
-  closed_after limits (event.Bind s c) accepted = order.closed
-  closed_after limits (event.Install rows) accepted = order.closed
-  closed_after limits (event.Retire loader) accepted =
-      closed_retired w.classes order.ordered order.closed (loader ∷ []) (may_retire w (loader ∷ []) (free_loader limits w loader accepted))
-  closed_after limits (event.RetireAll loaders) accepted =
-      closed_retired w.classes order.ordered order.closed loaders (may_retire w loaders (free_loaders limits w loaders accepted))
-  closed_after limits (event.Release call_sites points) accepted = order.closed
+  closed_after limits = closed_once limits w (good w.classes order) order.closed
 
   present_of_others : (loaders : List ℕ) (s : ℕ) (place : Place) → slice_get w.places s ≡ Some place → retires_site w loaders s ≡ false
       → is_present w.classes place.class ≡ true → is_present (retired w.classes loaders) place.class ≡ true

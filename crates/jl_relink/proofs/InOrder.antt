@@ -147,7 +147,7 @@ from limits (e ∷ h) w order each files =
     (in_order_after limits w order e (each 0 e refl) (first_test (has_read_file e) (list_all has_read_file h) files))
     (λ n f at. each (suc n) f at) (second_test (has_read_file e) (list_all has_read_file h) files)
 
-at_first : IsInOrder nothing_yet
+pub at_first : IsInOrder nothing_yet
 at_first = record {
   classes = record {
     there = (tt, tt);

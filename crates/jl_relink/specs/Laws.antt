@@ -25,14 +25,14 @@ pub record IsInOrder (w : World) : Type 0 where
   pub classes : AreInOrder w.classes
   pub points : are_known w.sites ≡ true
 
--- the link of site s, and what it rests on, is the same in both worlds, and the site's invocation comes to the same before its receiver
+-- site s has this link in the world afterwards, with the stage and the footprint that it had before
 pub record SiteStays (w after : World) (s : ℕ) (l : Link) : Type 0 where
   pub link : scratch after s ≡ Ok l
   pub selects : stage after s ≡ stage w s
   pub rests_on : footprint after s ≡ footprint w s
 
--- After the definition of a class that the site's link looks at, the site selects as before, by this invocation, and whether its link
--- stays is told by the link and by what the invocation comes to for the new class. What the link rests on stays.
+-- After the definition of a class that the site's link looks at, the site selects as before, by this invocation. The link and the outcome
+-- of the invocation for the new class tell whether the link stays. What the link rests on stays.
 pub record OneMore (w : World) (loader : ℕ) (file : ClassFile) (s : ℕ) (l : Link) : Type 0 where
   pub invocation : ResolvedCall
   pub before : stage w s ≡ Selects invocation
@@ -49,7 +49,7 @@ abbrev pub has_read_file : Event → Bool
 has_read_file (event.Define loader file) = extends_object file.flags file.superclass && nat_lt (length file.methods) 65536
 has_read_file _ = true
 
--- Each event was accepted after those before it, where at most so many sites may be requested, and each file was read.
+-- Each event was accepted after those before it, within these limits, and each file was read.
 pub record AreAccepted (limits : Limits) (h : List Event) : Type 0 where
   pub each : (n : ℕ) (e : Event) → slice_get h n ≡ Some e → IsOk (verdict limits (world_after (take n h)) e)
   pub files : list_all has_read_file h ≡ true

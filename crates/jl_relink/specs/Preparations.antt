@@ -17,11 +17,11 @@ pub record IsPrepared (snapshot : Snapshot) (sites : List ℕ) (prepared : Prepa
   pub rows : ArePrepared snapshot.world sites prepared.rows
   pub serial : prepared.serial ≡ snapshot.serial
 
--- the first fault of the batch, or, where there is none, want of memory
+-- the first fault of the batch, or, if there is none, want of memory
 abbrev pub IsFault : World → List ℕ → PrepareFault → Type 0
 IsFault w sites f = (prepare_fault w sites ≡ Some f) ⊎ ((f ≡ Memory) × (prepare_fault w sites ≡ None))
 
--- by its answer
+-- the answer is a preparation, or a fault
 abbrev pub IsPreparation : Snapshot → List ℕ → Result Prepared PrepareFault → Type 0
 IsPreparation snapshot sites (Ok prepared) = IsPrepared snapshot sites prepared
 IsPreparation snapshot sites (Err f) = IsFault snapshot.world sites f

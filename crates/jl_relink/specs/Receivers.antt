@@ -14,10 +14,10 @@ abbrev pub IsSelection : Classes → Stage → Option Selection → Type 0
 IsSelection cs stage None = (i : ResolvedCall) → stage ≡ Selects i → i.selector ≡ BySpecial
 IsSelection cs stage (Some s) = (i : ResolvedCall) × (stage ≡ Selects i) × IsKept s i × (s.named < length cs.rows)
 
--- the answer is whether the link stays once there is this receiver more, where the site selects by its receiver
+-- if the site selects by its receiver, the answer is whether the link stays once there is this receiver more
 abbrev pub TellsStay : World → ℕ → Link → ℕ → Bool → Type 0
 TellsStay w s l x stays = (i : ResolvedCall) → stage w s ≡ Selects i → i.selector ≢ BySpecial → stays ≡ stays_with l (outcome w.classes i x)
 
--- the answer is whether the site runs the method for this receiver
+-- if the site selects by its receiver, the answer is whether it runs the method for this one
 abbrev pub TellsRun : World → ℕ → MethodId → ℕ → Bool → Type 0
 TellsRun w s m x does = (i : ResolvedCall) → stage w s ≡ Selects i → i.selector ≢ BySpecial → does ≡ runs m (outcome w.classes i x)

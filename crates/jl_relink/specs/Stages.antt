@@ -1,4 +1,4 @@
--- What the code keeps of what an invocation of a reference comes to before its receiver. A means of proof.
+-- What the code keeps of the stage of an invocation of a reference. A means of proof.
 use Rattle.std.specs.Prelude.{◌≡◌, ◌<◌, ℕ, List, length, Some}
 use Rattle.jl_pool.specs.declared.reference.Reference.{Reference}
 use Rattle.jl_types.specs.declared.link.TableKind.{TableKind}

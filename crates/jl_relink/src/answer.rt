@@ -5,8 +5,9 @@ ghost use Rattle.jl_types.specs.Linkage.Resolution as resolution;
 ghost use Rattle.jl_types.specs.Linkage.Stages as stages;
 ghost use Rattle.jl_types.specs.Linkage.Calls as calls;
 ghost use Rattle.jl_relink.specs.ForProofs.Rows.{selected_answer, special_answer, fits};
+ghost use Rattle.jl_relink.specs.Placed.{asking};
 
-use crate::located::locate;
+use crate::located::{locate, locate_at};
 use crate::selection::{Selection, outcome};
 use crate::stage::{Stage, stage_of_reference};
 use crate::world::World;
@@ -16,7 +17,8 @@ use jl_names::LentName;
 use jl_pool::Reference;
 use jl_select::special;
 use jl_types::{
-    Answer, CallSiteId, ClassId, Missing, Outcome, Recv, SiteNo, TableKind, Throwable, Unlinked,
+    Answer, CallSiteId, ClassId, Missing, Outcome, Place, Recv, SiteNo, TableKind, Throwable,
+    Unlinked,
 };
 
 /// The answer to a call (JVMS SE 17 §6.5). It looks at no link. Takes no memory.
@@ -36,6 +38,27 @@ pub fn dispatch(world: &World, site: SiteNo, recv: Recv) -> Answer
             recv,
         ),
         Operand::CallSite(_) => binding_answer(world, world.bound_to(site), recv),
+    }
+}
+
+/// The answer to a call of the invocation at this place, without a request (JVMS SE 17 §6.5). An invokedynamic there is bound to no call
+/// site. Takes no memory.
+pub fn dispatch_at(classes: &Classes, place: &Place, recv: Recv) -> Answer
+    ensures { result ≡ calls.dispatch (asking classes.now place.now) 0 recv }
+{
+    let found = match locate_at(classes, place) {
+        Ok(found) => found,
+        Err(reason) => return Answer::Unlinked(reason),
+    };
+    match found.invocation.operand() {
+        Operand::Method(reference) => reference_answer(
+            classes,
+            found.invocation.kind(),
+            found.caller,
+            reference,
+            recv,
+        ),
+        Operand::CallSite(_) => Answer::Unlinked(Unlinked::Unbound),
     }
 }
 
@@ -91,7 +114,7 @@ fn selected_answer(classes: &Classes, selection: &Selection, recv: Recv) -> Answ
     }
 }
 
-/// The answer to a call of an invokespecial that comes to this outcome.
+/// The answer to a call of an invokespecial of this outcome.
 fn special_answer(classes: &Classes, outcome: Outcome, recv: Recv) -> Answer
     ensures { result ≡ special_answer classes.now outcome recv }
 {

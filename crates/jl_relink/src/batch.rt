@@ -8,13 +8,13 @@ use crate::world::World;
 use jl_types::{Link, SiteNo, SitesFault};
 
 /// The most rows of a batch.
-const MOST_ROWS: usize = 256;
+pub const MOST_IN_BATCH: usize = 256;
 
 /// Whether a batch of so many rows has none, or too many: more than 256.
 pub fn is_bad_size(rows: usize) -> bool
     ensures { result ≡ batches.is_bad_size rows }
 {
-    rows == 0 || rows > MOST_ROWS
+    rows == 0 || rows > MOST_IN_BATCH
 }
 
 /// A row of a batch: a site, alone or with a link.
@@ -74,7 +74,7 @@ fn comes_below<R: Row>(rows: &[R], bound: usize, site: SiteNo) -> bool
     comes(rows, site)
 }
 
-/// The bound, or the number after the site where that is more.
+/// The bound, or the number after the site if that is more.
 fn bound_with(bound: usize, site: SiteNo) -> usize
     ensures as_before { bound ≤ result }
     ensures past { site < result }

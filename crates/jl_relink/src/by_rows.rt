@@ -1,16 +1,13 @@
-//! The link of an invocation by what its receivers come to.
+//! The link of an invocation by the outcomes of its receivers.
 
 ghost use Rattle.std.specs.Prelude.{◌≡◌, ◌≤◌, length};
 ghost use Rattle.jl_types.specs.Linkage.Links.{virtual_link, table_or_mega};
 ghost use Rattle.jl_relink.specs.ForProofs.Rows.{link_by_rows};
 
 use crate::receivers::common_of;
-use jl_types::{ClassId, Link, Outcome, Table, TableKind};
+use jl_types::{ClassId, Link, MOST_ROWS, Outcome, Table, TableKind};
 
-/// The most receivers of a table (Hölzle, Chambers and Ungar 1991).
-pub(crate) const MOST_RECEIVERS: usize = 8;
-
-/// The link of an invocation whose receivers come to this. Nothing is walked.
+/// The link of an invocation whose receivers have these outcomes. Nothing is walked.
 pub(crate) fn link_by_rows(kind: TableKind, rows: &[(ClassId, Outcome)]) -> Link
     ensures { result ≡ link_by_rows kind rows.now }
 {
@@ -20,7 +17,7 @@ pub(crate) fn link_by_rows(kind: TableKind, rows: &[(ClassId, Outcome)]) -> Link
     }
 }
 
-/// The same of an invokevirtual.
+/// The link of an invokevirtual whose receivers have these outcomes. Nothing is walked.
 pub(crate) fn virtual_by_rows(rows: &[(ClassId, Outcome)]) -> Link
     ensures { result ≡ virtual_link rows.now }
 {
@@ -30,17 +27,17 @@ pub(crate) fn virtual_by_rows(rows: &[(ClassId, Outcome)]) -> Link
     }
 }
 
-/// A table of these, or Mega where they are more than eight.
+/// A table of these rows, or Mega if they are more than eight.
 fn table_or_mega(kind: TableKind, rows: &[(ClassId, Outcome)]) -> Link
     ensures { result ≡ table_or_mega kind rows.now }
 {
-    if rows.len() > MOST_RECEIVERS {
+    if rows.len() > MOST_ROWS {
         return Link::Mega;
     }
     Link::Table(kind, table_of_rows(rows))
 }
 
-/// These as a table.
+/// A table of these rows.
 fn table_of_rows(rows: &[(ClassId, Outcome)]) -> Table
     requires { length rows.now ≤ 8 }
     ensures { result ≡ rows.now }

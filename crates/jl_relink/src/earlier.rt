@@ -20,8 +20,9 @@ pub(crate) const MOST_REMEMBERED: usize = 256;
 /// The number of no row.
 pub(crate) const NO_ROW: u16 = u16::MAX;
 
-/// The link of a site from scratch: the one of an earlier row whose invocation is equal, where that row is remembered. Else it is made,
-/// with as many ticks as ever, and the number is remembered that the row of the site gets.
+/// The link of a site from scratch. If an earlier row is remembered whose invocation is equal, it is the link of that row, without a
+/// tick. Else it is made, with as many ticks as ever. The number that the row of the site gets is remembered, unless its invocation
+/// names a call site.
 pub(crate) fn link_beside(
     world: &World,
     site: SiteNo,
@@ -46,7 +47,8 @@ pub(crate) fn link_beside(
     }
 }
 
-/// Remembers the number of a row at the place, and gives the one that stood there: itself, where there is no such place.
+/// Remembers the number of a row at the place, and gives the one that stood there. If there is no such place, it gives the number of
+/// the row itself.
 fn exchanged(remembered: &mut [u16], place: usize, row: usize) -> usize {
     if place >= remembered.len() {
         return row;
@@ -56,8 +58,8 @@ fn exchanged(remembered: &mut [u16], place: usize, row: usize) -> usize {
     before as usize
 }
 
-/// A place at which rows are remembered: the same for equal invocations, and often another one for others. None of them, where the
-/// invocation names a call site.
+/// The place at which the row of an invocation is remembered. Equal invocations have the same place, and others often another one. If
+/// the invocation names a call site, it is past all places.
 fn place_of(found: &Located<'_>) -> usize {
     match found.invocation.operand() {
         Operand::Method(reference) => {
@@ -83,7 +85,7 @@ fn mixed(number: usize, name: &[u8]) -> usize {
         .wrapping_add(last)
 }
 
-/// The link of the row of this number, where its invocation equals this one and names a method.
+/// The link of the row of this number, if its invocation equals this one and names a method.
 fn equal_link(
     world: &World,
     found: &Located<'_>,

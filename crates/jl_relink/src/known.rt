@@ -1,4 +1,4 @@
-//! What every receiver of an invocation comes to, where that is known without a look at each.
+//! The outcome of every receiver of an invocation, if it is known without a look at each.
 
 ghost use Rattle.std.specs.Prelude.{◌≡◌, ◌+◌, ◌^◌, ◌<◌, ◌≤◌, ℕ, true, length, if◌then◌else◌};
 ghost use Rattle.jl_types.specs.declared.answer.Outcome.TheVariants.{Run};
@@ -23,7 +23,7 @@ pub(crate) fn all_run(classes: &Classes, selection: &Selection) -> bool
     !classes.receivers(selection.named).is_empty() && each_runs(classes, selection)
 }
 
-/// The same with one tick where it is so, as for the one selection that it stands for.
+/// Answers what [`all_run`] answers. If that is yes, it counts one tick, for the one selection that it stands for.
 pub(crate) fn all_run_counted(classes: &Classes, selection: &Selection, work: &mut Work) -> bool
     requires named { selection.now.named < length classes.now.rows }
     requires fits { work.old + length (ancestry.receivers classes.now selection.now.named) < 2 ^ 64 }

@@ -18,8 +18,10 @@ ghost use Rattle.jl_select.specs.Constancy.{IsConstant};
 ghost use Rattle.jl_types.specs.Events.Footprints.{retires, touches, most_for};
 ghost use Rattle.jl_relink.specs.Laws.{LinksStay, IsInOrder, SiteStays, OneMore, AreAccepted, changes_receivers};
 
-/// The events that change no link: a site that has a link has the same one afterwards. Of a delegation that is so where what
-/// was resolved and selected stays, and of a new switch point where each call site runs what it ran before.
+/// The events that change no link: a site that has a link has the same one afterwards.
+///
+/// A delegation is one of these if what was resolved and selected stays. A new switch point is one if each call site runs what it ran
+/// before.
 pub fn links_stay()
     ensures new_loader { (w : World) → LinksStay w event.NewLoader }
     ensures delegate { (w : World) (loader : ℕ) (name : List ℕ) (to : ℕ)
@@ -33,7 +35,10 @@ pub fn links_stay()
 {}
 
 /// An accepted event that changes nothing of what a site's link rests on, and doesn't retire the site, leaves the link, and what it
-/// rests on: after accepted events that of a settled site, and in any world whose classes came in order that of a site that has one.
+/// rests on. This holds
+///
+/// - of a settled site, after accepted events
+/// - of a site that has a link, in any world whose classes came in order and whose guards and invokers have what they name
 pub fn untouched_links_stay()
     ensures settled { (limits : Limits) (h : List Event) (e : Event) (s : ℕ) (l : Link) → AreAccepted limits h
         → IsOk (verdict limits (world_after h) e) → Settled h s l → retires (world_after h) e s ≡ false
@@ -47,8 +52,8 @@ pub fn accepted_events_are_in_order()
     ensures { (limits : Limits) (h : List Event) → AreAccepted limits h → IsInOrder (world_after h) }
 {}
 
-/// Whether the link of a site that a definition touches stays is told by the link and by what the new class comes to as a receiver,
-/// and by no other receiver. What the site's link rests on stays.
+/// If a definition touches a site, the link and the outcome of the new class as a receiver tell whether the link stays. No other
+/// receiver counts. What the site's link rests on stays.
 pub fn one_receiver_more()
     ensures { (w : World) (loader : ℕ) (file : ClassFile) (s : ℕ) (l : Link) → IsInOrder w
         → touches w (event.Define loader file) s ≡ true → scratch w s ≡ Ok l → OneMore w loader file s l }

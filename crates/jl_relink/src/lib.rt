@@ -2,15 +2,15 @@
 //! are looked up apart from the events, in one thread or in several, and installed later.
 //!
 //! The contract of each is its definition in jl_types (`Links`, `Calls`, `Batches` and `Preparation`);
-//! `specs/Preparations` says what a preparation is answered, and `specs/Laws` that an event changes no link. The other
-//! definitions here are means of proof.
+//! `specs/Preparations` says what a preparation is answered, `specs/Laws` which events change no link, and `specs/Placed` in which world
+//! an invocation is asked by its place. The other definitions here are means of proof.
 #![tactic(auto)]
 
 mod answer;
 mod batch;
 mod by_rows;
 mod earlier;
-mod fill;
+mod items;
 mod known;
 mod laws;
 mod link;
@@ -28,8 +28,9 @@ mod together;
 mod wide;
 mod world;
 
-pub use answer::dispatch;
-pub use batch::{Row, is_bad_size, sites_fault};
+pub use answer::{dispatch, dispatch_at};
+pub use batch::{MOST_IN_BATCH, Row, is_bad_size, sites_fault};
+pub use items::fill;
 pub use laws::{
     accepted_events_are_in_order, links_stay, one_receiver_more, touched_sites_take_one_evaluation,
     untouched_links_stay,
@@ -37,7 +38,7 @@ pub use laws::{
 pub use located::invocation_at;
 pub use preparation::{Prepared, prepare, prepare_counted, prepare_in};
 pub use receiver::stays_with_receiver;
-pub use scratch::{link_counted, link_of};
+pub use scratch::{link_at, link_counted, link_of};
 pub use snapshot::Snapshot;
 pub use wide::{Probe, prepare_wide, prepare_wide_seen};
 pub use world::World;

@@ -7,16 +7,16 @@ ghost use Rattle.jl_types.specs.declared.link.TableKind.TheVariants.{Interface};
 ghost use Rattle.jl_relink.specs.ForProofs.Counts.{most_of};
 ghost use Rattle.jl_relink.specs.ForProofs.Rows.{rows_of, selected_link};
 
-use crate::by_rows::{MOST_RECEIVERS, virtual_by_rows};
+use crate::by_rows::virtual_by_rows;
 use crate::known::all_run_counted;
 use crate::receivers::{common_run, table_of};
 use crate::selection::{Selection, outcome_counted};
 use jl_hierarchy::Classes;
-use jl_types::{ClassId, Link, Outcome, TableKind, Work};
+use jl_types::{ClassId, Link, MOST_ROWS, Outcome, TableKind, Work};
 
-/// The link of the invocation: Direct where an invokevirtual's method is private or its receivers run one same method, else
-/// a table of up to eight receivers, else Mega. It takes one tick at most for each receiver that it looks at, and one of a
-/// private method. No receiver is looked at where it is known that no subclass redeclares the method; that is one selection for
+/// The link of the invocation: Direct if an invokevirtual's method is private or its receivers all run the same method, else
+/// a table of up to eight receivers, else Mega. It takes one tick at most for each receiver that it looks at, and one for a
+/// private method. If it is known that no subclass redeclares the method, no receiver is looked at. That is one selection for
 /// all of them, and takes one tick.
 pub(crate) fn selected_link(classes: &Classes, selection: &Selection, work: &mut Work) -> Link
     requires named { selection.now.named < length classes.now.rows }
@@ -60,7 +60,7 @@ fn virtual_link(
     ensures link { result ≡ virtual_link (rows_of classes.now selection.now receivers.now) }
     ensures ticks { work.new ≤ work.old + length receivers.now }
 {
-    if receivers.len() > MOST_RECEIVERS {
+    if receivers.len() > MOST_ROWS {
         return match common_run(classes, selection, receivers, work) {
             Some(method) => Link::Direct(Outcome::Run(method)),
             None => Link::Mega,
@@ -82,7 +82,7 @@ fn interface_link(
     ensures link { result ≡ table_or_mega Interface (rows_of classes.now selection.now receivers.now) }
     ensures ticks { work.new ≤ work.old + length receivers.now }
 {
-    if receivers.len() > MOST_RECEIVERS {
+    if receivers.len() > MOST_ROWS {
         return Link::Mega;
     }
     Link::Table(

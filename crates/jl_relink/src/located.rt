@@ -3,6 +3,7 @@
 ghost use Rattle.std.specs.Prelude.{◌≡◌, IfOk, IfErr};
 ghost use Rattle.jl_types.specs.Linkage.Stages as stages;
 ghost use Rattle.jl_types.specs.Events.Footprints.{footprint, of_operand};
+ghost use Rattle.jl_relink.specs.Placed.{asking};
 
 use crate::world::World;
 use jl_class::Site;
@@ -31,6 +32,26 @@ pub(crate) fn locate(world: &World, site: SiteNo) -> Result<Located<'_>, Unlinke
         return Err(Unlinked::Gone);
     }
     match invocation_at(&world.classes, place) {
+        Some(invocation) => Ok(Located {
+            caller: place.class,
+            invocation,
+        }),
+        None => Err(Unlinked::NoSite),
+    }
+}
+
+/// The invocation at the place, or why there is none.
+pub(crate) fn locate_at<'a>(classes: &'a Classes, place: &Place) -> Result<Located<'a>, Unlinked>
+    ensures there { IfOk result (λ found. stages.stage (asking classes.now place.now) 0
+        ≡ stages.by_operand (asking classes.now place.now) 0 found.caller found.invocation.kind found.invocation.operand) }
+    ensures rests_on { IfOk result (λ found. footprint (asking classes.now place.now) 0
+        ≡ of_operand (asking classes.now place.now) 0 found.caller found.invocation.kind found.invocation.operand) }
+    ensures none { IfErr result (λ reason. stages.stage (asking classes.now place.now) 0 ≡ stages.Waits reason) }
+{
+    if !classes.is_present(place.class) {
+        return Err(Unlinked::Gone);
+    }
+    match invocation_at(classes, place) {
         Some(invocation) => Ok(Located {
             caller: place.class,
             invocation,

@@ -6,8 +6,7 @@ ghost use Rattle.jl_types.specs.Events.Preparation.{link_fault, prepare_fault};
 ghost use Rattle.jl_relink.specs.Preparations.{IsFault};
 ghost use Rattle.jl_relink.specs.ForProofs.Wide as plans;
 
-use crate::by_rows::MOST_RECEIVERS;
-use crate::fill::fill;
+use crate::items::fill;
 use crate::known::all_run;
 use crate::preparation::room_for;
 use crate::receiver::selection_at;
@@ -15,7 +14,7 @@ use crate::scratch::link_of;
 use crate::selection::Selection;
 use crate::world::World;
 use jl_hierarchy::Classes;
-use jl_types::{ClassId, Link, Outcome, PrepareFault, SiteNo, TableKind};
+use jl_types::{ClassId, Link, MOST_ROWS, Outcome, PrepareFault, SiteNo, TableKind};
 use std::alloc::Global;
 
 /// An invocation with one of its receivers.
@@ -30,7 +29,7 @@ pub(crate) struct Pair {
 pub(crate) enum Outline {
     /// Its link.
     Known(Link),
-    /// What the receivers of this invocation come to decides.
+    /// The outcomes of the receivers of this invocation decide its link.
     Depends(Selection),
 }
 
@@ -62,8 +61,8 @@ fn plan_of(world: &World, site: SiteNo) -> Result<(SiteNo, Outline), PrepareFaul
     }
 }
 
-/// What is known of the site where what its receivers come to decides the link: that all of them run one method which no subclass
-/// redeclares, and else the invocation.
+/// What is known of the site if the outcomes of its receivers decide the link. If no subclass redeclares the method, all receivers run
+/// it, so the link is known. Else the invocation is.
 fn planned_at(world: &World, site: SiteNo) -> Option<Outline>
     ensures { IfSome result (λ planned. plans.IsPlanned world.now site planned) }
 {
@@ -74,7 +73,8 @@ fn planned_at(world: &World, site: SiteNo) -> Option<Outline>
     Some(planned_of(&world.classes, &selection))
 }
 
-/// The same of an invocation whose link its receivers decide.
+/// What is known of an invocation whose link is decided by its receivers: the link, if no subclass redeclares the method, and else the
+/// invocation.
 fn planned_of(classes: &Classes, selection: &Selection) -> Outline
     requires { selection.now.named < length classes.now.rows }
     ensures link { plans.link_of_plan classes.now result ≡ plans.link_of_plan classes.now (plans.depends_on selection.now) }
@@ -87,14 +87,14 @@ fn planned_of(classes: &Classes, selection: &Selection) -> Outline
     }
 }
 
-/// Whether what the receivers come to decides the link: not where an invokevirtual's method is private, or where an
-/// invokeinterface has too many of them for a table.
+/// Whether the outcomes of the receivers decide the link. They don't if an invokevirtual's method is private, or if an
+/// invokeinterface has too many receivers for a table.
 fn depends(classes: &Classes, selection: &Selection) -> bool
     requires { selection.now.named < length classes.now.rows }
     ensures { result ≡ plans.depends classes.now selection.now }
 {
     match selection.kind {
         TableKind::Virtual => !classes.is_private(&selection.method),
-        TableKind::Interface => classes.receivers(selection.named).len() <= MOST_RECEIVERS,
+        TableKind::Interface => classes.receivers(selection.named).len() <= MOST_ROWS,
     }
 }

@@ -24,12 +24,16 @@ pub struct Prepared {
 }
 
 /// Looks up the links of these sites from scratch, in the world of the snapshot. Nothing is installed.
-/// [`prepare_wide`](crate::prepare_wide) says where it is faster.
+/// [`prepare_wide`](crate::prepare_wide) says when that one is faster.
 ///
 /// # Errors
 ///
-/// Fewer than 1 or more than 256 sites; else the first site that isn't requested or comes twice; else the first one that
-/// has no link. Want of memory where there is none of these.
+/// The first of these:
+///
+/// - Fewer than 1 or more than 256 sites.
+/// - The first site that isn't requested or comes twice.
+/// - The first site that has no link.
+/// - Want of memory.
 pub fn prepare(
     alloc: Global,
     snapshot: &Snapshot,
@@ -58,7 +62,7 @@ pub fn prepare_in(
     prepare_counted(alloc, world, serial, sites, &mut work)
 }
 
-/// As [`prepare_in`], and counts each selection, special search and evaluation of a call site.
+/// Does what [`prepare_in`] does, and counts each selection, special search and evaluation of a call site.
 ///
 /// # Errors
 ///
@@ -120,7 +124,7 @@ fn push_row<T: Copy>(rows: &mut Vec<(SiteNo, T)>, site: SiteNo, one: T)
     rows.push_reserved((site, one));
 }
 
-/// An empty list with room for something of each site, where the batch has the right size and its sites are requested, each once.
+/// An empty list with room for something of each site, if the batch has the right size and its sites are requested, each once.
 pub(crate) fn room_for<T: Drop>(
     alloc: Global,
     world: &World,

@@ -62,8 +62,8 @@ fn runs_at(
     }
 }
 
-/// Whether the invocation runs this method on an object of this class, with one tick at most: it takes one, too, where it is known
-/// that every receiver runs the method that is resolved, and that is this one.
+/// Whether the invocation runs this method on an object of this class, with one tick at most. It takes one also if it is known that
+/// every receiver runs the resolved method, and that is this one.
 fn receiver_runs(
     classes: &Classes,
     selection: &Selection,
@@ -83,8 +83,8 @@ fn receiver_runs(
     runs(outcome_counted(classes, selection, receiver, work), method)
 }
 
-/// Whether it is known, without a search, that the invocation runs this method on an object of this class: it is the method that is
-/// resolved, and no subclass of the named class redeclares that. One tick where it is, as for the selection that it stands for.
+/// Whether it is known, without a search, that the invocation runs this method on an object of this class: it is the resolved method,
+/// and no subclass of the named class redeclares it. One tick if it is known, as for the selection that it stands for.
 fn is_known_to_run(
     classes: &Classes,
     selection: &Selection,
@@ -138,7 +138,7 @@ pub(crate) fn selection_at(world: &World, site: SiteNo) -> Option<Selection>
     }
 }
 
-/// The same of an invocation of the reference in the caller's class.
+/// The invokevirtual or invokeinterface of the reference in the caller's class that selects by its receiver.
 fn selection_of_reference(
     classes: &Classes,
     kind: Kind,

@@ -1,4 +1,4 @@
-//! What the receivers of an invocation come to, one after another.
+//! The outcomes of the receivers of an invocation, one after another.
 
 ghost use Rattle.std.specs.Prelude.{◌≡◌, ◌+◌, ◌^◌, ◌<◌, ◌≤◌, None, length, All};
 ghost use Rattle.jl_relink.specs.ForProofs.Rows.{run_on, joined, rows_of};
@@ -7,7 +7,7 @@ use crate::selection::{Selection, outcome_counted};
 use jl_hierarchy::Classes;
 use jl_types::{ClassId, MethodId, Outcome, Table, Work};
 
-/// The method that each of these receivers runs, where there is one and they run one same method. It ends at the first that
+/// The method that each of these receivers runs, if there is a receiver and all run the same method. It ends at the first that
 /// runs another one, or throws, with one tick at most for each up to there.
 pub(crate) fn common_run(
     classes: &Classes,
@@ -27,7 +27,7 @@ pub(crate) fn common_run(
     common
 }
 
-/// The method that each of these rows runs, where there is one and they run one same method. Nothing is walked.
+/// The method that each of these rows runs, if there is a row and all run the same method. Nothing is walked.
 pub(crate) fn common_of(rows: &[(ClassId, Outcome)]) -> Option<MethodId>
     ensures { result ≡ run_on None rows.now }
 {
@@ -38,7 +38,7 @@ pub(crate) fn common_of(rows: &[(ClassId, Outcome)]) -> Option<MethodId>
     common
 }
 
-/// The method that earlier receivers and this one run, where they run one same method.
+/// The method that earlier receivers and this one run, if they run the same method.
 fn joined(earlier: Option<MethodId>, outcome: Outcome) -> Option<MethodId>
     ensures { result ≡ joined earlier outcome }
 {

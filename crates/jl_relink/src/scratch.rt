@@ -5,9 +5,10 @@ ghost use Rattle.jl_types.specs.Linkage.Resolution as resolution;
 ghost use Rattle.jl_types.specs.Linkage.Stages as stages;
 ghost use Rattle.jl_types.specs.Linkage.Links as links;
 ghost use Rattle.jl_types.specs.Events.Footprints.{of_stage, of_operand, most_by, most_for};
+ghost use Rattle.jl_relink.specs.Placed.{asking};
 
 use crate::link::selected_link;
-use crate::located::{Located, locate};
+use crate::located::{Located, locate, locate_at};
 use crate::stage::{Stage, stage_of_reference};
 use crate::world::World;
 use jl_class::{Kind, Operand};
@@ -15,7 +16,7 @@ use jl_hierarchy::Classes;
 use jl_names::LentName;
 use jl_pool::Reference;
 use jl_select::special_counted;
-use jl_types::{CallSiteId, ClassId, Link, Missing, SiteNo, Unlinked, Work};
+use jl_types::{CallSiteId, ClassId, Link, Missing, Place, SiteNo, Unlinked, Work};
 
 /// The link of a site from scratch, or why it has none. Takes no memory.
 pub fn link_of(world: &World, site: SiteNo) -> Result<Link, Unlinked>
@@ -27,8 +28,8 @@ pub fn link_of(world: &World, site: SiteNo) -> Result<Link, Unlinked>
     link_counted(world, site, &mut work)
 }
 
-/// The same with one tick at most for each receiver that it looks at, and one where it looks at none: each selection, special search
-/// and evaluation of a call site takes one. Takes no memory.
+/// Gives what [`link_of`] gives, and counts one tick for each selection, special search and evaluation of a call site. That is at most
+/// one for each receiver that it looks at, and at most one if it looks at none. Takes no memory.
 pub fn link_counted(world: &World, site: SiteNo, work: &mut Work) -> Result<Link, Unlinked>
     requires fits { work.old + most_for world.now site < 2 ^ 64 }
     ensures link { result ≡ links.scratch world.now site }
@@ -37,6 +38,30 @@ pub fn link_counted(world: &World, site: SiteNo, work: &mut Work) -> Result<Link
     match locate(world, site) {
         Ok(found) => invocation_link(world, site, &found, work),
         Err(reason) => Err(reason),
+    }
+}
+
+/// The link from scratch of the invocation at this place, or why it has none. It needs no request. An invokedynamic has none, since it
+/// is bound to no call site. Takes no memory.
+pub fn link_at(classes: &Classes, place: &Place) -> Result<Link, Unlinked>
+    ensures { result ≡ links.scratch (asking classes.now place.now) 0 }
+{
+    // Shows how few classes there are, which bounds the work.
+    let _count = classes.class_count();
+    let mut work = Work::new();
+    let found = match locate_at(classes, place) {
+        Ok(found) => found,
+        Err(reason) => return Err(reason),
+    };
+    match found.invocation.operand() {
+        Operand::Method(reference) => reference_link(
+            classes,
+            found.invocation.kind(),
+            found.caller,
+            reference,
+            &mut work,
+        ),
+        Operand::CallSite(_) => Err(Unlinked::Unbound),
     }
 }
 

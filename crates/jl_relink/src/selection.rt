@@ -1,4 +1,4 @@
-//! What an invocation that selects by its receiver comes to.
+//! The outcome of an invocation that selects by its receiver.
 
 ghost use Rattle.std.specs.Prelude.{◌≡◌, ◌+◌, ◌^◌, ◌<◌, ◌≤◌, length};
 ghost use Rattle.jl_relink.specs.ForProofs.Rows.{outcome_of};
@@ -16,7 +16,7 @@ pub(crate) struct Selection {
     pub(crate) method: MethodId,
 }
 
-/// What the invocation comes to for a receiver of the class (JVMS SE 17 §6.5).
+/// The outcome of the invocation for a receiver of the class (JVMS SE 17 §6.5).
 pub(crate) fn outcome(classes: &Classes, selection: &Selection, receiver: ClassId) -> Outcome
     requires { receiver < length classes.now.rows }
     ensures { result ≡ outcome_of classes.now selection.now receiver }
@@ -29,7 +29,7 @@ pub(crate) fn outcome(classes: &Classes, selection: &Selection, receiver: ClassI
     }
 }
 
-/// The same with one tick at most.
+/// Gives what [`outcome`] gives, with one tick at most.
 pub(crate) fn outcome_counted(
     classes: &Classes,
     selection: &Selection,

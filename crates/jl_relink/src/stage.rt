@@ -26,7 +26,7 @@ pub(crate) enum Stage {
     Calls(MethodId),
     /// It selects by the receiver.
     Selects(Selection),
-    /// An invokespecial: it searches from the caller's class or the one that the reference names, and comes to the same for each
+    /// An invokespecial: it searches from the caller's class or the one that the reference names. Its outcome is the same for each
     /// receiver.
     Searches,
 }
@@ -70,7 +70,7 @@ fn by_kind(
     }
 }
 
-/// No static method where none may be.
+/// An invocation that selects by its receiver fails if the method is static.
 fn selecting(
     classes: &Classes,
     kind: TableKind,

@@ -21,9 +21,11 @@ use std::thread::Threads;
 /// How many pairs a thread of its own looks at, at the least: making one takes some 30 microseconds.
 const LEAST_PIECE: usize = 512;
 
-/// What is told of each pair of a site and a receiver that is looked at, by the thread that looks. A site lists no pair where its link
-/// is known without a look at each receiver: by their count, at an invokeinterface with more than eight, or by the marks of classes,
-/// at an invokevirtual whose method no subclass redeclares.
+/// What is told of each pair of a site and a receiver that is looked at, by the thread that looks. A site lists no pair if its link
+/// is known without a look at each receiver:
+///
+/// - by the count of receivers, at an invokeinterface with more than eight
+/// - by the marks of classes, at an invokevirtual whose method no subclass redeclares
 pub trait Probe {
     /// The pair at this place is looked at, once. The pairs are numbered from 0 on, by the order of the sites, and those of one site by
     /// rising class of the receiver.
@@ -37,23 +39,29 @@ impl Probe for Silent {
     fn at(&self, _place: usize) {}
 }
 
-/// Looks up the links of these sites from scratch, in the world of the snapshot (JVMS SE 17 §6.5): what
+/// Looks up the links of these sites from scratch, in the world of the snapshot (JVMS SE 17 §6.5). It gives what
 /// [`prepare`](crate::prepare) gives, with as many threads as there are processors. Nothing is installed.
 ///
-/// It lists the pairs of a site and a receiver of all sites whose links depend on what their receivers come to, and looks at
-/// them in threads. It lists no pair of an invokeinterface with more than eight receivers, whose link is known by their count, nor of an
-/// invokevirtual whose method no subclass redeclares, whose link is known by the marks of classes.
+/// If a site's link depends on the outcomes of its receivers, it lists the pairs of the site with each of them. Threads look at the
+/// pairs. It lists no pair
 ///
-/// It pays where `prepare` looks at many receivers: where all of a site's run one method, which another subclass declares again, 256
-/// sites with 64 to 2,048 receivers each, at some 0.04 microseconds a receiver, were 1.2 to 2.7 times as fast on four processors that
-/// were two cores of two threads each. Both take about as long at 4,096 pairs and at 2,048. `prepare` is faster where more than eight
-/// receivers of an invokevirtual run several methods, since it ends such a site after a few of them. Fewer than 1,024 pairs one thread
-/// looks at here, too.
+/// - of an invokeinterface with more than eight receivers, whose link is known by their count
+/// - of an invokevirtual whose method no subclass redeclares, whose link is known by the marks of classes
+///
+/// It pays if `prepare` looks at many receivers. That is so if all receivers of a site run one method, which another subclass declares
+/// again. 256 such sites with 64 to 2,048 receivers each, at some 0.04 microseconds a receiver, were 1.2 to 2.7 times as fast on four
+/// processors that were two cores of two threads each. Both take about as long at 4,096 pairs and at 2,048. Fewer than 1,024 pairs one
+/// thread looks at here, too. `prepare` is faster if more than eight receivers of an invokevirtual run several methods, since it ends
+/// such a site after a few of them.
 ///
 /// # Errors
 ///
-/// Those of [`prepare`](crate::prepare): fewer than 1 or more than 256 sites; else the first site that isn't requested or comes
-/// twice; else the first one that has no link. Want of memory where there is none of these.
+/// Those of [`prepare`](crate::prepare), the first of these:
+///
+/// - Fewer than 1 or more than 256 sites.
+/// - The first site that isn't requested or comes twice.
+/// - The first site that has no link.
+/// - Want of memory.
 pub fn prepare_wide(
     rt: &(impl Threads + Sync),
     alloc: Global,
@@ -65,7 +73,7 @@ pub fn prepare_wide(
     prepare_wide_seen(rt, alloc, snapshot, sites, &Silent)
 }
 
-/// The same, where the probe is told of each pair of a site and a receiver.
+/// Does what [`prepare_wide`] does, and tells the probe of each pair of a site and a receiver.
 ///
 /// # Errors
 ///
@@ -82,7 +90,7 @@ pub fn prepare_wide_seen<P: Probe + Sync>(
     wide_in(rt, alloc, snapshot.world(), snapshot.serial(), sites, probe)
 }
 
-/// The same in a world that is as it was after so many accepted events.
+/// Does what [`prepare_wide_seen`] does, in a world that is as it was after so many accepted events.
 fn wide_in<P: Probe + Sync>(
     rt: &(impl Threads + Sync),
     alloc: Global,
@@ -103,7 +111,7 @@ fn wide_in<P: Probe + Sync>(
     }
 }
 
-/// The rows of the plan with their links. Want of memory is an error.
+/// The rows of the plan with their links.
 fn rows_of_plan<P: Probe + Sync>(
     rt: &(impl Threads + Sync),
     alloc: Global,
@@ -119,7 +127,7 @@ fn rows_of_plan<P: Probe + Sync>(
     put_together(alloc, classes, plan, looked.as_slice())
 }
 
-/// What each pair comes to, in order, from as many threads as there are processors.
+/// The outcome of each pair, in order, from as many threads as there are processors.
 fn look_up<P: Probe + Sync>(
     rt: &(impl Threads + Sync),
     alloc: Global,

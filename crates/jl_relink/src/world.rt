@@ -12,8 +12,8 @@ use jl_types::{CallSiteId, SiteNo};
 use std::alloc::{AllocError, Global};
 use std::marker::Model;
 
-/// The classes; the places that were requested, in order of request; the call site to which each invokedynamic is bound that is
-/// bound to one; and the call sites and switch points.
+/// The classes, the requested places in order of request, the call site of each bound invokedynamic, and the call sites and switch
+/// points.
 pub struct World {
     pub classes: Classes,
     pub places: Places,
@@ -51,7 +51,7 @@ impl Model for World {
 }
 
 impl World {
-    /// No classes, requested places, call sites and switch points: loader 0 has found nothing. Want of memory is an error.
+    /// No classes, requested places, call sites and switch points: loader 0 has found nothing.
     pub fn new(alloc: Global) -> Result<Self, AllocError>
         ensures { IfOk result (λ world. world ≡ nothing_yet) }
     {
@@ -63,7 +63,7 @@ impl World {
         })
     }
 
-    /// The same world once more. Want of memory is an error.
+    /// A copy of the world.
     pub fn copy(&self, alloc: Global) -> Result<World, AllocError>
         ensures { IfOk result (λ copy. copy ≡ self.now) }
     {

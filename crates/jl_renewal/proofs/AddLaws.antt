@@ -40,7 +40,7 @@ pub adds_next : {X : Type 0} (f : X → Option Event) (xs : List X) (i : ℕ) (d
 adds_next f xs i d a b c h before one =
     subst (λ (es : List Event). Adds es a c) (sym (filter_map-take_more f xs i d h)) (adds_both _ _ a b c before one)
 
--- the same where the code has made what the element gives
+-- one element more, where the code has made what the element gives
 pub adds_turn : {X : Type 0} (f : X → Option Event) (xs : List X) (i : ℕ) (d : X) (o : Option Event) (a b c : State) → i < length xs
     → o ≡ f (get_or xs i d) → Adds (filter_map f (take i xs)) a b → Adds (option_to_list o) b c → Adds (filter_map f (take (i + 1) xs)) a c
 adds_turn f xs i d o a b c h made before one =

@@ -38,7 +38,7 @@ at_more (z ∷ xs) x (suc n) y at = elim (at_more xs x n y at) [ inl h ↦ inl h
 
 module _ {A : Type 0} (Same : A → A → Type 0) (xs : List A) (x : A)
     (once : (i j : ℕ) (a b : A) → slice_get xs i ≡ Some a → slice_get xs j ≡ Some b → Same a b → i ≡ j)
-    (before : (i : ℕ) (a : A) → slice_get xs i ≡ Some a → Same a x → ⊥) (behind : (i : ℕ) (a : A) → slice_get xs i ≡ Some a → Same x a → ⊥) where
+    (before : (i : ℕ) (a : A) → slice_get xs i ≡ Some a → Same a x → ⊥) (later : (i : ℕ) (a : A) → slice_get xs i ≡ Some a → Same x a → ⊥) where
   -- no two are the same where none is the same as the one that is added
   pub once_more : (i j : ℕ) (a b : A) → slice_get (xs ++ x ∷ []) i ≡ Some a → slice_get (xs ++ x ∷ []) j ≡ Some b → Same a b → i ≡ j
   once_more i j a b ai bj same = by_places (at_more xs x i a ai) (at_more xs x j b bj)
@@ -46,7 +46,7 @@ module _ {A : Type 0} (Same : A → A → Type 0) (xs : List A) (x : A)
       by_places : (slice_get xs i ≡ Some a) ⊎ ((i ≡ length xs) × (x ≡ a)) → (slice_get xs j ≡ Some b) ⊎ ((j ≡ length xs) × (x ≡ b)) → i ≡ j
       by_places (inl one) (inl two) = once i j a b one two same
       by_places (inl one) (inr two) = absurd (before i a one (subst (Same a) (sym two.1) same))
-      by_places (inr one) (inl two) = absurd (behind j b two (subst (λ y. Same y b) (sym one.1) same))
+      by_places (inr one) (inl two) = absurd (later j b two (subst (λ y. Same y b) (sym one.1) same))
       by_places (inr one) (inr two) = one.0 ∙ sym two.0
 
 -- before the first place that passes none does
@@ -142,7 +142,7 @@ same_point p w v same there = ap (λ switches. is_missing switches p) same ∙ t
 pub same_call_site : (d : ℕ) (w v : World) → v.sites.call_sites ≡ w.sites.call_sites → StaysCallSite w v d
 same_call_site d w v same site there = (site, ap (λ call_sites. unreleased call_sites d) same ∙ there, refl)
 
--- there is no first fault where the first test and what comes behind it have none
+-- there is no first fault where the first test and what comes after it have none
 none_next : {A : Type 0} (b : Bool) (x : A) (rest : List (Option A)) → b ≡ false → first_of rest ≡ None → first_of (then_some b x ∷ rest) ≡ None
 none_next true x rest is e = cc
 none_next false x rest is e = e

@@ -261,7 +261,7 @@ module _ (w : World) (fit : IsFit w) where
           (all_named w v (λ c is. is) (λ p there. there) (λ d row there. (row, there, refl)) site.target) (fit.targets c site at);
       places = λ s other at. invoked_still w v on other (by_place s other (at_more w.places place s other at));
       once = once_more (λ p q. same_place p q ≡ true) w.places place fit.once
-          (λ s other at same. behind s other at (place_turned place other ∙ same)) behind;
+          (λ s other at same. later s other at (place_turned place other ∙ same)) later;
       bindings = λ i b at. binding_still w v on b (fit.bindings i b at);
       bound_once = fit.bound_once;
     }
@@ -281,8 +281,8 @@ module _ (w : World) (fit : IsFit w) where
         by_place s other (inl at) = fit.places s other at
         by_place s other (inr last) = subst (IsInvoked w) last.1 invoked
 
-        behind : (s : ℕ) (other : Place) → slice_get w.places s ≡ Some other → same_place place other ≡ true → ⊥
-        behind s other at same = both_ways (list_any (same_place place) w.places) new (any_passes_from_place (same_place place) w.places s other at same)
+        later : (s : ℕ) (other : Place) → slice_get w.places s ≡ Some other → same_place place other ≡ true → ⊥
+        later s other at same = both_ways (list_any (same_place place) w.places) new (any_passes_from_place (same_place place) w.places s other at same)
 
     pub request_fit : IsOk (request_at limits w place) → IsFit (record w { places = requested w.places place })
     request_fit accepted = by_test (list_any (same_place place) w.places) refl

@@ -20,7 +20,7 @@ use Rattle.jl_renewal.specs.Numbers.{staying}
 use Rattle.jl_renewal.specs.Staying.{invokes, guards_by, with_first, staying_from}
 use Rattle.jl_renewal.specs.Marks.{marked, flagged_target}
 use Rattle.jl_renewal.proofs.ReleasedRows.{row_at, not_missing}
-use Rattle.jl_renewal.proofs.MarkLaws.{unchanged, changed_behind, changed_map, mark_next, mark_end}
+use Rattle.jl_renewal.proofs.MarkLaws.{unchanged, changed_after, changed_map, mark_next, mark_end}
 
 -- a target invokes call sites with smaller numbers
 invokes_earlier : (points c d : ℕ) (t : Target) → is_known points c t ≡ true → c ≤ d → invokes d t ≡ false
@@ -45,8 +45,8 @@ module _ (held : ℕ → Bool) (sites : List (Option CallSite)) where
   stays_by c d = held d || list_any (has_target (invokes d)) (staying (staying_from held c (drop c sites)) (drop c sites))
 
   -- from number c on, which stay; below it, which stay by those
-  abbrev pub stays_behind : ℕ → List Bool
-  stays_behind c = map (stays_by c) (range_with_len 0 c) ++ staying_from held c (drop c sites)
+  abbrev pub stays_after : ℕ → List Bool
+  stays_after c = map (stays_by c) (range_with_len 0 c) ++ staying_from held c (drop c sites)
 
   -- the same, if these are the call sites from number c on
   abbrev stays_with : ℕ → List (Option CallSite) → List Bool
@@ -54,9 +54,9 @@ module _ (held : ℕ → Bool) (sites : List (Option CallSite)) where
       map (λ d. held d || list_any (has_target (invokes d)) (staying (staying_from held c later) later)) (range_with_len 0 c)
       ++ staying_from held c later
 
-  -- behind the last call site, those that are held
-  behind_all : stays_behind (length sites) ≡ map held (range_with_len 0 (length sites))
-  behind_all =
+  -- past the last call site, those that are held
+  after_all : stays_after (length sites) ≡ map held (range_with_len 0 (length sites))
+  after_all =
       ap (stays_with count) (drop_of_length-le sites (omega arith))
       ∙ (append-nil _ ∙ ap (λ (f : ℕ → Bool). map f (range_with_len 0 count)) (λ i d. or_none (held d) i))
     where
@@ -70,19 +70,19 @@ module _ (held : ℕ → Bool) (sites : List (Option CallSite)) where
     abbrev before : List Bool
     before = map (stays_by (c + 1)) (range_with_len 0 c)
 
-    -- the flags behind number c + 1, with the one at c
-    parted : stays_behind (c + 1) ≡ before ++ stays_by (c + 1) c ∷ after
+    -- the flags from number c + 1 on, with the one at c
+    parted : stays_after (c + 1) ≡ before ++ stays_by (c + 1) c ∷ after
     parted =
         ap (λ flags. flags ++ after) (map-range_with_len_more (stays_by (c + 1)) 0 c c (omega arith))
         ∙ append_assoc before (stays_by (c + 1) c ∷ []) after
 
-    flag_of_next : get_or (stays_behind (c + 1)) c false ≡ stays_by (c + 1) c
+    flag_of_next : get_or (stays_after (c + 1)) c false ≡ stays_by (c + 1) c
     flag_of_next =
         ap (λ flags. get_or flags c false) parted
         ∙ get_or_at before (stays_by (c + 1) c) after false c (length-map-range_with_len (stays_by (c + 1)) 0 c)
 
     -- where the next one is released, its flag is taken back
-    next_released : drop c sites ≡ None ∷ drop (c + 1) sites → slice_set (stays_behind (c + 1)) c false ≡ stays_behind c
+    next_released : drop c sites ≡ None ∷ drop (c + 1) sites → slice_set (stays_after (c + 1)) c false ≡ stays_after c
     next_released left =
         ap (λ flags. slice_set flags c false) parted
         ∙ (set_middle before after (stays_by (c + 1) c) false c (length-map-range_with_len (stays_by (c + 1)) 0 c)
@@ -92,12 +92,12 @@ module _ (held : ℕ → Bool) (sites : List (Option CallSite)) where
       abbrev below : Bool → ℕ → Bool
       below one d = held d || list_any (has_target (invokes d)) (staying (one ∷ after) (Some site ∷ drop (c + 1) sites))
 
-      -- the flags behind number c, by the one at c
-      joined : stays_behind c ≡ map (below (stays_by (c + 1) c)) (range_with_len 0 c) ++ stays_by (c + 1) c ∷ after
+      -- the flags after number c, by the one at c
+      joined : stays_after c ≡ map (below (stays_by (c + 1) c)) (range_with_len 0 c) ++ stays_by (c + 1) c ∷ after
       joined = ap (stays_with c) left
 
       -- where the next one goes, nothing changes
-      next_goes : stays_by (c + 1) c ≡ false → stays_behind (c + 1) ≡ stays_behind c
+      next_goes : stays_by (c + 1) c ≡ false → stays_after (c + 1) ≡ stays_after c
       next_goes goes =
           parted
           ∙ (ap (λ one. before ++ one ∷ after) goes
@@ -105,10 +105,10 @@ module _ (held : ℕ → Bool) (sites : List (Option CallSite)) where
 
       -- where it stays, those that its target invokes stay, too
       next_stays : (points : ℕ) → stays_by (c + 1) c ≡ true → is_known points c site.target ≡ true
-          → marked (λ d. invokes d site.target) (stays_behind (c + 1)) ≡ stays_behind c
+          → marked (λ d. invokes d site.target) (stays_after (c + 1)) ≡ stays_after c
       next_stays points stays known =
           ap (marked (λ d. invokes d site.target)) (parted ∙ ap (λ one. before ++ one ∷ after) stays)
-          ∙ (changed_behind mark 0 before (true ∷ after)
+          ∙ (changed_after mark 0 before (true ∷ after)
           ∙ (ap₂ (λ xs ys. xs ++ ys)
           (changed_map mark (stays_by (c + 1)) 0 c ∙ ap (λ (f : ℕ → Bool). map f (range_with_len 0 c)) (λ i d.
           either_way (held d) (list_any (has_target (invokes d)) (staying after (drop (c + 1) sites))) (invokes d site.target) i))
@@ -137,19 +137,19 @@ module _ (held : ℕ → Bool) (sites : List (Option CallSite)) where
   not_taken : (c : ℕ) (site : CallSite) (flags : List Bool) → unreleased sites c ≡ Some site → taken_back c flags ≡ flags
   not_taken c site flags there = ap (λ (b : Bool). if b then slice_set flags c false else flags) (not_missing sites c site there)
 
-  target_is : (c : ℕ) (site : CallSite) (flags : List Bool) → unreleased sites c ≡ Some site → flags ≡ stays_behind (c + 1)
+  target_is : (c : ℕ) (site : CallSite) (flags : List Bool) → unreleased sites c ≡ Some site → flags ≡ stays_after (c + 1)
       → flagged_target flags sites c ≡ then_some (stays_by (c + 1) c) site.target
   target_is c site flags there now =
       ap (option_and_then (λ (site : CallSite). then_some (get_or flags c false) site.target)) there
       ∙ ap (λ flag. then_some flag site.target) (ap (λ fs. get_or fs c false) now ∙ flag_of_next c)
 
   -- a call site that stays marks those that its target invokes
-  pub turn_stays : (points c : ℕ) (t : Target) (flags between new : List Bool) → all_known points 0 sites ≡ true → flags ≡ stays_behind (c + 1)
-      → between ≡ taken_back c flags → flagged_target between sites c ≡ Some t → new ≡ marked (λ d. invokes d t) between → new ≡ stays_behind c
+  pub turn_stays : (points c : ℕ) (t : Target) (flags between new : List Bool) → all_known points 0 sites ≡ true → flags ≡ stays_after (c + 1)
+      → between ≡ taken_back c flags → flagged_target between sites c ≡ Some t → new ≡ marked (λ d. invokes d t) between → new ≡ stays_after c
   turn_stays points c t flags between new known now takes is marks = by_site (unreleased sites c) refl is
     where
       by_site : (o : Option CallSite) → unreleased sites c ≡ o
-          → option_and_then (λ (site : CallSite). then_some (get_or between c false) site.target) o ≡ Some t → new ≡ stays_behind c
+          → option_and_then (λ (site : CallSite). then_some (get_or between c false) site.target) o ≡ Some t → new ≡ stays_after c
       by_site None there some = cc
       by_site (Some site) there some =
           let current = takes ∙ (not_taken c site flags there ∙ now) in
@@ -163,15 +163,15 @@ module _ (held : ℕ → Bool) (sites : List (Option CallSite)) where
           same_target false u e = cc
 
   -- one that goes marks none
-  pub turn_goes : (c : ℕ) (flags between : List Bool) → c < length sites → flags ≡ stays_behind (c + 1) → between ≡ taken_back c flags
-      → flagged_target between sites c ≡ None → between ≡ stays_behind c
+  pub turn_goes : (c : ℕ) (flags between : List Bool) → c < length sites → flags ≡ stays_after (c + 1) → between ≡ taken_back c flags
+      → flagged_target between sites c ≡ None → between ≡ stays_after c
   turn_goes c flags between lt now takes is = let row = element_at sites c lt in by_row row.0 row.1
     where
       not_there : (b : Bool) (u : Target) → then_some b u ≡ None → b ≡ false
       not_there true u e = cc
       not_there false u e = refl
 
-      by_row : (row : Option CallSite) → slice_get sites c ≡ Some row → between ≡ stays_behind c
+      by_row : (row : Option CallSite) → slice_get sites c ≡ Some row → between ≡ stays_after c
       by_row None at =
           takes
           ∙ (ap (λ (b : Bool). if b then slice_set flags c false else flags) (ap (λ o. is_none (option_and_then (λ row. row) o)) at)
@@ -206,10 +206,10 @@ by_flags wanted held sites same =
     ∙ same k (ap (is_missing sites) (sym at) ∙ there))
 
 pub flags_at_first : (flags : List Bool) (sites : List (Option CallSite)) → length flags ≡ length sites
-    → flags ≡ stays_behind (λ c. get_or flags c false) sites (length sites)
+    → flags ≡ stays_after (λ c. get_or flags c false) sites (length sites)
 flags_at_first flags sites long =
     fill_by_all (λ c. get_or flags c false) flags (length sites) false long (λ k lt. refl)
-    ∙ sym (behind_all (λ c. get_or flags c false) sites)
+    ∙ sym (after_all (λ c. get_or flags c false) sites)
 
 -- flags that are kept where a test passes
 pub those_kept : (flags : List Bool) (wanted test : ℕ → Bool) (count : ℕ) → flags ≡ map wanted (range_with_len 0 count)
@@ -289,7 +289,7 @@ module _ (stays : List Bool) (sites : List (Option CallSite)) (k : ℕ) (kept : 
       ap (λ ts. marked (λ p. list_any (guards_by p) ts) kept)
       (sym (next_left stays sites k ∙ ap (λ o. option_to_list o ++ targets_left stays sites (k + 1)) is))
 
-  -- behind the last call site nothing is left to mark
+  -- past the last call site nothing is left to mark
   pub guards_end : length sites ≤ k → guarded_from stays sites k kept ≡ kept
   guards_end le =
       mark_end guards_by (targets_left stays sites k) kept

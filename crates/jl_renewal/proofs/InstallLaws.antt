@@ -118,7 +118,7 @@ module _ (w : World) (n : Numbers) (stays : List Bool) (is : n.sites ≡ numbere
       let at_j = some_is stays t j b in
       omega (arith, less, at_i, at_j)
 
-  -- those behind a row are above it
+  -- those after a row are above it
   above : (s i : ℕ) → new_number n.sites s ≡ Some i → (linked : List Row) → All (λ (q : Row). s < q.0) linked
       → All (λ (q : Row). i < q.0) (fresh_rows w n linked)
   above s i ei [] all = λ k d lt. absurd (omega (arith, lt))
@@ -145,14 +145,14 @@ module _ (w : World) (n : Numbers) (stays : List Bool) (is : n.sites ≡ numbere
   rows_fresh (row ∷ linked) rises =
       by_number (new_number n.sites row.0) refl (rows_fresh linked (λ i j d lt within. rises (suc i) (suc j) d (omega (arith, lt)) (omega (arith, within))))
     where
-      behind : All (λ (q : Row). row.0 < q.0) linked
-      behind k d lt = rises 0 (suc k) d (omega arith) (omega (arith, lt))
+      later : All (λ (q : Row). row.0 < q.0) linked
+      later k d lt = rises 0 (suc k) d (omega arith) (omega (arith, lt))
 
       by_link : (j : ℕ) (r : Result Link Unlinked) → scratch w j ≡ r → new_number n.sites row.0 ≡ Some j → AreFresh w (fresh_rows w n linked)
           → AreFresh w (cons_option (row_of j r) (fresh_rows w n linked))
       by_link j (Err reason) now ej rest = rest
       by_link j (Ok l) now ej rest = record {
-        rises = AllPairs-cons (λ (a b : Row). a.0 < b.0) (j, l) (fresh_rows w n linked) (above row.0 j ej linked behind) rest.rises;
+        rises = AllPairs-cons (λ (a b : Row). a.0 < b.0) (j, l) (fresh_rows w n linked) (above row.0 j ej linked later) rest.rises;
         present = first;
       }
         where
@@ -172,11 +172,11 @@ installs_none rows a = record { batches = []; are_batches = λ others are. are; 
 
 pub installs_turn : (rows left batch rest : List Row) (a b c : State) → 1 ≤ length left → batch ≡ take 256 left → rest ≡ drop 256 left
     → InstallsFront rows left a b → Adds (event.Install batch ∷ []) b c → InstallsFront rows rest a c
-installs_turn rows left batch rest a b c some first behind so_far one = record {
+installs_turn rows left batch rest a b c some first later so_far one = record {
   batches = so_far.batches ++ batch ∷ [];
   are_batches = λ others are.
       subst (λ (batches : List (List Row)). AreBatches batches rows) (sym (append_assoc so_far.batches (batch ∷ []) others))
-      (so_far.are_batches (batch ∷ others) (some, first, subst (λ (xs : List Row). AreBatches others xs) behind are));
+      (so_far.are_batches (batch ∷ others) (some, first, subst (λ (xs : List Row). AreBatches others xs) later are));
   adds = subst (λ (es : List Event). Adds es a c) (sym (map-append event.Install so_far.batches (batch ∷ [])))
       (adds_both (map event.Install so_far.batches) (event.Install batch ∷ []) a b c so_far.adds one);
 }
@@ -198,9 +198,9 @@ may_install left batch b some first fresh =
 -- and then the others, since an install changes nothing of what there is to link
 pub still_fresh : (left batch rest : List Row) (b c : State) → rest ≡ drop 256 left → Adds (event.Install batch ∷ []) b c → AreFresh (world_of b) left
     → AreFresh (world_of c) rest
-still_fresh left batch rest b c behind one fresh =
+still_fresh left batch rest b c later one fresh =
     subst (λ (w : World). AreFresh w rest) (sym (world_added (event.Install batch ∷ []) b c one))
-    (subst (λ (xs : List Row). AreFresh (world_of b) xs) (sym behind) (rest_fresh (world_of b) left fresh 256))
+    (subst (λ (xs : List Row). AreFresh (world_of b) xs) (sym later) (rest_fresh (world_of b) left fresh 256))
 
 -- what is accepted is added
 pub adds_of : (e : Event) (reply : Reply) (a b : State) → IsAccepted a b e reply → Adds (e ∷ []) a b
@@ -219,8 +219,8 @@ lacks_memory (Err s) r ok refused = cc
 pub front_is : (left front made : List Row) (n : ℕ) → n ≡ min 256 (length left) → front ≡ take n left → made ≡ front → made ≡ take 256 left
 front_is left front made n is first copied = copied ∙ (first ∙ (ap (λ (k : ℕ). take k left) is ∙ take_min 256 left))
 
-pub behind_is : (left behind : List Row) (n : ℕ) → n ≡ min 256 (length left) → behind ≡ drop n left → behind ≡ drop 256 left
-behind_is left behind n is rest = rest ∙ (ap (λ (k : ℕ). drop k left) is ∙ drop_min 256 left)
+pub after_is : (left later : List Row) (n : ℕ) → n ≡ min 256 (length left) → later ≡ drop n left → later ≡ drop 256 left
+after_is left later n is rest = rest ∙ (ap (λ (k : ℕ). drop k left) is ∙ drop_min 256 left)
 
 pub install_lacks : (left batch : List Row) (b : State) (r : Refusal) → 1 ≤ length left → batch ≡ take 256 left → AreFresh (world_of b) left
     → IsRefused (verdict b.limits (world_of b) (event.Install batch)) r → r ≡ Memory
@@ -244,7 +244,7 @@ stops rows left batch a b c r some same first so_far refused = record {
       (subst (λ (xs : List Row). IsRefusedIn b (event.Install xs) r) first (refused_in b (event.Install batch) r refused));
 }
 
--- where memory lacks for the next of them
+-- where there is no memory for the next of them
 pub lacks : {X E : Type 0} (rows left : List Row) (a b c : State) → 1 ≤ length left → c ≡ b → InstallsFront rows left a b
     → (r : Result X E) → OnErr r (StopsAt rows a c Memory)
 lacks rows left a b c some same so_far (Ok x) = tt

@@ -38,7 +38,7 @@ idle w (batch ∷ batches) = idle w batches
 pub same_world : (h : List Event) (batches : List (List Row)) → world_after (h ++ map event.Install batches) ≡ world_after h
 same_world h batches = fold-append step nothing_yet h (map event.Install batches) ∙ idle (world_after h) batches
 
--- ---- what is installed behind them
+-- ---- what is installed after them
 
 abbrev at : ℕ → Row → Bool
 at k row = row.0 == k
@@ -65,12 +65,12 @@ kept_so h k = by_link (installed h k) refl
     by_link None e = sym (kept_none (scratch (world_after h) k))
     by_link (Some l) e = sym (ap (kept false (Some l)) (settled_now h k l (installed_to h k l e)) ∙ kept_link l)
 
-pub behind : (k : ℕ) (batches : List (List Row)) (h : List Event)
+pub after_batches : (k : ℕ) (batches : List (List Row)) (h : List Event)
     → installed (h ++ map event.Install batches) k ≡ kept (among k batches) (installed h k) (scratch (world_after h) k)
-behind k [] h = ap (λ (es : List Event). installed es k) (append-nil h) ∙ kept_so h k
-behind k (batch ∷ batches) h =
+after_batches k [] h = ap (λ (es : List Event). installed es k) (append-nil h) ∙ kept_so h k
+after_batches k (batch ∷ batches) h =
     ap (λ (es : List Event). installed es k) (sym (append_assoc h (event.Install batch ∷ []) (map event.Install batches)))
-    ∙ (behind k batches (h ++ event.Install batch ∷ [])
+    ∙ (after_batches k batches (h ++ event.Install batch ∷ [])
     ∙ (ap (λ (w : World). kept (among k batches) (installed (h ++ event.Install batch ∷ []) k) (scratch w k)) (same_world h (batch ∷ []))
     ∙ (ap (λ (o : Option Link). kept (among k batches) o (scratch (world_after h) k))
     (installed_step h (event.Install batch) k
@@ -177,7 +177,7 @@ module _ (h : List Event) (n : Numbers) (linked : List Row) (batches : List (Lis
     (k : ℕ) (quiet : IsQuiet k h) (l : Link) where
   now_is : installed (h ++ map event.Install batches) k ≡ kept (list_any (at k) (fresh_rows (world_after h) n linked)) None (scratch (world_after h) k)
   now_is =
-      behind k batches h
+      after_batches k batches h
       ∙ (λ i. kept (in_rows k batches (fresh_rows (world_after h) n linked) are i) (none_there k h quiet i) (scratch (world_after h) k))
 
   came : Contains (installed_links (h ++ map event.Install batches)) (k, l) → HasCome linked n k × (scratch (world_after h) k ≡ Ok l)

@@ -29,11 +29,11 @@ pub unchanged : (f : ℕ → Bool → Bool) (n : ℕ) (flags : List Bool) → ((
 unchanged f n [] same = refl
 unchanged f n (b ∷ flags) same = ap₂ (λ c bs. c ∷ bs) (same n b (omega arith)) (unchanged f (n + 1) flags (λ k b le. same k b (omega (arith, le))))
 
-pub changed_behind : (f : ℕ → Bool → Bool) (n : ℕ) (front back : List Bool)
+pub changed_after : (f : ℕ → Bool → Bool) (n : ℕ) (front back : List Bool)
     → changed_from f n (front ++ back) ≡ changed_from f n front ++ changed_from f (n + length front) back
-changed_behind f n [] back = ap (λ k. changed_from f k back) (omega arith)
-changed_behind f n (b ∷ front) back =
-    ap (λ bs. f n b ∷ bs) (changed_behind f (n + 1) front back
+changed_after f n [] back = ap (λ k. changed_from f k back) (omega arith)
+changed_after f n (b ∷ front) back =
+    ap (λ bs. f n b ∷ bs) (changed_after f (n + 1) front back
     ∙ ap (λ k. changed_from f (n + 1) front ++ changed_from f k back) (omega arith))
 
 pub changed_map : (f : ℕ → Bool → Bool) (flag : ℕ → Bool) (n count : ℕ)
@@ -167,6 +167,6 @@ all_but p q count =
     all_set n zero = refl
     all_set n (suc count) = ap (λ flags. true ∷ flags) (all_set (n + 1) count)
 
--- a vector's items behind a change of its slice
+-- a vector's items after a change of its slice
 pub whole_slice : {X : Type 0} (len : ℕ) (new rest : List X) → length new ≡ len → take len (new ++ rest) ≡ new
 whole_slice len new rest whole = take-append-le len new rest (omega (arith, whole)) ∙ take_all len new (omega (arith, whole))

@@ -29,7 +29,7 @@ use Rattle.jl_renewal.specs.Carries.{carried, made_number, with_made, IsMade}
 use Rattle.jl_renewal.specs.Moved.{Flags, IsBeside, HaveSameLinks, HasNoOtherLinks, HasLinksOf}
 use Rattle.jl_renewal.proofs.FollowLaws.{world_added}
 use Rattle.jl_renewal.proofs.InstallLaws.{adds_of}
-use Rattle.jl_renewal.proofs.LinkLaws.{same_world, behind, in_rows, in_front, came_from, goes_to}
+use Rattle.jl_renewal.proofs.LinkLaws.{same_world, after_batches, in_rows, in_front, came_from, goes_to}
 use Rattle.jl_renewal.proofs.MovedBeside.{beside_as, beside_passed}
 use Rattle.jl_renewal.proofs.MovedLinks.{after_event, number_moved, commutes, alive_of, linked_now, only_by_site, no_others}
 use Rattle.jl_renewal.proofs.MovedLists.{clash}
@@ -82,7 +82,7 @@ module _ (linked : List (ℕ × Link)) (before after : State) (n : Numbers) (bat
     (come : (t : ℕ) → list_any (list_any (λ row. row.0 == t)) batches ≡ true → HasCome linked n t) where
   is_now : (t : ℕ) → installed (events after) t
       ≡ kept (list_any (list_any (λ row. row.0 == t)) batches) (installed (events before) t) (scratch (world_of before) t)
-  is_now t = ap (λ (es : List Event). installed es t) adds.events ∙ behind t batches (events before)
+  is_now t = ap (λ (es : List Event). installed es t) adds.events ∙ after_batches t batches (events before)
 
   still_of : HasLinksOf linked before n → HasLinksOf linked after n
   still_of had t l c = by_test (list_any (list_any (λ row. row.0 == t)) batches) refl (sym (is_now t) ∙ (links_are (events after) t l).1 c)

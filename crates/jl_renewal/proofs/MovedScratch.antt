@@ -108,9 +108,9 @@ module _ (k : Flags) (w : World) (rests : Rests k w) (names : Names k w) (fit : 
       let rest = lists_alike ps all.1 in
       λ i. first i ∷ rest i
 
-  behind : (o : Option ℕ) (ps : List ℕ) → AllByRecursion (λ p. p < length cs.rows) (option_to_list o ++ ps) → AllByRecursion (λ p. p < length cs.rows) ps
-  behind None ps all = all
-  behind (Some s) ps all = all.1
+  later : (o : Option ℕ) (ps : List ℕ) → AllByRecursion (λ p. p < length cs.rows) (option_to_list o ++ ps) → AllByRecursion (λ p. p < length cs.rows) ps
+  later None ps all = all
+  later (Some s) ps all = all.1
 
   lower : (c m : ℕ) → c < m → (ps : List ℕ) → AllByRecursion (λ p. p < c) ps → AllByRecursion (λ p. p < m) ps
   lower c m lt [] all = tt
@@ -123,7 +123,7 @@ module _ (k : Flags) (w : World) (rests : Rests k w) (names : Names k w) (fit : 
       let below = lower c (length cs.rows) (slice_get_within cs.rows c row at) (parents row)
       (recursion_from_All (λ p. p < c) (parents row) (good.ordered c row at)) in
       let superclass = options_alike row.superclass row.interfaces below in
-      let interfaces = lists_alike row.interfaces (behind row.superclass row.interfaces below) in
+      let interfaces = lists_alike row.interfaces (later row.superclass row.interfaces below) in
       λ i. record { loader = loader i; file = row.file; superclass = superclass i; interfaces = interfaces i }
 
   -- what a loader finds

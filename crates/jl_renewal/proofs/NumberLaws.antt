@@ -133,7 +133,7 @@ staying_map f (false ∷ stays) (x ∷ xs) = staying_map f stays xs
 
 -- ---- how many stay
 
--- the next one, if it stays, and those behind it
+-- the next one, if it stays, and those after it
 pub many_at : (stays : List Bool) (i : ℕ) (d : Bool) → i < length stays
     → how_many (drop i stays) ≡ (if get_or stays i d then 1 else 0) + how_many (drop (i + 1) stays)
 many_at [] i d lt = absurd (omega (arith, lt))

@@ -20,7 +20,7 @@ OneStep limits w None v = v ≡ w
 OneStep limits w (Some e) v = IsOk (verdict limits w e) × (step w e ≡ v)
 
 module _ (limits : Limits) where
-  -- events that are accepted behind others that are
+  -- events that are accepted after others that are
   pub follow_both : (w : World) (a b : List Event) → Follow limits w a → Follow limits (fold step w a) b → Follow limits w (a ++ b)
   follow_both w [] b h k = k
   follow_both w (e ∷ a) b h k = (h.0, follow_both (step w e) a b h.1 k)
@@ -56,7 +56,7 @@ module _ (limits : Limits) where
     pub leads_through : Leads limits (G []) (filter_map f all) (G all)
     leads_through = leads_from [] all refl
 
-  -- the same of a range: G is the world once the numbers below are treated
+  -- for a range of numbers: G is the world once the numbers below are treated
   module _ (f : ℕ → Option Event) (G : ℕ → World) (all : ℕ) (each : (k : ℕ) → k < all → OneStep limits (G k) (f k) (G (k + 1))) where
     leads_in_range : (k n : ℕ) → k + n ≡ all → Leads limits (G k) (filter_map f (range_with_len k n)) (G all)
     leads_in_range k zero e = subst (λ j. Leads limits (G k) [] (G j)) (omega (arith, e)) (leads_nowhere (G k))

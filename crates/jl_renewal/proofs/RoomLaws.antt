@@ -110,18 +110,18 @@ module _ (limits : Limits) (w : World) (released : Released) where
   by_classes r none (inr lacks) = inr lacks
 
   -- those before are none
-  behind : sites_fault ≡ None → class_fault limits w.classes ≡ None → renewal_fault limits w released ≡ call_site_fault limits w released
-  behind none classes =
+  later : sites_fault ≡ None → class_fault limits w.classes ≡ None → renewal_fault limits w released ≡ call_site_fault limits w released
+  later none classes =
       ap (λ (o : Option Refusal). first_of (o ∷ of_classes ++ of_call_sites)) none ∙ front_none of_classes of_call_sites classes
 
   pub by_call_sites : (r : Refusal) → sites_fault ≡ None → class_fault limits w.classes ≡ None → IsFault (call_site_fault limits w released) r
       → IsRefusedRenewal limits w released r
-  by_call_sites r none classes (inl is) = inl (behind none classes ∙ is)
+  by_call_sites r none classes (inl is) = inl (later none classes ∙ is)
   by_call_sites r none classes (inr lacks) = inr lacks
 
   pub no_fault : sites_fault ≡ None → class_fault limits w.classes ≡ None → call_site_fault limits w released ≡ None
       → renewal_fault limits w released ≡ None
-  no_fault none classes call_sites = behind none classes ∙ call_sites
+  no_fault none classes call_sites = later none classes ∙ call_sites
 
   pub has_room : renewal_fault limits w released ≡ None → HasRoom limits w released
   has_room none =

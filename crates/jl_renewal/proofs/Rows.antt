@@ -154,7 +154,7 @@ links_under_new_numbers : links_of linked
     ≡ (0, Table kind.Virtual ((1, Run (of_class 1 0)) ∷ (3, Run (of_class 3 1)) ∷ [])) ∷ (1, Plain (of_class 2 2)) ∷ []
 links_under_new_numbers = refl
 
--- without them it lacks links of the old core
+-- without them links of the old core are missing in it
 no_link_is_lacking : HaveSameLinks old (core_of (renewal old nothing)) numbers → ⊥
 no_link_is_lacking same =
     let c = (same 1 (Plain (of_class 2 2))).1 (record { site = 2; link = Plain (of_class 2 2); had = (1, omega arith, refl); has = refl; same = refl }) in

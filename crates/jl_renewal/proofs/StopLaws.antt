@@ -17,7 +17,7 @@ use Rattle.jl_renewal.specs.Adds.{MayAdd, Adds, IsRefusedNext, IsStoppedAt}
 use Rattle.jl_renewal.proofs.AddLaws.{adds_none, adds_both}
 use Rattle.jl_renewal.proofs.FollowLaws.{may_then}
 
--- memory may lack at any of them
+-- there may be no memory at any of them
 memory_lacks : (left : List Event) (core : State) → IsRefusedNext left core Memory
 memory_lacks [] core = refl
 memory_lacks (e ∷ left) core = inl refl
@@ -39,7 +39,7 @@ stopped_one e a b r same refused = record {
   refused = subst (λ (core : State). IsRefusedIn core e r) (sym same) (elim refused [ inl is ↦ inr is | inr lacks ↦ inl lacks.0 ]);
 }
 
--- memory lacks in front of all of them
+-- there is no memory before all of them
 pub stopped_before : (es : List Event) (a : State) (r : Refusal) → r ≡ Memory → IsStoppedAt es a a r
 stopped_before es a r memory = record {
   done = [];
@@ -89,30 +89,30 @@ module _ (w : World) (n : Numbers) (a : State) (r : Refusal) where
   at_switches b = stopped_first (new_switches n.switches) (points ++ (new_call_sites w.sites n ++ (requests ++ bindings))) a b r
 
   module _ (b : State) (switches : Adds (new_switches n.switches) a b) where
-    behind_switches : (end : State) → IsStoppedAt (points ++ (new_call_sites w.sites n ++ (requests ++ bindings))) b end r
+    after_switches : (end : State) → IsStoppedAt (points ++ (new_call_sites w.sites n ++ (requests ++ bindings))) b end r
         → IsStoppedAt (site_events w n) a end r
-    behind_switches end = stopped_then (new_switches n.switches) (points ++ (new_call_sites w.sites n ++ (requests ++ bindings))) a b end r switches
+    after_switches end = stopped_then (new_switches n.switches) (points ++ (new_call_sites w.sites n ++ (requests ++ bindings))) a b end r switches
 
     pub at_points : (c : State) → IsStoppedAt points b c r → IsStoppedAt (site_events w n) a c r
-    at_points c stopped = behind_switches c (stopped_first points (new_call_sites w.sites n ++ (requests ++ bindings)) b c r stopped)
+    at_points c stopped = after_switches c (stopped_first points (new_call_sites w.sites n ++ (requests ++ bindings)) b c r stopped)
 
     module _ (c : State) (invalid : Adds points b c) where
-      behind_points : (end : State) → IsStoppedAt (new_call_sites w.sites n ++ (requests ++ bindings)) c end r → IsStoppedAt (site_events w n) a end r
-      behind_points end stopped =
-          behind_switches end (stopped_then points (new_call_sites w.sites n ++ (requests ++ bindings)) b c end r invalid stopped)
+      after_points : (end : State) → IsStoppedAt (new_call_sites w.sites n ++ (requests ++ bindings)) c end r → IsStoppedAt (site_events w n) a end r
+      after_points end stopped =
+          after_switches end (stopped_then points (new_call_sites w.sites n ++ (requests ++ bindings)) b c end r invalid stopped)
 
       pub at_call_sites : (d : State) → IsStoppedAt (new_call_sites w.sites n) c d r → IsStoppedAt (site_events w n) a d r
-      at_call_sites d stopped = behind_points d (stopped_first (new_call_sites w.sites n) (requests ++ bindings) c d r stopped)
+      at_call_sites d stopped = after_points d (stopped_first (new_call_sites w.sites n) (requests ++ bindings) c d r stopped)
 
       module _ (d : State) (call_sites : Adds (new_call_sites w.sites n) c d) where
-        behind_call_sites : (end : State) → IsStoppedAt (requests ++ bindings) d end r → IsStoppedAt (site_events w n) a end r
-        behind_call_sites end stopped = behind_points end (stopped_then (new_call_sites w.sites n) (requests ++ bindings) c d end r call_sites stopped)
+        after_call_sites : (end : State) → IsStoppedAt (requests ++ bindings) d end r → IsStoppedAt (site_events w n) a end r
+        after_call_sites end stopped = after_points end (stopped_then (new_call_sites w.sites n) (requests ++ bindings) c d end r call_sites stopped)
 
         pub at_requests : (e : State) → IsStoppedAt requests d e r → IsStoppedAt (site_events w n) a e r
-        at_requests e stopped = behind_call_sites e (stopped_first requests bindings d e r stopped)
+        at_requests e stopped = after_call_sites e (stopped_first requests bindings d e r stopped)
 
         pub at_bindings : (e end : State) → Adds requests d e → IsStoppedAt bindings e end r → IsStoppedAt (site_events w n) a end r
-        at_bindings e end requested stopped = behind_call_sites end (stopped_then requests bindings d e end r requested stopped)
+        at_bindings e end requested stopped = after_call_sites end (stopped_then requests bindings d e end r requested stopped)
 
 -- ---- where none of them is refused
 
@@ -125,7 +125,7 @@ none_refused [] core r may memory = memory
 none_refused (e ∷ left) core r may (inl memory) = memory
 none_refused (e ∷ left) core r may (inr is) = absurd (not_both (verdict core.limits (world_of core) e) r is may.0)
 
--- memory lacks then
+-- there is no memory then
 pub lacks_memory : (es : List Event) (a b : State) (r : Refusal) → MayAdd es a → IsStoppedAt es a b r → r ≡ Memory
 lacks_memory es a b r may stopped =
     none_refused stopped.left b r (may_then stopped.done stopped.left a b (subst (λ (xs : List Event). MayAdd xs a) stopped.are may) stopped.adds)
@@ -159,7 +159,7 @@ stopped_turn f xs i d o a b c r lt made adds stopped =
     (stopped_first (option_to_list (f (get_or xs i d))) split.0 b c r
     (subst (λ (x : Option Event). IsStoppedAt (option_to_list x) b c r) made stopped)))
 
--- memory lacks for what it gives
+-- there is no memory for what it gives
 pub stopped_at : {X : Type 0} (f : X → Option Event) (xs : List X) (i : ℕ) (d : X) (a b : State) (r : Refusal) → i < length xs
     → Adds (filter_map f (take i xs)) a b → r ≡ Memory → IsStoppedAt (filter_map f xs) a b r
 stopped_at f xs i d a b r lt adds memory =

@@ -138,9 +138,9 @@ points_there rows m most (true ∷ stays) (v ∷ valid) there le =
         or_from (is_missing rows m) (list_any (is_missing rows) (invalid_from (m + 1) stays valid)) (there m (omega (arith, le))) rest
 points_there rows m most (false ∷ stays) (v ∷ valid) there le = points_there rows m most stays valid there le
 
-set_behind : (front rest : List (Option Bool)) (b c : Option Bool) → slice_set (front ++ b ∷ rest) (length front) c ≡ (front ++ c ∷ []) ++ rest
-set_behind [] rest b c = refl
-set_behind (a ∷ front) rest b c = ap (λ (bs : List (Option Bool)). a ∷ bs) (set_behind front rest b c)
+set_after : (front rest : List (Option Bool)) (b c : Option Bool) → slice_set (front ++ b ∷ rest) (length front) c ≡ (front ++ c ∷ []) ++ rest
+set_after [] rest b c = refl
+set_after (a ∷ front) rest b c = ap (λ (bs : List (Option Bool)). a ∷ bs) (set_after front rest b c)
 
 -- they leave what stays, where none of that is released
 invalid_are : (front : List (Option Bool)) (stays : List Bool) (valid : List (Option Bool)) → length stays ≡ length valid
@@ -157,7 +157,7 @@ invalid_are front (true ∷ stays) (Some true ∷ valid) e there =
     ∙ append_assoc front (Some true ∷ []) (staying stays valid)
 invalid_are front (true ∷ stays) (Some false ∷ valid) e there =
     let longer = sym (length-append front (Some false ∷ [])) in
-    (λ i. invalidated (set_behind front (made_valid stays) (Some true) (Some false) i) (invalid_from (longer i) stays valid))
+    (λ i. invalidated (set_after front (made_valid stays) (Some true) (Some false) i) (invalid_from (longer i) stays valid))
     ∙ invalid_are (front ++ Some false ∷ []) stays valid (omega (arith, e)) (λ p. there (suc p))
     ∙ append_assoc front (Some false ∷ []) (staying stays valid)
 invalid_are front (false ∷ stays) (v ∷ valid) e there = invalid_are front stays valid (omega (arith, e)) (λ p. there (suc p))

@@ -40,12 +40,12 @@ pub record Adds (es : List Event) (old new : State) : Type 0 where
   pub events : events new ≡ events old ++ es
   pub limit : new.limits ≡ old.limits
 
--- the first of these events is refused for this, or memory lacks
+-- the first of these events is refused for this, or for want of memory
 abbrev pub IsRefusedNext : List Event → State → Refusal → Type 0
 IsRefusedNext [] core r = r ≡ Memory
 IsRefusedNext (e ∷ es) core r = IsRefusedIn core e r
 
--- it has accepted a front of these events and no others, and refuses the next of them for this, or memory lacks
+-- it has accepted some first of these events and no others, and refuses the next of them for this, or for want of memory
 pub record IsStoppedAt (es : List Event) (old new : State) (r : Refusal) : Type 0 where
   pub done : List Event
   pub left : List Event
@@ -65,7 +65,7 @@ pub record InstallsFront (rows left : List (ℕ × Link)) (old new : State) : Ty
   pub are_batches : (others : List (List (ℕ × Link))) → AreBatches others left → AreBatches (batches ++ others) rows
   pub adds : Adds (map event.Install batches) old new
 
--- it has installed those before some that are left, and refuses the next of them for this, or memory lacks
+-- it has installed the links before some that are left, and refuses the next of them for this, or for want of memory
 pub record StopsAt (rows : List (ℕ × Link)) (old new : State) (r : Refusal) : Type 0 where
   pub left : List (ℕ × Link)
   pub some : 1 ≤ length left

@@ -19,7 +19,7 @@ use Rattle.jl_renewal.specs.declared.entries.CarryFault.TheVariants.{Gone, Refus
 use Rattle.jl_renewal.specs.Numbers.{Numbers, new_number}
 use Rattle.jl_renewal.specs.Renewal.{request, binding}
 
--- ---- what it names, or none where that is gone
+-- ---- what it names, or none if that is gone
 
 abbrev pub guarded : ℕ → Option Target → Option Target → Option Target
 guarded p first fallback = option_and_then (λ a. option_map (Guard p a) fallback) first
@@ -84,18 +84,18 @@ pub record IsMade (e : Event) (old : Made) (n m : Numbers) (before after : State
   pub accepted : IsAccepted before after e reply
   pub numbers : m ≡ with_made n old (made_number reply.made)
 
--- of one list of numbers
+-- the core has accepted the event, and one list of numbers has what it made
 pub record IsNoted (e : Event) (old : ℕ) (numbers more : List (Option ℕ)) (before after : State) : Type 0 where
   pub reply : Reply
   pub accepted : IsAccepted before after e reply
   pub noted : more ≡ with_number numbers old (made_number reply.made)
 
--- of no list
+-- the core has accepted the event, and no list of numbers changes
 pub record IsTaken (e : Event) (before after : State) : Type 0 where
   pub reply : Reply
   pub accepted : IsAccepted before after e reply
 
--- the core refuses the event, or memory lacks
+-- the core refuses the event, or there is no memory
 abbrev pub IsRefusedIn : State → Event → Refusal → Type 0
 IsRefusedIn core e r = (r ≡ Memory) ⊎ (verdict core.limits (world_of core) e ≡ Err r)
 
@@ -114,7 +114,7 @@ abbrev pub IsCarried : World → Entry → Numbers → Numbers → State → Sta
 IsCarried w entry n m before after =
     ((is_install entry.event ≡ true) × ((m ≡ n) × (after ≡ before))) ⊎ IsAdded w entry n m before after
 
--- why it isn't: it names what is gone, or the core refuses the event, or memory lacks
+-- why an entry isn't carried over: it names what is gone, or the core refuses the event, or there is no memory
 abbrev pub IsUncarried : World → Entry → Numbers → State → CarryFault → Type 0
 IsUncarried w entry n before Gone = carried_event w n entry ≡ None
 IsUncarried w entry n before (Refused r) =

@@ -166,10 +166,10 @@ pub record Rests (k : Flags) (w : World) : Type 0 where
   pub gone : (l : ℕ) → moved k.loaders l ≡ None → is_retired w.classes l ≡ true
   -- a class that is present stays
   pub present : (c : ℕ) → is_present w.classes c ≡ true → is_some (moved k.classes c) ≡ true
-  -- where a class stays its loader does
+  -- if a class stays its loader does
   pub owned : (c : ℕ) (row : Class) → slice_get w.classes.rows c ≡ Some row → is_some (moved k.classes c) ≡ true
       → is_some (moved k.loaders row.loader) ≡ true
-  -- where a loader stays each class does that it has recorded
+  -- if a loader stays each class that it has recorded does
   pub recorded : (l m : ℕ) (records : List (List ℕ × ℕ)) → moved k.loaders l ≡ Some m → slice_get w.classes.loaders l ≡ Some records
       → list_any (λ r. is_none (moved k.classes r.1)) records ≡ false
   -- a site stays exactly where its class does
@@ -177,10 +177,10 @@ pub record Rests (k : Flags) (w : World) : Type 0 where
 
 -- what stays names what stays
 pub record Names (k : Flags) (w : World) : Type 0 where
-  -- where a site stays the call site does to which it is bound, unless that is released
+  -- if a site stays the call site to which it is bound does, unless that is released
   pub bound : (i : ℕ) (b : ℕ × ℕ) → slice_get w.bindings i ≡ Some b → is_missing w.sites.call_sites b.1 ≡ false
       → is_some (moved k.sites b.0) ≡ true → is_some (moved k.call_sites b.1) ≡ true
-  -- where a call site stays all does that its target names
+  -- if a call site stays all that its target names does
   pub targets : (c : ℕ) (site : CallSite) → unreleased w.sites.call_sites c ≡ Some site → is_some (moved k.call_sites c) ≡ true
       → is_some (target_there k site.target) ≡ true
 
@@ -225,7 +225,7 @@ HasLinksOf linked fresh n = (k : ℕ) (l : Link) → Contains (links_of fresh) (
 abbrev pub renumbered_install : Numbers → ℕ × Link → ℕ × Link
 renumbered_install n row = (renumbered n.sites row.0, renumbered_link n row.1)
 
--- why an event that the old core accepts isn't carried over to a fresh one beside it: it may name what is gone, and does; or memory lacks
+-- why an event that the old core accepts isn't carried over to a fresh one beside it: it may name what is gone, and does; or want of memory
 abbrev pub IsFaultBeside : Event → CarryFault → Type 0
 IsFaultBeside e Gone = may_be_gone e ≡ true
 IsFaultBeside e (Refused r) = r ≡ Memory

@@ -3,7 +3,7 @@ use Rattle.std.specs.Prelude.{ℕ, ◌+◌, Bool, true, false, List, [], ◌∷�
 use Rattle.std.specs.Option.{unwrap_or}
 use Rattle.jl_types.specs.Values.Target.{Target, Method, Guard, Invoker}
 
--- of each old loader, class, site, call site and switch point its new number, or none where it is gone
+-- of each old loader, class, site, call site and switch point its new number, or none if it is gone
 pub record Numbers : Type 0 where
   pub loaders : List (Option ℕ)
   pub classes : List (Option ℕ)
@@ -11,7 +11,7 @@ pub record Numbers : Type 0 where
   pub call_sites : List (Option ℕ)
   pub switches : List (Option ℕ)
 
--- the number of what stays, and the numbers of those behind it
+-- what stays is numbered from this number on, in order
 abbrev pub numbered_from : ℕ → List Bool → List (Option ℕ)
 numbered_from n [] = []
 numbered_from n (true ∷ stays) = Some n ∷ numbered_from (n + 1) stays

@@ -1,5 +1,5 @@
--- The events by which a fresh core comes to have what stays of an old one: the loaders; the classes and delegations in the log's
--- order; switch points; call sites with their present targets, which may name methods of any class; places; bindings; and the links.
+-- The events by which a fresh core gets what stays of an old one: the loaders; the classes and delegations in the log's order; switch
+-- points; call sites with their present targets, which may name methods of any class; places; bindings; and the links.
 use Rattle.std.specs.Prelude.{◌≡◌, ◌≤◌, ◌⊎◌, ℕ, nat_lt, List, [], ◌∷◌, ◌++◌, map, filter_map, take, drop, length, Option, Some, None, option_map}
 use Rattle.std.specs.Prelude.{option_and_then, option_to_list, slice_get, Contains, Result, Ok, Err, not, ◌==◌}
 use Rattle.std.specs.Bool.{then_some}
@@ -37,7 +37,7 @@ new_loaders numbers = filter_map (option_map (λ number. event.NewLoader)) (drop
 abbrev pub definer : Classes → ℕ → List ℕ → Option ℕ
 definer cs loader name = option_and_then (λ c. option_map (λ row. row.loader) (slice_get cs.rows c)) (lookup cs loader name)
 
--- to a loader that stays, as to what it finds under the name
+-- the delegation of a loader that stays, as to what it finds under the name
 abbrev pub delegation : Classes → Numbers → ℕ → List ℕ → Option Event
 delegation cs n loader name = option_and_then
     (λ l. option_map (event.Delegate l name) (option_and_then (new_number n.loaders) (definer cs loader name)))
@@ -121,7 +121,7 @@ AreBatches (batch ∷ batches) rows = (1 ≤ length rows) × (batch ≡ take 256
 abbrev pub logged : Limits → World → List Entry → State
 logged limits w entries = record { limits = limits; log = shown w.classes.rows entries }
 
--- the world is what these entries come to, each of which was answered as those before it say
+-- the world is the one after these entries, each of which was answered as those before it say
 pub record IsPast (w : World) (entries : List Entry) : Type 0 where
   pub limits : Limits
   pub world : w ≡ world_of (logged limits w entries)
@@ -156,7 +156,7 @@ renewal_fault limits w released = first_of (
     ∷ then_some (nat_lt limits.switches (how_many (staying_switches w released))) (CallSite fault.Full)
     ∷ [])
 
--- why there is none: more stays than it may have, or memory lacks
+-- why there is none: more stays than it may have, or want of memory
 abbrev pub IsRefusedRenewal : Limits → World → Released → Refusal → Type 0
 IsRefusedRenewal limits w released r = (renewal_fault limits w released ≡ Some r) ⊎ (r ≡ Memory)
 

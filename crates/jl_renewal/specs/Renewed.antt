@@ -85,11 +85,11 @@ renumbered_result n (Err reason) = Err reason
 abbrev pub renumbered_at : Numbers → ℕ × Link → Option (ℕ × Link)
 renumbered_at n row = option_map (λ s. (s, renumbered_link n row.1)) (new_number n.sites row.0)
 
--- those of the sites that stay
+-- the links of the sites that stay, under new numbers
 abbrev pub renumbered_links : Numbers → List (ℕ × Link) → List (ℕ × Link)
 renumbered_links n rows = filter_map (renumbered_at n) rows
 
--- a table has eight rows at most, as that of each link from scratch
+-- a table has at most eight rows, like the table of each link from scratch
 abbrev pub has_few_rows : Link → Bool
 has_few_rows (Fault throwable) = true
 has_few_rows (Plain m) = true

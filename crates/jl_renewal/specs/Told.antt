@@ -13,7 +13,7 @@ use Rattle.jl_renewal.specs.Staying.{numbers_of}
 use Rattle.jl_renewal.specs.Renewal.{class_event, new_loaders, site_events, IsRefusedRenewal}
 use Rattle.jl_renewal.specs.Adds.{Adds, IsStoppedAt}
 
--- of what the entry's event tells, where its class is there
+-- the event that the entry's event tells, if its class is there
 abbrev pub accepted_event : World → Numbers → Accepted → Option Event
 accepted_event w n accepted = option_and_then (class_event w n) (event_of w.classes.rows accepted)
 
@@ -29,7 +29,8 @@ pub record IsFilledFrom (w : World) (entries : List Entry) (released : Released)
   pub numbers : n ≡ numbers_of w released
   pub adds : Adds (told_renewal w n entries) before after
 
--- What a refusal leaves: what stays is not numbered, and the core is as before; or it has accepted a front of these events, and no others.
+-- What a refusal leaves. Either what stays is not numbered, and the core is as before. Or it has accepted some first of these events, and
+-- no others.
 abbrev pub IsPartlyFilled : World → List Entry → Released → Limits → State → State → Refusal → Type 0
 IsPartlyFilled w entries released limits before after r =
     (IsRefusedRenewal limits w released r × (after ≡ before)) ⊎ IsStoppedAt (told_renewal w (numbers_of w released) entries) before after r

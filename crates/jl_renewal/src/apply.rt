@@ -22,7 +22,7 @@ pub(crate) fn add<M: EventMachine>(
     }
 }
 
-/// The same of an event, if there is one.
+/// The fresh core accepts the event, if there is one. A refusal is the error.
 pub(crate) fn add_if_any<M: EventMachine>(
     alloc: Global,
     fresh: &mut M,

@@ -65,7 +65,7 @@ fn invalidation_of(points: Vec<SwitchId>) -> Option<Event>
     Some(Event::Invalidate(Seq::of(points)))
 }
 
-/// The new numbers of the switch points that stay and are invalid. Want of memory is an error.
+/// The new numbers of the switch points that stay and are invalid.
 fn invalid_points(
     alloc: Global,
     old: &Sites,
@@ -108,7 +108,7 @@ pub(crate) fn add_call_sites<M: EventMachine>(
     Ok(())
 }
 
-/// The event that makes the call site with the target that it has now, if it stays. Want of memory is an error.
+/// The event that makes the call site with the target that it has now, if it stays.
 fn call_site_event(
     alloc: Global,
     old: &Sites,

@@ -16,7 +16,7 @@ use jl_relink::World;
 use jl_types::{CallSiteId, Event, LoaderId, Part, SwitchId, Target};
 use std::alloc::{AllocError, Global};
 
-/// The event under the new numbers, or none where it names what is gone, or installs links. Want of memory is an error.
+/// The event under the new numbers, or none if it names what is gone, or installs links.
 pub(crate) fn carried_event(
     alloc: Global,
     numbers: &Renumbering,
@@ -68,7 +68,7 @@ pub(crate) fn carried_event(
     }
 }
 
-/// That a loader finds under the name what another one finds. Want of memory is an error.
+/// That a loader finds under the name what another one finds.
 fn delegation(
     alloc: Global,
     numbers: &Renumbering,
@@ -87,8 +87,7 @@ fn delegation(
     Ok(Some(Event::Delegate(loader, name.copy(alloc)?, to)))
 }
 
-/// The target, or none where a part of it is gone. Want of memory is an error. It goes as deep as the target, and no call site has one
-/// that is deeper than 64.
+/// The target, or none if a part of it is gone. It recurses as deep as the target, and no call site has one that is deeper than 64.
 fn carried_target(
     alloc: Global,
     numbers: &Renumbering,
@@ -120,7 +119,7 @@ fn carried_target(
     }
 }
 
-/// The release of those call sites and switch points that aren't gone. Want of memory is an error.
+/// The release of those call sites and switch points that aren't gone.
 fn carried_release(
     alloc: Global,
     numbers: &Renumbering,
@@ -134,7 +133,7 @@ fn carried_release(
     Ok(Some(Event::Release(Seq::of(call_sites), Seq::of(points))))
 }
 
-/// The call sites that aren't gone. Want of memory is an error.
+/// The call sites that aren't gone.
 fn carried_call_sites(
     alloc: Global,
     numbers: &Renumbering,
@@ -148,7 +147,7 @@ fn carried_call_sites(
         .collect(alloc)
 }
 
-/// The switch points that aren't gone. Want of memory is an error.
+/// The switch points that aren't gone.
 fn carried_points(
     alloc: Global,
     numbers: &Renumbering,
@@ -162,7 +161,7 @@ fn carried_points(
         .collect(alloc)
 }
 
-/// The loaders that aren't gone. Want of memory is an error.
+/// The loaders that aren't gone.
 fn carried_loaders(
     alloc: Global,
     numbers: &Renumbering,

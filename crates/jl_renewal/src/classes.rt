@@ -68,7 +68,8 @@ pub(crate) fn add_classes<M: EventMachine>(
     add_told(alloc, fresh, old, numbers, log.kept())
 }
 
-/// The same by these entries. A refusal is the error.
+/// Defines the classes that stay, and lets their loaders delegate as the old ones did, in the order of these entries. A refusal is the
+/// error.
 fn add_told<M: EventMachine>(
     alloc: Global,
     fresh: &mut M,
@@ -88,7 +89,6 @@ fn add_told<M: EventMachine>(
 }
 
 /// What the fresh core is to be told of the old event, if that has defined a class that stays, or let a loader that stays delegate.
-/// Want of memory is an error.
 fn class_event(
     alloc: Global,
     old: &World,
@@ -118,7 +118,7 @@ fn class_event(
     }
 }
 
-/// The definition of the class by the loader, if that stays. Want of memory is an error.
+/// The definition of the class by the loader, if that stays.
 pub(crate) fn definition(
     alloc: Global,
     numbers: &Renumbering,
@@ -137,7 +137,7 @@ pub(crate) fn definition(
     Ok(Some(Event::Define(loader, class.file().copy(alloc)?)))
 }
 
-/// That the loader finds under the name what it found, by the loader that has defined that class. Want of memory is an error.
+/// That the loader finds under the name what it found, by the loader that has defined that class.
 fn delegation(
     alloc: Global,
     classes: &Classes,

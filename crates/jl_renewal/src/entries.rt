@@ -19,21 +19,21 @@ use std::alloc::{AllocError, Global};
 /// Why an entry isn't carried over.
 #[derive(Debug, Drop)]
 pub enum CarryFault {
-    /// It names what the fresh core doesn't have: a call site or switch point that didn't come over, or what an entry made that is gone
-    /// itself. What it made is noted as gone, so that what later entries make keeps its number.
+    /// It names what the fresh core doesn't have: a call site or switch point that didn't come over, or something made by an entry that is
+    /// gone itself. What it made is noted as gone, so that what later entries make keeps its number.
     Gone,
     /// The fresh core refuses the event: for want of memory alone, if it stands beside the old core
     /// ([`fresh_cores_stay_beside`](crate::fresh_cores_stay_beside)).
     Refused(Refusal),
 }
 
-/// Carries an entry of the old log over, where `old` is a world that has its class if it defines one: the fresh core accepts its event
-/// under the new numbers, which then have what it made. Entries are carried one by one, in order, from the first that the renewal didn't
+/// Carries an entry of the old log over: the fresh core accepts its event under the new numbers, which then have what it made. If the
+/// entry defines a class, the world `old` has that class. Entries are carried one by one, in order, from the first that the renewal didn't
 /// have. An install changes nothing: links come over by [`fresh_links`](crate::fresh_links) once all else is there.
 ///
 /// # Errors
 ///
-/// [`CarryFault`]; want of memory is a refusal. The fresh core is as before then. So are the numbers after a refusal. Where the fresh core
+/// [`CarryFault`]; want of memory is a refusal. The fresh core is as before then. So are the numbers after a refusal. If the fresh core
 /// stands beside the old one as that accepts the entry, want of memory is the only refusal. Then only an event of a call site can be gone.
 pub fn carry<M: EventMachine>(
     alloc: Global,
@@ -63,8 +63,8 @@ pub fn carry<M: EventMachine>(
     }
 }
 
-/// The numbers have it that what an old event made is gone, if its number is the next one there. Want of memory is an error; the numbers
-/// are as before then.
+/// The numbers have it that what an old event made is gone, if its number is the next one there. On an error the numbers
+/// are as before.
 fn note_gone(numbers: &mut Renumbering, made: Made) -> Result<(), AllocError>
     ensures noted { OnOk result (numbers.new ≡ with_made numbers.old made None) }
     ensures lacks { OnErr result (numbers.new ≡ numbers.old) }
@@ -79,7 +79,7 @@ fn note_gone(numbers: &mut Renumbering, made: Made) -> Result<(), AllocError>
     }
 }
 
-/// The list has none for the old number, if that is the next one there. Want of memory is an error; the list is as before then.
+/// The list has none for the old number, if that is the next one there. On an error the list is as before.
 fn note_none(numbers: &mut Vec<Option<u32>>, old: u32) -> Result<(), AllocError>
     ensures noted { OnOk result (numbers.new.items ≡ with_number numbers.old.items old None) }
     ensures lacks { OnErr result (numbers.new.items ≡ numbers.old.items) }
@@ -111,7 +111,7 @@ fn accept_or_fault<M: EventMachine>(
     }
 }
 
-/// The fresh core accepts the event, and the numbers have what it made, which made this in the old core.
+/// The fresh core accepts the event, which made this in the old core, and the numbers have what it made in the fresh one.
 ///
 /// # Errors
 ///

@@ -31,7 +31,7 @@ ghost use Rattle.jl_renewal.specs.Moved.{renumbered_install};
 ghost use Rattle.jl_renewal.specs.Renewed.{has_few_rows, renewed, renumbered_links, renumbered_result};
 ghost use Rattle.jl_renewal.specs.Renewed.{renumbered_answer, renumbered_receiver, IsPresentReceiver};
 
-/// No event of a renewal is refused where the fresh core may have what stays, and what there is to link there is what stays of the old one.
+/// No event of a renewal is refused if the fresh core may have what stays. What there is to link there is what stays of the old one.
 pub fn renewals_are_accepted()
     ensures accepted { (old : State) (released : Released) (limits : Limits) → AreAccepted old.limits (events old)
         → renewal_fault limits (world_of old) released ≡ None → AreAccepted limits (renewal old released) }
@@ -39,8 +39,8 @@ pub fn renewals_are_accepted()
         → world_after (renewal old released) ≡ renewed (world_of old) released }
 {}
 
-/// Only sites can be short where a fresh core has the limits of the old one but for how many sites it may have: it is refused exactly where
-/// more stay, and by `SitesFull`.
+/// If a fresh core has the limits of the old one but for how many sites it may have, only sites can be too many. It is refused exactly if
+/// more sites stay than it may have, and by `SitesFull`.
 pub fn only_sites_can_be_short()
     ensures { (old : State) (released : Released) (max_sites : ℕ) → AreAllowed old.limits → AreAccepted old.limits (events old)
         → renewal_fault (record old.limits { sites = max_sites }) (world_of old) released
@@ -48,7 +48,7 @@ pub fn only_sites_can_be_short()
 {}
 
 /// Linking commutes with renumbering: of each site that isn't gone, the link from scratch, and each call's answer, is the same under new
-/// numbers. A site is gone where its class is retired, or where its call site is released. One whose call site is released stays, and is no
+/// numbers. A site is gone if its class is retired, or if its call site is released. One whose call site is released stays, and is no
 /// longer bound in the fresh core, so its bootstrap method may give another call site there.
 pub fn linking_commutes()
     ensures links { (old : State) (released : Released) → AreAccepted old.limits (events old)
@@ -69,7 +69,7 @@ pub fn links_come_over()
         → (k : ℕ) (l : Link) → Contains (links_of fresh) (k, l) ↔ CameFrom (links_of old) numbers k l }
 {}
 
-/// In a core that was refilled, what stays of the old core's links has under new numbers the very links that the sites have from scratch there.
+/// In a core that was refilled, what stays of the old core's links is, under new numbers, the links that the sites have from scratch there.
 /// Each link of a core is of few rows.
 pub fn links_come_by_number()
     ensures rows { (old before fresh : State) (entries : List Entry) (released : Released) (n : Numbers) → AreAccepted old.limits (events old)
@@ -78,7 +78,7 @@ pub fn links_come_by_number()
     ensures few { (core : State) → list_all (λ row. has_few_rows row.1) (links_of core) ≡ true }
 {}
 
-/// Whatever an old core accepts after a renewal, the fresh one accepts under new numbers, where no event names what is gone and it may have as
+/// Whatever an old core accepts after a renewal, the fresh one accepts under new numbers, if no event names what is gone and it may have as
 /// many of each kind. Its world is then that of the old one under these numbers, without what is gone.
 pub fn entries_come_over()
     ensures accepted { (old : State) (released : Released) (es fs : List Event) (limits : Limits) → AreAccepted old.limits (events old ++ es)
@@ -143,9 +143,9 @@ pub fn installed_links_stay_beside()
         → IsAccepted fresh fresh_after (event.Install (fresh_rows (world_of fresh) n rows)) there → HaveSameLinks after fresh_after n }
 {}
 
-/// The links of the old core may be read after its world, as the links of a later moment. A refilled core has no links yet. Where each link of
-/// a core is at a site of these, so it stays after some of these are installed, and after each event that is carried over. Once it stands beside
-/// the old core of that moment, each of its links is one of the old core's, under new numbers.
+/// The links of the old core may be read after its world, as the links of a later moment. A refilled core has no links yet. If each link
+/// of a core is at a site of these, so it stays after some of these are installed, and after each event that is carried over. Once it
+/// stands beside the old core of that moment, each of its links is one of the old core's, under new numbers.
 pub fn links_may_be_read_later()
     ensures first { (linked : List (ℕ × Link)) (w : World) (entries : List Entry) (released : Released) (n : Numbers) (before fresh : State)
         → IsRefilled w entries released n before fresh → HasLinksOf linked fresh n }
@@ -157,9 +157,14 @@ pub fn links_may_be_read_later()
         → HasNoOtherLinks old fresh n }
 {}
 
-/// Installs of the old core may be passed over, and its links be installed in the fresh one later. A refilled core has no links yet. As long as
-/// each link of the fresh core is one of the old core's, under new numbers, so it stays after each event that is carried over, after each install
-/// of the old core alone, and after some of that core's links are installed. Once all of them are, the links of the fresh core are exactly these.
+/// Installs of the old core may be passed over, and its links be installed in the fresh one later. A refilled core has no links yet. If
+/// each link of the fresh core is one of the old core's, under new numbers, so it stays
+///
+/// - after each event that is carried over
+/// - after each install of the old core alone
+/// - after some of the old core's links are installed
+///
+/// Once all of them are installed, the links of the fresh core are exactly these.
 pub fn links_may_be_installed_later()
     ensures first { (old before fresh : State) (entries : List Entry) (released : Released) (n : Numbers)
         → IsRefilled (world_of old) entries released n before fresh → HasNoOtherLinks old fresh n }

@@ -2,7 +2,7 @@
 //!
 //! A core's log only grows, and its numbers are never given again. So a process that runs for long goes over to a fresh core from time
 //! to time. `specs/Numbers` says how what stays is numbered, `specs/Staying` what stays, `specs/Renewal` by which events the fresh core
-//! comes to be, and `specs/Renewed` what there is to link in it then. `specs/Carries` says what an event of the old core is there, and
+//! is made, and `specs/Renewed` what there is to link in it then. `specs/Carries` says what an event of the old core is there, and
 //! `specs/Moved` what there is after such events. `specs/Told` and `specs/Adds` say what a refusal leaves. The other definitions here are
 //! means of proof.
 #![tactic(auto)]

@@ -15,19 +15,16 @@ use crate::numbers::Renumbering;
 use crate::targets::{renumbered_class, renumbered_method};
 use jl_core::EventMachine;
 use jl_names::Seq;
-use jl_relink::{World, link_of};
+use jl_relink::{MOST_IN_BATCH, World, link_of};
 use jl_types::{ClassId, Event, Link, Outcome, Refusal, SiteNo, Table};
 use std::alloc::{AllocError, Global};
-
-/// How many links are installed at a time.
-const BATCH: usize = 256;
 
 /// Installs these links, 256 at a time.
 ///
 /// # Errors
 ///
-/// The first refusal: want of memory, where each is the link that its site has from scratch, and their sites rise, as those of
-/// [`fresh_links`] do in the world that they were looked up in. Those before it are installed then.
+/// The first refusal. It is want of memory if each is the link that its site has from scratch, and their sites rise, as those of
+/// [`fresh_links`] do in the world that they were looked up in. The links before it are installed then.
 pub fn install_all<M: EventMachine>(
     alloc: Global,
     fresh: &mut M,
@@ -39,16 +36,17 @@ pub fn install_all<M: EventMachine>(
 {
     let mut left = rows;
     while !left.is_empty() {
-        let (batch, rest) = left.split_at(BATCH.min(left.len()));
+        let (batch, rest) = left.split_at(MOST_IN_BATCH.min(left.len()));
         fresh.accept(alloc, Event::Install(Seq::of(batch.to_vec(alloc)?)))?;
         left = rest;
     }
     Ok(())
 }
 
-/// As [`install_all`], of links that are known to be those that their sites have from scratch, and whose sites rise: none is looked up.
+/// Does what [`install_all`] does, with links that are known to be those that their sites have from scratch, and whose sites rise. None is
+/// looked up.
 ///
-/// Want of memory is the only error. The links before those that lacked it are installed then.
+/// Want of memory is the only error. The links before those for which there was no memory are installed then.
 pub fn install_fresh<M: EventMachine>(
     alloc: Global,
     fresh: &mut M,
@@ -60,15 +58,14 @@ pub fn install_fresh<M: EventMachine>(
 {
     let mut rest = rows;
     while !rest.is_empty() {
-        let (batch, later) = rest.split_at(BATCH.min(rest.len()));
+        let (batch, later) = rest.split_at(MOST_IN_BATCH.min(rest.len()));
         fresh.accept_judged(alloc, Event::Install(Seq::of(batch.to_vec(alloc)?)))?;
         rest = later;
     }
     Ok(())
 }
 
-/// Of the sites that had a link those that stay, under their new numbers, each with its link from scratch in the fresh world. Want of
-/// memory is an error.
+/// The sites that had a link and stay, under their new numbers, each with its link from scratch in the fresh world.
 pub fn fresh_links(
     alloc: Global,
     fresh: &World,
@@ -84,9 +81,9 @@ pub fn fresh_links(
     Ok(rows)
 }
 
-/// Of the sites that had a link those that stay, with that link, both under their new numbers. No table has more than eight rows, as none of
-/// a core has. Nothing is looked up: right after a refill these are the rows that [`fresh_links`] tells, as the law
-/// [`links_come_by_number`](crate::links_come_by_number) says. Want of memory is an error.
+/// The sites that had a link and stay, each with that link, both under new numbers. No table has more than eight rows, as none of a core
+/// has. Nothing is looked up: right after a refill these are the rows that [`fresh_links`] tells, as the law
+/// [`links_come_by_number`](crate::links_come_by_number) says.
 pub fn renumbered_links(
     alloc: Global,
     linked: &[(SiteNo, Link)],
@@ -150,7 +147,7 @@ fn renumbered_outcome(numbers: &Renumbering, outcome: &Outcome) -> Outcome
     }
 }
 
-/// Adds the row, if there is one. Want of memory is an error.
+/// Adds the row, if there is one.
 pub(crate) fn push_if_any<T: Drop>(rows: &mut Vec<T>, row: Option<T>) -> Result<(), AllocError>
     ensures { OnOk result (rows.new.items ≡ rows.old.items ++ option_to_list row) }
 {

@@ -55,7 +55,7 @@ pub(crate) fn mark_guards(flags: &mut [bool], target: &Target)
     }
 }
 
-/// Sets the flag of this number, or takes it back. Where it has none, nothing changes.
+/// Sets the flag of this number, or takes it back. If it has none, nothing changes.
 pub(crate) fn set_flag(flags: &mut [bool], number: u32, flag: bool)
     ensures { flags.new ≡ slice_set flags.old number flag }
 {

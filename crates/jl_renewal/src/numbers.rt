@@ -7,7 +7,7 @@ use jl_types::{CallSiteId, ClassId, LoaderId, SiteNo, SwitchId};
 use std::alloc::{AllocError, Global};
 use std::marker::Model;
 
-/// Of each old loader, class, site, call site and switch point its number in the fresh core, or none where it is gone. A clause sees
+/// Of each old loader, class, site, call site and switch point its number in the fresh core, or none if it is gone. A clause sees
 /// these lists.
 pub struct Renumbering {
     pub(crate) loaders: Vec<Option<u32>>,
@@ -123,7 +123,7 @@ fn new_number(numbers: &[Option<u32>], old: u32) -> Option<u32>
     *numbers.get(old as usize)?
 }
 
-/// The next numbers for those that stay, in order. Want of memory is an error.
+/// The next numbers for those that stay, in order.
 pub(crate) fn numbered(alloc: Global, stays: &[bool]) -> Result<Vec<Option<u32>>, AllocError>
     requires { how_many stays.now < 2 ^ 32 }
     ensures { IfOk result (λ numbers. numbers.items ≡ numbered stays.now) }

@@ -26,7 +26,7 @@ pub struct Counts {
     pub switches: u32,
 }
 
-/// How many of each a renewal takes over of the world, where its host hands in nothing as released. Want of memory is an error, and so are
+/// How many of each a renewal takes over of the world, if its host hands in nothing as released. Want of memory is an error, and so are
 /// 2^32 of a kind, which no core has.
 pub fn counts_present(alloc: Global, world: &World) -> Result<Counts, AllocError>
     ensures { IfOk result (λ counts. counts ≡ present.counts_present world.now) }

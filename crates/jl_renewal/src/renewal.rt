@@ -19,15 +19,24 @@ use jl_relink::World;
 use jl_types::{Limits, Refusal};
 use std::alloc::Global;
 
-/// A fresh core that has what stays of the old one, in the same order, under new numbers, and that gives numbers up to these limits. They may
-/// be any, be they lower than the old core's. What stays are the loaders that aren't retired with their classes and the sites in these, and of
-/// the call sites and switch points that aren't released those that the owner hasn't let go, or that are still needed. A site whose call site
-/// is released stays, and is no longer bound. Each site that had a link has one.
+/// A fresh core that has what stays of the old one, in the same order, under new numbers. It gives numbers up to these limits, which may be
+/// lower than the old core's. Each site that had a link has one. What stays is
+///
+/// - the loaders that aren't retired, with their classes and the sites in these
+/// - the call sites and switch points that aren't released, if the owner hasn't let them go, or they are still needed
+///
+/// A site whose call site is released stays, and is no longer bound.
 ///
 /// # Errors
 ///
-/// Where more stay than the limits allow: `SitesFull` of sites, `LoadersFull` of loaders, `Define(Full)` of classes, `CallSite(Full)` of call
-/// sites or of switch points, the first of them in this order; and want of memory. No event is refused but for want of memory.
+/// Want of memory, or if more stay than the limits allow, the first of these:
+///
+/// - `SitesFull` of sites
+/// - `LoadersFull` of loaders
+/// - `Define(Full)` of classes
+/// - `CallSite(Full)` of call sites or of switch points
+///
+/// No event is refused but for want of memory.
 pub fn renew(
     alloc: Global,
     core: &Core,
@@ -47,12 +56,13 @@ pub fn renew(
     Ok((fresh, numbers))
 }
 
-/// Gives an empty core of these limits, or what keeps one, what stays of an old one, whose world and log these are, but for its links: those
-/// that [`fresh_links`](crate::fresh_links) tells are then to be installed by [`install_fresh`]. The log may have [forgotten](Core::forget) what is past.
+/// Gives an empty core of these limits, or what keeps one, what stays of the old core whose world and log these are. The links are left
+/// out: those that [`fresh_links`](crate::fresh_links) tells are then to be installed by [`install_fresh`]. The log may have
+/// [forgotten](Core::forget) what is past.
 ///
 /// # Errors
 ///
-/// Those of [`renew`]. The fresh core has accepted a front of the renewal's events then, and no others.
+/// Those of [`renew`]. The fresh core has then accepted some first events of the renewal, and no others.
 pub fn refill<M: EventMachine>(
     alloc: Global,
     fresh: &mut M,
@@ -70,14 +80,12 @@ pub fn refill<M: EventMachine>(
     try_refill(alloc, fresh, old, log, released, limits)
 }
 
-/// As [`refill`], where nobody has shown that the world and the log are one past. An event may be refused then, and that refusal is the
-/// error.
+/// Does what [`refill`] does, if nobody has shown that the world and the log are of one past. Then an event may be refused, and that
+/// refusal is the error.
 ///
 /// # Errors
 ///
-/// Where more stay than the limits allow: `SitesFull` of sites, `LoadersFull` of loaders, `Define(Full)` of classes, `CallSite(Full)` of call
-/// sites or of switch points, the first of them in this order; want of memory; the refusal of an event. The fresh core has accepted those
-/// before it then, and no others.
+/// Those of [`refill`], and the refusal of an event. The fresh core has then accepted the events before that one, and no others.
 pub fn try_refill<M: EventMachine>(
     alloc: Global,
     fresh: &mut M,

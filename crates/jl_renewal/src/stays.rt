@@ -32,8 +32,12 @@ use std::alloc::{AllocError, Global};
 ///
 /// # Errors
 ///
-/// Where more stay than the limits allow: `SitesFull` of sites, `LoadersFull` of loaders, `Define(Full)` of classes, `CallSite(Full)` of call
-/// sites or of switch points, the first of them in this order; want of memory.
+/// Want of memory, or if more stay than the limits allow, the first of these:
+///
+/// - `SitesFull` of sites
+/// - `LoadersFull` of loaders
+/// - `Define(Full)` of classes
+/// - `CallSite(Full)` of call sites or of switch points
 pub(crate) fn renumbering(
     alloc: Global,
     old: &World,
@@ -61,7 +65,7 @@ pub(crate) fn renumbering(
 ///
 /// # Errors
 ///
-/// `LoadersFull` or `Define(Full)` where more stay than the limits allow, the first of them; want of memory.
+/// `LoadersFull` or `Define(Full)` if more stay than the limits allow, the first of them; want of memory.
 fn class_numbers(
     alloc: Global,
     old: &Classes,
@@ -84,7 +88,7 @@ fn class_numbers(
 ///
 /// # Errors
 ///
-/// `CallSite(Full)` where more stay than the limits allow; want of memory.
+/// `CallSite(Full)` if more stay than the limits allow; want of memory.
 fn call_site_numbers(
     alloc: Global,
     old: &World,
@@ -105,11 +109,11 @@ fn call_site_numbers(
     Ok((call_sites, switches))
 }
 
-/// The numbers of those that stay, where they are no more than so many.
+/// The numbers of those that stay, if they are no more than so many.
 ///
 /// # Errors
 ///
-/// This refusal where they are more; want of memory.
+/// This refusal if they are more; want of memory.
 fn numbered_within(
     alloc: Global,
     stays: &[bool],
@@ -126,7 +130,7 @@ fn numbered_within(
     Ok(numbered(alloc, stays)?)
 }
 
-/// Whether each of the first so many loaders stays: those that aren't retired. Want of memory is an error.
+/// Whether each of the first so many loaders stays: those that aren't retired.
 pub(crate) fn loaders_below(
     alloc: Global,
     classes: &Classes,
@@ -142,7 +146,7 @@ pub(crate) fn loaders_below(
     Ok(stays)
 }
 
-/// Whether each class stays: those that are present. Want of memory is an error.
+/// Whether each class stays: those that are present.
 pub(crate) fn classes_that_stay(alloc: Global, classes: &Classes) -> Result<Vec<bool>, AllocError>
     ensures { IfOk result (λ stays. stays.items ≡ staying_classes classes.now) }
 {
@@ -154,7 +158,7 @@ pub(crate) fn classes_that_stay(alloc: Global, classes: &Classes) -> Result<Vec<
     Ok(stays)
 }
 
-/// Whether each site stays: those in classes that are present. Want of memory is an error.
+/// Whether each site stays: those in classes that are present.
 pub(crate) fn sites_that_stay(
     alloc: Global,
     classes: &Classes,
@@ -173,8 +177,8 @@ pub(crate) fn sites_that_stay(
     Ok(stays)
 }
 
-/// Whether each call site stays: those that are wanted, and those that the target of a later one which stays invokes, but for those that
-/// are released. Want of memory is an error.
+/// Whether each call site stays. Those stay that are wanted, and those that are invoked by the target of a later one that stays. A
+/// released one doesn't.
 pub(crate) fn call_sites_that_stay(
     alloc: Global,
     old: &World,
@@ -187,8 +191,7 @@ pub(crate) fn call_sites_that_stay(
     Ok(stays)
 }
 
-/// Whether each call site is wanted: those that the owner hasn't let go, and those to which a site is bound that stays. One that is
-/// released may be among them. Want of memory is an error.
+/// Whether each call site is wanted: the owner hasn't let it go, or a site that stays is bound to it. It may be released.
 fn wanted_call_sites(
     alloc: Global,
     old: &World,
@@ -204,7 +207,7 @@ fn wanted_call_sites(
     Ok(wanted)
 }
 
-/// Sets the flags of the call sites to which sites are bound that stay.
+/// Sets the flags of the call sites to which sites that stay are bound.
 fn mark_bound(held: &mut [bool], old: &World)
     ensures { held.new ≡ marked (λ c. list_any (binds_staying old.now c) old.now.bindings) held.old }
 {
@@ -276,7 +279,7 @@ fn staying_target<'a>(stays: &[bool], sites: &'a Sites, number: usize) -> Option
     }
 }
 
-/// Whether each switch point stays: those that are wanted and aren't released. Want of memory is an error.
+/// Whether each switch point stays: those that are wanted and aren't released.
 pub(crate) fn switches_that_stay(
     alloc: Global,
     sites: &Sites,
@@ -292,7 +295,7 @@ pub(crate) fn switches_that_stay(
     Ok(kept)
 }
 
-/// Of these switch points those that aren't released. Want of memory is an error.
+/// Of these switch points those that aren't released.
 fn those_there(alloc: Global, sites: &Sites, wanted: &[bool]) -> Result<Vec<bool>, AllocError>
     ensures { IfOk result (λ kept. kept.items
         ≡ map (λ p. not (is_missing sites.now.switches p) && get_or wanted.now p false) (range_with_len 0 (length sites.now.switches))) }
@@ -319,8 +322,8 @@ fn is_there(sites: &Sites, wanted: &[bool], point: usize) -> bool
     }
 }
 
-/// Whether each switch point is wanted: those that the owner hasn't let go, and those by which the target of a call site guards that
-/// stays. One that is released may be among them. Want of memory is an error.
+/// Whether each switch point is wanted: the owner hasn't let it go, or the target of a call site that stays guards by it. It may be
+/// released.
 fn wanted_switches(
     alloc: Global,
     sites: &Sites,
@@ -337,7 +340,7 @@ fn wanted_switches(
     Ok(wanted)
 }
 
-/// Sets the flags of the switch points by which the targets of call sites guard that stay.
+/// Sets the flags of the switch points by which the targets of call sites that stay guard.
 fn keep_guards(kept: &mut [bool], sites: &Sites, stays: &[bool])
     ensures { kept.new ≡ marked (λ p. list_any (has_target (guards_by p)) (staying stays.now sites.now.call_sites)) kept.old }
 {

@@ -7,7 +7,7 @@ use crate::numbers::Renumbering;
 use jl_types::{CallSiteId, ClassId, MethodId, Part, SwitchId, Target};
 use std::alloc::{AllocError, Global};
 
-/// The target under new numbers, 0 for what goes. Want of memory is an error. It goes as deep as the target, and no call site has one that
+/// The target under new numbers, 0 for what goes. It goes as deep as the target, and no call site has one that
 /// is deeper than 64.
 pub(crate) fn renumbered_target(
     alloc: Global,
@@ -30,7 +30,7 @@ pub(crate) fn renumbered_target(
     }
 }
 
-/// The method under its class's new number, 0 where that goes.
+/// The method under its class's new number, 0 if that goes.
 pub(crate) fn renumbered_method(numbers: &Renumbering, method: &MethodId) -> MethodId
     ensures { result ≡ record method.now { class = renumbered numbers.now.classes method.now.class } }
 {
@@ -40,7 +40,7 @@ pub(crate) fn renumbered_method(numbers: &Renumbering, method: &MethodId) -> Met
     }
 }
 
-/// The class's new number, 0 where it goes.
+/// The class's new number, 0 if it goes.
 pub(crate) fn renumbered_class(numbers: &Renumbering, class: ClassId) -> ClassId
     ensures { result ≡ renumbered numbers.now.classes class }
 {

@@ -8,13 +8,13 @@ use Rattle.jl_types.specs.Values.World.{Classes}
 use Rattle.jl_types.specs.Values.Members.{is_present, is_interface, lookup}
 use Rattle.jl_types.specs.Linkage.Resolution as resolution
 
--- resolution came to a method or failed, and waits for no class
+-- resolution gave a method or failed, so it waits for no class
 abbrev pub is_settled : {A : Type 0} → Result A ResolveAnswer → Bool
 is_settled (Ok method) = true
 is_settled (Err (Fault throwable)) = true
 is_settled (Err (NotReady missing)) = false
 
--- where there is an interface, loader 0 has recorded java/lang/Object
+-- if there is an interface, loader 0 has recorded java/lang/Object
 abbrev pub RecordsObject : Classes → Type 0
 RecordsObject cs = (c : ℕ) → is_interface cs c ≡ true → (o : ℕ) × (lookup cs 0 object ≡ Some o)
 

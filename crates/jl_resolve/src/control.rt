@@ -25,9 +25,9 @@ pub fn is_accessible_class(classes: &Classes, caller: ClassId, class: ClassId) -
     classes.is_public_class(class) || classes.same_package(class, caller)
 }
 
-/// Whether the method is accessible to the caller, where the reference names this class (JVMS SE 17 §5.4.4).
+/// Whether the method is accessible to the caller through a reference that names this class (JVMS SE 17 §5.4.4).
 ///
-/// Of a private method of another class the caller's nest host is asked for, and then the host of the method's class.
+/// For a private method of another class it asks for the caller's nest host, and then for the nest host of the method's class.
 pub fn access_to_method(
     classes: &Classes,
     caller: ClassId,
@@ -47,8 +47,8 @@ pub fn access_to_method(
     access_by_nest(classes, caller, method)
 }
 
-/// Whether the method is protected and of a superclass of the caller, and is static, or the class that the reference names is the
-/// caller, a subclass or a superclass of it.
+/// Whether the method is protected and of a superclass of the caller. Unless it is static, the class that the reference names must
+/// also be the caller, a subclass or a superclass of it.
 fn is_open_to_subclass(
     classes: &Classes,
     caller: ClassId,

@@ -7,9 +7,11 @@ ghost use Rattle.jl_types.specs.Linkage.Resolution.{first_of, first_element, onl
 use jl_hierarchy::{Classes, NameAndType};
 use jl_types::{Chosen, ClassId, MethodId};
 
-/// What is found in a class: its own or its first superclass's declaration upward, else the one maximally-specific
-/// superinterface method that isn't abstract, else the superinterface method of the interface of least number that is neither
-/// private nor static (JVMS SE 17 §5.4.3.3).
+/// What is found in a class (JVMS SE 17 §5.4.3.3). It is the first of these that there is:
+///
+/// - the first declaration in the class and its superclasses upward
+/// - the one maximally-specific superinterface method that isn't abstract
+/// - of the superinterface methods that are neither private nor static, the one whose interface has the least number
 pub fn found_in_class(classes: &Classes, class: ClassId, name: &[u8], ty: &[u8]) -> Option<MethodId>
     requires { class < length classes.now.rows }
     ensures { result ≡ resolution.found_in_class classes.now name.now ty.now class }
@@ -21,8 +23,11 @@ pub fn found_in_class(classes: &Classes, class: ClassId, name: &[u8], ty: &[u8])
     }
 }
 
-/// What is found in an interface: its own declaration, else the public non-static one of java/lang/Object, else what its
-/// superinterfaces have, as of a class (JVMS SE 17 §5.4.3.4).
+/// What is found in an interface (JVMS SE 17 §5.4.3.4). It is the first of these that there is:
+///
+/// - its own declaration
+/// - the public non-static declaration of java/lang/Object
+/// - what its superinterfaces have, as for a class
 pub fn found_in_interface(
     classes: &Classes,
     interface: ClassId,
@@ -42,8 +47,8 @@ pub fn found_in_interface(
     }
 }
 
-/// The one maximally-specific superinterface method that isn't abstract, else the superinterface method of the interface of
-/// least number that is neither private nor static.
+/// The one maximally-specific superinterface method that isn't abstract. Else, of the superinterface methods that are neither
+/// private nor static, the one whose interface has the least number.
 fn found_in_superinterfaces(
     classes: &Classes,
     class: ClassId,

@@ -33,7 +33,7 @@ impl Model for Resolved {
 ///
 /// # Errors
 ///
-/// As of [`resolve_reference`].
+/// Those of [`resolve_reference`].
 pub fn resolve(
     classes: &Classes,
     caller: ClassId,
@@ -77,7 +77,7 @@ pub fn resolve_reference(
     }
 }
 
-/// The class that the reference names, found by the caller's loader (JVMS SE 17 §5.4.3.1). None where the caller isn't there or
+/// The class that the reference names, found by the caller's loader (JVMS SE 17 §5.4.3.1). None if the caller isn't there, or if
 /// its loader hasn't recorded the class.
 pub fn named_class(
     classes: &Classes,
@@ -92,7 +92,7 @@ pub fn named_class(
     classes.lookup(loader, reference.owner.as_slice())
 }
 
-/// The method that the reference resolves to, for the caller's class, where it names this class.
+/// The method that the reference, which names this class, resolves to for the caller's class.
 ///
 /// # Errors
 ///
@@ -142,13 +142,13 @@ pub fn found_in(
     }
 }
 
-/// The method that was found, if it is accessible to the caller, where the reference names this class (JVMS SE 17 §5.4.4).
+/// The method that was found, if it is accessible to the caller through a reference that names this class (JVMS SE 17 §5.4.4).
 ///
 /// # Errors
 ///
 /// - `Fault(NoSuchMethodError)`: none was found.
 /// - `Fault(IllegalAccessError)`: it isn't accessible.
-/// - `NotReady(CallerHost)`, `NotReady(MethodHost)`: that depends on a nest host that isn't recorded.
+/// - `NotReady(CallerHost)`, `NotReady(MethodHost)`: access depends on a nest host that isn't recorded.
 pub fn if_accessible(
     classes: &Classes,
     caller: ClassId,

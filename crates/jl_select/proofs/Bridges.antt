@@ -99,8 +99,8 @@ module _ (cs : Classes) (o : AreOrdered cs.rows) where
           ap (bridged_before u test found) (above_is c s e)
           ∙ ap (λ (b : Bool). if b then found else bridged_before u test (found || test s) (above cs s)) is
 
-    behind : (c s : ℕ) → superclass_of cs c ≡ Some s → IsBetween cs u test s → IsBetween cs u test c
-    behind c s e b = record {
+    one_below : (c s : ℕ) → superclass_of cs c ≡ Some s → IsBetween cs u test s → IsBetween cs u test c
+    one_below c s e b = record {
       number = b.number;
       below = proper_onward cs o c s b.number (proper_next c s e) b.below;
       above = b.above;
@@ -126,7 +126,7 @@ module _ (cs : Classes) (o : AreOrdered cs.rows) where
           | inl before ↦ inl before
           | inr now ↦ inr (record { number = s; below = proper_next c s e; above = up; passes = now })
         ]
-        joined up (inr b) = inr (behind c s e b)
+        joined up (inr b) = inr (one_below c s e b)
 
         by_top : (b : Bool) → (s == u) ≡ b → (if b then found else bridged_before u test (found || test s) (above cs s)) ≡ true
             → (is_proper_subclass cs c u ≡ true) × ((found ≡ true) ⊎ IsBetween cs u test c)

@@ -11,7 +11,7 @@ use Rattle.jl_types.specs.Linkage.Selection.{virtual_outcome, interface_outcome,
 pub record ChosenStays (old new : Classes) : Type 0 where
   pub chosen : (x : ℕ) (r : MethodId) → x < length old.rows → r.class < length old.rows → selection.chosen new x r ≡ selection.chosen old x r
 
--- and so does what an instruction makes of it
+-- what an instruction makes of the method that is selected stays, too
 pub record OutcomesStay (old new : Classes) : Type 0 where
   pub virtual : (x : ℕ) (r : MethodId) → x < length old.rows → r.class < length old.rows → virtual_outcome new x r ≡ virtual_outcome old x r
   pub interface : (x named : ℕ) (r : MethodId) → x < length old.rows → r.class < length old.rows
@@ -19,7 +19,7 @@ pub record OutcomesStay (old new : Classes) : Type 0 where
   pub special : (d named : ℕ) (ref : Reference (List ℕ)) → d < length old.rows → named < length old.rows
       → special_outcome new d named ref ≡ special_outcome old d named ref
 
--- all of this
+-- what is resolved, what is selected, and what instructions make of it stay
 pub record IsConstant (old new : Classes) : Type 0 where
   pub resolved : SettledStays old new
   pub chosen : ChosenStays old new

@@ -1,4 +1,4 @@
--- That every class below one runs one same method (JVMS 5.4.6, 6.5). `MayRun` is a means of proof.
+-- That every class below a class runs the same method (JVMS 5.4.6, 6.5). `MayRun` is a means of proof.
 use Rattle.std.specs.Prelude.{◌≡◌, ℕ, true, false}
 use Rattle.jl_types.specs.declared.ids.MethodId.{MethodId}
 use Rattle.jl_types.specs.declared.answer.Outcome.TheVariants.{Run}
@@ -9,7 +9,7 @@ use Rattle.jl_types.specs.Linkage.Overriding.{can_override}
 use Rattle.jl_hierarchy.specs.Redeclared.{AreLines}
 use Rattle.jl_types.specs.Linkage.Selection.{virtual_outcome}
 
--- an invokevirtual of r comes to r for each class that has n among its ancestors
+-- an invokevirtual of r runs r for each class that has n among its ancestors
 abbrev pub RunsBelow : Classes → ℕ → MethodId → Type 0
 RunsBelow cs n r = (x : ℕ) → is_ancestor cs n x ≡ true → virtual_outcome cs x r ≡ Run r
 

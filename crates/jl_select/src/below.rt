@@ -8,8 +8,8 @@ use crate::overriding::can_override;
 use jl_hierarchy::{Classes, NameAndType};
 use jl_types::{ClassId, MethodId};
 
-/// Whether it is known, without a look at each, that an invokevirtual of the resolved method comes to that itself for each
-/// class that has this one among its ancestors: no subclass redeclares it.
+/// Whether it is known, without a look at each class, that an invokevirtual of the resolved method runs that method itself for
+/// each class that has this one among its ancestors. It is, if no subclass redeclares it.
 pub fn runs_below(classes: &Classes, named: ClassId, resolved: &MethodId) -> bool
     requires { named < length classes.now.rows }
     ensures { result ≡ true → RunsBelow classes.now named resolved.now }

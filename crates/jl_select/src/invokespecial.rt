@@ -1,4 +1,4 @@
-//! What an invokespecial comes to (JVMS SE 17 §6.5.invokespecial).
+//! The outcome of an invokespecial (JVMS SE 17 §6.5.invokespecial).
 
 ghost use Rattle.std.specs.Prelude.{◌≡◌, ◌+◌, ◌^◌, ◌<◌, not, length, option_map, IfSome, MatchOption};
 ghost use Rattle.jl_types.specs.Values.Members as members;
@@ -13,8 +13,8 @@ use jl_pool::Reference;
 use jl_resolve::named_class;
 use jl_types::{Chosen, ClassId, MethodId, Outcome, Work};
 
-/// What an invokespecial of the reference comes to, in the caller's class. None where the caller isn't there, or its loader hasn't
-/// recorded the class or interface that the reference names. Takes no memory.
+/// The outcome of an invokespecial of the reference, in the caller's class. None if the caller isn't there, or if its loader
+/// hasn't recorded the class or interface that the reference names. Takes no memory.
 pub fn special(
     classes: &Classes,
     caller: ClassId,
@@ -28,8 +28,7 @@ pub fn special(
     Some(ending(classes, special_choice(classes, start, reference)))
 }
 
-/// The same with one tick where the class or interface is recorded, since this is a special search then, and with none where it
-/// isn't. Takes no memory.
+/// Gives what [`special`] gives, and counts one tick for the special search, or none if the result is None. Takes no memory.
 pub fn special_counted(
     classes: &Classes,
     caller: ClassId,
@@ -69,7 +68,7 @@ fn special_start(
     }
 }
 
-/// What the search gives from there.
+/// What the search gives from the class where it begins.
 fn special_choice(
     classes: &Classes,
     start: Option<ClassId>,

@@ -12,8 +12,10 @@ pub fn what_was_selected_stays()
     ensures { (h : List Event) (e : Event) → ChosenStays (world_after h).classes (world_after (h ++ e ∷ [])).classes }
 {}
 
-/// So does what invokevirtual, invokeinterface and invokespecial make of it, where java/lang/Object was recorded by loader 0
-/// before there was an interface, and what is present still rests on what is present.
+/// What invokevirtual, invokeinterface and invokespecial make of a selection stays through every event.
+///
+/// Two conditions: loader 0 recorded java/lang/Object before there was an interface, and after the event what is present still
+/// rests on what is present.
 pub fn outcomes_stay()
     ensures { (h : List Event) (e : Event) → RecordsObject (world_after h).classes → IsClosed (world_after (h ++ e ∷ [])).classes
         → OutcomesStay (world_after h).classes (world_after (h ++ e ∷ [])).classes }

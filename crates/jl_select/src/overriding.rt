@@ -26,7 +26,7 @@ pub fn can_override(classes: &Classes, lower: &MethodId, upper: &MethodId) -> bo
     }
 }
 
-/// The same of methods that are there.
+/// Whether the first method can override the second one, given both by number and by content.
 fn overrides(
     classes: &Classes,
     lower: &MethodId,

@@ -29,7 +29,7 @@ pub fn chosen(classes: &Classes, receiver: ClassId, resolved: &MethodId) -> Chos
     }
 }
 
-/// The same with one tick: this is a selection walk. Takes no memory.
+/// Gives what [`chosen`] gives, and counts one tick for the selection walk. Takes no memory.
 pub fn chosen_counted(
     classes: &Classes,
     receiver: ClassId,
@@ -45,7 +45,7 @@ pub fn chosen_counted(
     chosen(classes, receiver, resolved)
 }
 
-/// What an invokevirtual of the resolved method comes to for a receiver's class.
+/// The outcome of an invokevirtual of the resolved method for a receiver's class.
 pub fn select(classes: &Classes, receiver: ClassId, resolved: &MethodId) -> Outcome
     requires { receiver < length classes.now.rows }
     ensures { result ≡ selection.virtual_outcome classes.now receiver resolved.now }
@@ -53,7 +53,7 @@ pub fn select(classes: &Classes, receiver: ClassId, resolved: &MethodId) -> Outc
     ending(classes, chosen(classes, receiver, resolved))
 }
 
-/// The same with one tick, for its selection walk. Takes no memory.
+/// Gives what [`select`] gives, and counts one tick for the selection walk. Takes no memory.
 pub fn select_counted(
     classes: &Classes,
     receiver: ClassId,
@@ -68,7 +68,7 @@ pub fn select_counted(
     ending(classes, chosen_counted(classes, receiver, resolved, work))
 }
 
-/// What an invokeinterface of the resolved method comes to for a receiver's class, where the reference names this interface.
+/// The outcome of an invokeinterface of the resolved method for a receiver's class, through a reference that names this interface.
 pub fn select_interface(
     classes: &Classes,
     receiver: ClassId,
@@ -84,8 +84,8 @@ pub fn select_interface(
     interface_ending(classes, chosen(classes, receiver, resolved))
 }
 
-/// The same with one tick, for its selection walk, where the receiver's class is or implements the interface. One that doesn't is told
-/// without a walk and without a tick. Takes no memory.
+/// Gives what [`select_interface`] gives. If the receiver's class is or implements the interface, it counts one tick for the
+/// selection walk. Else there is no walk and no tick. Takes no memory.
 pub fn select_interface_counted(
     classes: &Classes,
     receiver: ClassId,
@@ -105,7 +105,7 @@ pub fn select_interface_counted(
     }
 }
 
-/// What a choice comes to.
+/// The outcome of a choice.
 pub(crate) fn ending(classes: &Classes, choice: Chosen) -> Outcome
     ensures { result ≡ selection.ending classes.now choice }
 {
@@ -122,7 +122,7 @@ pub(crate) fn ending(classes: &Classes, choice: Chosen) -> Outcome
     }
 }
 
-/// What a choice comes to at invokeinterface: a method that is neither public nor private is not accessible.
+/// The outcome of a choice at invokeinterface: a method that is neither public nor private is not accessible.
 fn interface_ending(classes: &Classes, choice: Chosen) -> Outcome
     ensures { result ≡ selection.interface_ending classes.now choice }
 {
@@ -161,7 +161,7 @@ fn overriding(
     }
 }
 
-/// The class's own declaration, where it can override the resolved method.
+/// The class's own declaration, if it can override the resolved method.
 fn own_overriding(
     classes: &Classes,
     class: ClassId,

@@ -1,13 +1,12 @@
 -- The requested sites at places that pass a test, place by place, and which of them have links.
 use Rattle.std.specs.Prelude.{◌≡◌, ℕ, zero, suc, ◌+◌, ◌<◌, ◌≤◌, ◌==◌, ◌⊎◌, ◌&&◌, ◌||◌, nat_lt, Bool, true, false, cond}
 use Rattle.std.specs.Prelude.{List, [], ◌∷◌, ◌++◌, take, get_or, slice_get, length}
-use Rattle.std.specs.Prelude.{find, position, option_and_then, Option, Some, None, option_map, is_some, Ok, if◌then◌else◌}
+use Rattle.std.specs.Prelude.{find, position, option_and_then, Option, Some, None, is_some, Ok, if◌then◌else◌}
 use Rattle.std.specs.List.{list_any, IsDistinct}
 use Rattle.std.specs.Option.{option_map_or}
 use Rattle.std.proofs.Common.{refl, ap, sym, ◌∙◌, arith, inl, inr}
 use Rattle.std.proofs.lemmas.Bool.{both_ways, cases_lt, ltb-true, lt-ltb}
 use Rattle.std.proofs.lemmas.Bool.Decides.{Decides-eqb, nat_tests}
-use Rattle.std.proofs.lemmas.Grind.{common_steps}
 use Rattle.std.proofs.lemmas.List.{take_more, take_all}
 use Rattle.std.proofs.lemmas.List.Folds.{list_any-append}
 use Rattle.std.proofs.lemmas.List.Quantifiers.{position-Some}
@@ -25,28 +24,12 @@ use Rattle.jl_types.specs.Linkage.Links.{scratch, link_of}
 use Rattle.jl_types.specs.Events.Verdict.{same_place}
 use Rattle.jl_types.specs.Events.Retirement.{is_of_any, retires_site}
 use Rattle.jl_types.proofs.Bools.{first_test, second_test}
+use Rattle.jl_types.proofs.Firsts.{first_here, first_later, no_later}
+use Rattle.jl_types.proofs.Places.{same_so}
 use Rattle.jl_hierarchy.proofs.Rising.{has}
 use Rattle.jl_settle.specs.ForProofs.Requested.{is_invoked, is_among, is_in_method, requested_where}
 
 -- ---- one place
-
-same_so : (p q : Place) → same_place p q ≡ true → p ≡ q
-same_so p q is =
-    let class = (Decides-eqb p.class q.class).0 (first_test (p.class == q.class) ((p.method == q.method) && (p.pc == q.pc)) is) in
-    let rest = second_test (p.class == q.class) ((p.method == q.method) && (p.pc == q.pc)) is in
-    let method = (Decides-eqb p.method q.method).0 (first_test (p.method == q.method) (p.pc == q.pc) rest) in
-    let pc = (Decides-eqb p.pc q.pc).0 (second_test (p.method == q.method) (p.pc == q.pc) rest) in
-    λ i. record { class = class i; method = method i; pc = pc i }
-
-first_here : (test : Place → Bool) (x : Place) (xs : List Place) → test x ≡ true → position test (x ∷ xs) ≡ Some 0
-first_here test x xs e = grind (arith, common_steps)
-
-first_later : (test : Place → Bool) (x : Place) (xs : List Place) → test x ≡ false → position test (x ∷ xs) ≡ option_map (λ n. n + 1) (position test xs)
-first_later test x xs e = grind (arith, common_steps)
-
-no_later : (o : Option ℕ) → option_map (λ n. n + 1) o ≡ None → o ≡ None
-no_later None e = refl
-no_later (Some n) e = cc
 
 -- a place that isn't requested has no site
 pub none_requested : (test : Place → Bool) (places : List Place) → position test places ≡ None → (s : ℕ) → requested_where test places s ≡ false
@@ -94,7 +77,7 @@ or_none : (b : Bool) → (b || false) ≡ b
 or_none true = refl
 or_none false = refl
 
--- and it is listed behind those of before
+-- and it is listed after those of before
 pub site_listed : (sites new : List ℕ) (i : ℕ) (p : Place) (places : List Place) → IsDistinct same_place places → position (same_place p) places ≡ Some i
     → new ≡ sites ++ i ∷ [] → (s : ℕ) → has s new ≡ (has s sites || requested_where (same_place p) places s)
 site_listed sites new i p places apart first more s =

@@ -5,7 +5,7 @@ use Rattle.std.specs.List.{AllByRecursion}
 use Rattle.std.specs.Bool.{one_answer}
 use Rattle.std.specs.Option.{option_map_or}
 use Rattle.std.proofs.Common.{refl, ap, sym, subst, ◌∙◌, arith, add-one, length-append, inl, inr}
-use Rattle.std.proofs.lemmas.Bool.{or_left, or_right, or_cases, and_from, both_ways}
+use Rattle.std.proofs.lemmas.Bool.{or_left, or_right, or_cases, and_from, both_ways, and_parts}
 use Rattle.std.proofs.lemmas.Cmp.{nat_eq_equiv}
 use Rattle.std.proofs.lemmas.Option.{same_Some}
 use Rattle.std.proofs.lemmas.Bool.Decides.{Decides-eqb}
@@ -130,10 +130,6 @@ all_of : (P : ℕ → Type 0) (xs : List ℕ) → ((s : ℕ) → has s xs ≡ tr
 all_of P [] h = tt
 all_of P (x ∷ xs) h = (h x (or_left (x == x) (has x xs) (nat_eq_equiv.refl x)), all_of P xs (λ s k. h s (or_right (x == s) (has s xs) k)))
 
-second : (a b : Bool) → (a && b) ≡ true → b ≡ true
-second true b h = h
-second false b h = cc
-
 same_turned : (a b : Link) → same_link a b ≡ same_link b a
 same_turned a b =
     one_answer (same_link a b) (same_link b a) (λ e. e, λ e. e)
@@ -230,7 +226,7 @@ module _ (world : World) (keys : List Key) (links : ℕ → Option Link) (index 
       (all_of (λ s. most_for world s ≡ 1) (touched_by index keys) (λ s inside.
       ap (λ (w : World). most_for w s) changed.step
       ∙ takes_one_evaluation changed.before changed.event s (not_defined changed.before changed.event changed.defined_is other)
-      (second (is_some (links s)) (touches changed.before changed.event s) (is_touched world keys None links index changed rising s inside))))
+      (and_parts (is_some (links s)) (touches changed.before changed.event s) (is_touched world keys None links index changed rising s inside)).1))
 
   module _ (x : ℕ) (changed : HasChanged world keys (Some x) links index) where
     is_definition : IsDefinition changed.before changed.event x
@@ -249,7 +245,8 @@ module _ (world : World) (keys : List Key) (links : ℕ → Option Link) (index 
     more s l is inside =
         one_more changed.before changed.order is_definition.loader is_definition.file s l
         (ap (λ (e : Event). touches changed.before e s) (sym is_definition.is)
-        ∙ second (is_some (links s)) (touches changed.before changed.event s) (is_touched world keys (Some x) links index changed rising s inside))
+        ∙ (and_parts (is_some (links s)) (touches changed.before changed.event s)
+        (is_touched world keys (Some x) links index changed rising s inside)).1)
         (changed.scratch s l is)
 
     -- and what its link rests on stays
@@ -308,10 +305,6 @@ module _ (world : World) (keys : List Key) (defined : Option ℕ) (links : ℕ �
   abbrev before : World
   before = changed.before
 
-  both : (a b : Bool) → (a && b) ≡ true → (a ≡ true) × (b ≡ true)
-  both true b h = (refl, h)
-  both false b h = cc
-
   -- a site that is in the index has a link, and this is what it rests on
   record IsThere (s : ℕ) (r : Rests) : Type 0 where
     link : Link
@@ -362,10 +355,10 @@ module _ (world : World) (keys : List Key) (defined : Option ℕ) (links : ℕ �
           → option_map_or (λ r. selects r.form && option_map_or (λ q. form_eq q.form r.form && meets r.footprint q.footprint) p false) o false ≡ true
           → Together s t
       by_rests None p at_t at_s h = cc
-      by_rests (Some r) None at_t at_s h = absurd (let e = (both (selects r.form) false h).1 in cc)
+      by_rests (Some r) None at_t at_s h = absurd (let e = (and_parts (selects r.form) false h).1 in cc)
       by_rests (Some r) (Some q) at_t at_s h =
-          let first = both (selects r.form) (form_eq q.form r.form && meets r.footprint q.footprint) h in
-          let second = both (form_eq q.form r.form) (meets r.footprint q.footprint) first.1 in
+          let first = and_parts (selects r.form) (form_eq q.form r.form && meets r.footprint q.footprint) h in
+          let second = and_parts (form_eq q.form r.form) (meets r.footprint q.footprint) first.1 in
           let of_t = is_there_at t r at_t in
           let of_s = is_there_at s q at_s in
           let form_s : q.form ≡ r.form = form_is q.form r.form second.0 in
@@ -376,7 +369,8 @@ module _ (world : World) (keys : List Key) (defined : Option ℕ) (links : ℕ �
           let receivers = changes before changed.event one.invocation.named
           (key_met one.invocation.named (events.keys before changed.event)
           (ap (λ (ks : List Key). meets ks (events.keys before changed.event)) (sym one.rests_on)
-          ∙ second_of (is_some (links t)) (touches before changed.event t) (is_touched world keys defined links index changed rising t inside))) in
+          ∙ (and_parts (is_some (links t)) (touches before changed.event t)
+          (is_touched world keys defined links index changed rising t inside)).1)) in
           let forms : (rests before s).form ≡ (rests before t).form =
           ap (λ (r : Rests). r.form) (sym of_s.rests_on) ∙ form_s ∙ ap (λ (r : Rests). r.form) of_t.rests_on in
           let a = of_selecting s of_s.link of_s.is _ other receivers in
@@ -386,10 +380,6 @@ module _ (world : World) (keys : List Key) (defined : Option ℕ) (links : ℕ �
             scratch = a.scratch ∙ ap Ok (λ i. link_alike world.classes (class i) (forms i)) ∙ sym b.scratch;
             rests_on = at_s ∙ ap Some (of_s.rests_on ∙ sym a.rests_on) ∙ ap (rests_if world s) (sym of_s.is);
           }
-        where
-          second_of : (a b : Bool) → (a && b) ≡ true → b ≡ true
-          second_of true b h = h
-          second_of false b h = cc
 
   go_together : (s t : ℕ) → Together s t → goes world links s ≡ goes world links t
   go_together s t both = λ i. is_some (both.links_are i) && is_none (kept false (both.links_are i) (both.scratch i))
@@ -415,17 +405,13 @@ module _ (world : World) (keys : List Key) (defined : Option ℕ) (links : ℕ �
         | inr together ↦ record { item = r.item; there = r.there; alike = inr together }
       ]
 
-  both_of : (a b : Bool) → (a && b) ≡ true → (a ≡ true) × (b ≡ true)
-  both_of true b h = (refl, h)
-  both_of false b h = cc
-
   are_lost : (s : ℕ) → has s lost ≡ goes world links s
   are_lost s = listed s ∙ one_answer (is_asked index gone s) (goes world links s) (λ e. e, λ e. e) (back, forth)
     where
       forth : is_asked index gone s ≡ true → goes world links s ≡ true
       forth h =
           let one = stands_for s gone h in
-          let r = both_of (has one.item asked) (goes world links one.item) (sym (found one.item) ∙ one.there) in
+          let r = and_parts (has one.item asked) (goes world links one.item) (sym (found one.item) ∙ one.there) in
           by_alike one.item one.alike r.0 r.1
         where
           by_alike : (t : ℕ) → (t ≡ s) ⊎ (are_together index s t ≡ true) → has t asked ≡ true → goes world links t ≡ true → goes world links s ≡ true

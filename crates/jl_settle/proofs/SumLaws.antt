@@ -28,7 +28,7 @@ later z s ys h = by_test (z == s)
     by_test true = refl
     by_test false = h
 
--- what stands behind y in a rising list isn't y
+-- what stands after y in a rising list isn't y
 no_head : (y s : ℕ) (ys : List ℕ) → AllByRecursion (λ k. y < k) ys → has s ys ≡ true → (y == s) ≡ false
 no_head y s ys above h = by_test (y == s) refl
   where

@@ -18,7 +18,7 @@ use Rattle.jl_deps.specs.declared.form.Rests.{Rests}
 use Rattle.jl_deps.specs.Forms.{rests}
 use Rattle.jl_deps.specs.Indexes.{rests_at, IsIndex}
 
--- the site's link, where it is the one from scratch
+-- the site's link, if it is the one from scratch
 abbrev pub kept_at : World → (ℕ → Option Link) → ℕ → Option Link
 kept_at w links s = kept false (links s) (scratch w s)
 
@@ -31,8 +31,8 @@ abbrev pub defined_by : World → Event → Option ℕ
 defined_by w (event.Define loader file) = Some (length w.classes.rows)
 defined_by w _ = None
 
--- An accepted event with these keys, which defined this class or none, and retired no site that has a link, led to the world. Before it
--- each link was the one from scratch, the index that of the links, and the world in order.
+-- An accepted event with these keys led to the world. It defined this class or none, and retired no site that has a link. Before it each
+-- link was the one from scratch, the index that of the links, and the world in order.
 pub record HasChanged (world : World) (keys : List Key) (defined : Option ℕ) (links : ℕ → Option Link) (index : List (ℕ × Rests)) : Type 0 where
   pub before : World
   pub event : Event
@@ -45,8 +45,8 @@ pub record HasChanged (world : World) (keys : List Key) (defined : Option ℕ) (
   pub scratch : (s : ℕ) (l : Link) → links s ≡ Some l → scratch before s ≡ Ok l
   pub index_is : IsIndex before links index
 
--- After an event that installed links at these sites, or at none: a link is there where it is the one from scratch and was there before or is
--- installed, the index is that of the links, and these are the sites whose links went.
+-- After an event that installed links at these sites, or at none, a link is there if it is the one from scratch and was there before or is
+-- installed. The index is that of the links, and these are the sites whose links went.
 pub record AreUpToDate (world : World) (installs : ℕ → Bool) (before after : ℕ → Option Link) (further : List (ℕ × Rests)) (gone : List ℕ) : Type 0 where
   pub links : (s : ℕ) → after s ≡ kept (installs s) (before s) (scratch world s)
   pub index : IsIndex world after further

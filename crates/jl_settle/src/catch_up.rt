@@ -11,7 +11,7 @@ use jl_deps::{Index, KeptRests};
 use jl_types::SiteNo;
 use std::alloc::{AllocError, Global};
 
-/// These sites have the links and the footprints that they have ahead. Nothing is evaluated, and no footprint is looked up.
+/// These sites get the links and the footprints that they have ahead. Nothing is evaluated, and no footprint is looked up.
 ///
 /// # Errors
 ///
@@ -36,14 +36,14 @@ pub fn take_over(
     Ok(())
 }
 
-/// The site has the link that it has ahead, or none. Want of memory is an error; the links are of no use then.
+/// The site gets the link that it has ahead, or none. On an error the links are of no use.
 fn take_link(links: &mut Cache, site: SiteNo, ahead: &Cache) -> Result<(), AllocError>
     ensures { OnOk result ((s : ℕ) → link_at links.new s ≡ (if site == s then link_at ahead.now site else link_at links.old s)) }
 {
     links.take(site, ahead)
 }
 
-/// The site has this footprint, or none. Want of memory is an error; the index is of no use then.
+/// The site gets this footprint, or none. On an error the index is of no use.
 fn take_rests(
     alloc: Global,
     index: &mut Index,

@@ -38,7 +38,7 @@ pub fn forget(
     Ok(lost)
 }
 
-/// Those of the sites that have a link. Want of memory is an error.
+/// Those of the sites that have a link.
 fn linked_among(alloc: Global, links: &Cache, sites: &[SiteNo]) -> Result<Vec<SiteNo>, AllocError>
     ensures { IfOk result (λ linked. (s : ℕ) → list_any (λ t. t == s) linked.items
         ≡ (list_any (λ t. t == s) sites.now && is_some (link_at links.now s))) }

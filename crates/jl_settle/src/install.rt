@@ -11,7 +11,7 @@ use jl_relink::World;
 use jl_types::SiteNo;
 use std::alloc::{AllocError, Global};
 
-/// Installs these links, in place of those that the sites have and with the same tables, and keeps in the index what they rest on.
+/// Installs these links in place of those that the sites have, and keeps in the index what they rest on. Their tables are shared.
 ///
 /// # Errors
 ///
@@ -28,12 +28,12 @@ pub fn install_rows(
     ensures index { OnOk result (IsIndex world.now (link_at links.new) index.new) }
 {
     links.install_kept(rows)?;
-    let sites = sites_of(alloc, rows)?;
+    let sites = row_sites(alloc, rows)?;
     refresh(alloc, world, links, index, sites.as_slice())
 }
 
-/// The sites of the rows. Want of memory is an error.
-fn sites_of<T>(alloc: Global, rows: &[(SiteNo, T)]) -> Result<Vec<SiteNo>, AllocError>
+/// The sites of the rows.
+fn row_sites<T>(alloc: Global, rows: &[(SiteNo, T)]) -> Result<Vec<SiteNo>, AllocError>
     ensures { IfOk result (λ sites. sites.items ≡ map (λ row. row.0) rows.now) }
 {
     rows.iter().map(|row| row.0).collect(alloc)

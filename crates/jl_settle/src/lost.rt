@@ -21,7 +21,7 @@ use jl_select::select_counted;
 use jl_types::{ClassId, Link, MethodId, Outcome, SiteNo, Work};
 use std::alloc::{AllocError, Global};
 
-/// Those of the sites whose links aren't the ones from scratch any more. Want of memory is an error.
+/// Those of the sites whose links aren't the ones from scratch any more.
 pub(crate) fn lost_among(
     alloc: Global,
     world: &World,
@@ -46,7 +46,7 @@ pub(crate) fn lost_among(
     Ok(lost)
 }
 
-/// Adds the site, if so. Want of memory is an error.
+/// Adds the site, if so.
 pub(crate) fn push_if(sites: &mut Vec<SiteNo>, goes: bool, site: SiteNo) -> Result<(), AllocError>
     ensures { OnOk result ((s : ℕ) → list_any (λ t. t == s) sites.new.items
         ≡ (list_any (λ t. t == s) sites.old.items || ((site == s) && goes))) }
@@ -85,7 +85,7 @@ fn is_lost(
     }
 }
 
-/// How the site selects, where its link rests on something.
+/// How the site selects, if its link rests on something.
 fn form_at(index: &Index, site: SiteNo) -> Form
     ensures { result ≡ form_in (rests_at index.now site) }
 {
@@ -95,8 +95,8 @@ fn form_at(index: &Index, site: SiteNo) -> Form
     }
 }
 
-/// Whether the site's link stays once there is this receiver more. Of an invokevirtual the form tells the resolved method, so that nothing
-/// is resolved. One tick at most.
+/// Whether the site's link stays once there is this receiver more. For an invokevirtual the form tells the resolved method, so nothing is
+/// resolved. One tick at most.
 fn stays_by_form(
     world: &World,
     site: SiteNo,

@@ -15,8 +15,8 @@ use jl_relink::World;
 use jl_types::{ClassId, LoaderId, Place, SiteNo};
 use std::alloc::{AllocError, Global};
 
-/// Sites in the classes that the loaders have defined, each that has a link from scratch among them; none of a retired loader. It
-/// looks at the invocations of these classes alone. Want of memory is an error.
+/// Sites in the classes that the loaders have defined. Each of these that has a link from scratch is among them, and none of a retired
+/// loader is. It looks only at the invocations of these classes.
 pub fn sites_of(
     alloc: Global,
     world: &World,
@@ -32,7 +32,7 @@ pub fn sites_of(
     Ok(sites)
 }
 
-/// The requested invocations of the classes. Want of memory is an error.
+/// The requested invocations of the classes.
 fn sites_in(alloc: Global, world: &World, classes: &[ClassId]) -> Result<Vec<SiteNo>, AllocError>
     requires { length world.now.places < 2 ^ 32 }
     ensures { IfOk result (λ sites. (s : ℕ) → list_any (λ t. t == s) sites.items
@@ -45,7 +45,7 @@ fn sites_in(alloc: Global, world: &World, classes: &[ClassId]) -> Result<Vec<Sit
     Ok(sites)
 }
 
-/// Adds the requested invocations of the class. Want of memory is an error.
+/// Adds the requested invocations of the class.
 fn push_of_class(
     sites: &mut Vec<SiteNo>,
     places: &Places,
@@ -68,7 +68,7 @@ fn push_of_class(
     Ok(())
 }
 
-/// Adds the requested invocations of the method. Want of memory is an error.
+/// Adds the requested invocations of the method.
 fn push_of_method(
     sites: &mut Vec<SiteNo>,
     places: &Places,
@@ -96,7 +96,7 @@ fn push_of_method(
     Ok(())
 }
 
-/// Adds the site of the place, where it is requested. Want of memory is an error.
+/// Adds the site of the place, if it is requested.
 fn push_requested(sites: &mut Vec<SiteNo>, places: &Places, place: &Place) -> Result<(), AllocError>
     requires { length places.now < 2 ^ 32 }
     ensures { OnOk result ((s : ℕ) → list_any (λ t. t == s) sites.new.items

@@ -14,9 +14,10 @@ use jl_types::{ClassId, Key, SiteNo, Work};
 use std::alloc::{AllocError, Global};
 
 /// Drops the links that aren't those from scratch any more, once an event with these keys has changed the world, and brings the index
-/// up to date. Of the sites that the event touches it evaluates one link of all that select alike, and each of the others, and it looks at
-/// no other site; where the event defined a class, it asks what a call runs on an object of this class alone. It gives the sites whose
-/// links went, by rising number.
+/// up to date. It gives the sites whose links went, by rising number.
+///
+/// It looks only at sites that the event touches. It evaluates one link of all that select alike, and each of the others. If the event
+/// defined a class, it asks only what a call runs on an object of this class.
 ///
 /// # Errors
 ///
@@ -51,8 +52,8 @@ pub fn settle(
     Ok(lost)
 }
 
-/// Takes the sites whose links went out of the index; where no class was defined, the other asked sites may rest on other things than
-/// before. Want of memory is an error; the index is of no use then.
+/// Takes the sites whose links went out of the index. If no class was defined, it looks up what the other asked sites rest on, which may
+/// have changed. On an error the index is of no use.
 fn reindex(
     alloc: Global,
     world: &World,
@@ -83,8 +84,8 @@ pub(crate) fn remove_all(index: &mut Index, sites: &[SiteNo])
     }
 }
 
-/// Each of these sites that has a link has in the index what that rests on, and each other one nothing. Want of memory is an error; the
-/// index is of no use then.
+/// Each of these sites that has a link has in the index what that rests on, and each other one nothing. On an error the
+/// index is of no use.
 pub(crate) fn refresh(
     alloc: Global,
     world: &World,
@@ -101,7 +102,8 @@ pub(crate) fn refresh(
     Ok(())
 }
 
-/// The same for one site.
+/// If the site has a link, it has in the index what that rests on, and else nothing. On an error the index is of no
+/// use.
 fn refresh_site(
     alloc: Global,
     world: &World,

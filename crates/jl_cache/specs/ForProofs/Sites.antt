@@ -3,6 +3,6 @@ use Rattle.std.specs.Prelude.{◌≡◌, ◌≤◌, ◌^◌, ℕ, List, None}
 use Rattle.jl_types.specs.declared.link.Link.{Link}
 use Rattle.jl_cache.specs.Links.{link_at}
 
--- none that is past the numbers of sites
+-- no number past those of sites has a link
 abbrev pub HaveSites : List (ℕ × Link) → Type 0
 HaveSites links = (s : ℕ) → 2 ^ 32 ≤ s → link_at links s ≡ None

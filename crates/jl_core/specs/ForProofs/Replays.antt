@@ -1,4 +1,4 @@
--- An instance that is one event behind another one, and what it does to come after it. A means of proof.
+-- An instance that is one event behind another one, and what it does to catch up. A means of proof.
 use Rattle.std.specs.Prelude.{◌≡◌, ◌+◌, ◌≤◌, ℕ, false, List, take, length, None, if◌then◌else◌}
 use Rattle.jl_types.specs.declared.link.Link.{Link}
 use Rattle.jl_types.specs.Events.Event.{Event}
@@ -17,7 +17,7 @@ use Rattle.jl_core.specs.Logs.{Entry}
 use Rattle.jl_core.specs.State.{State}
 use Rattle.jl_core.specs.ForProofs.Touched.{has}
 
--- it lacks the last event of the other, or none
+-- the first one has the events of the other, or all but the last one
 abbrev pub IsBehind : State → State → Type 0
 IsBehind core ahead = (core ≡ record ahead { log = take (length core.log) ahead.log }) × (length ahead.log ≤ length core.log + 1)
 
@@ -25,7 +25,7 @@ IsBehind core ahead = (core ≡ record ahead { log = take (length core.log) ahea
 abbrev pub IsUntouched : World → List (ℕ × Rests) → Event → ℕ → Type 0
 IsUntouched w index e s = (has s (touched_by index (keys w e)) ≡ false) × (installs s e ≡ false)
 
--- where the entry's event installs nothing, the other's link of a site is the one's, but for those that the entry drops
+-- if the entry's event installs nothing, the other's link of a site is the one's, but for those that the entry drops
 abbrev pub AreDropped : Entry → List (ℕ × Link) → List (ℕ × Link) → Type 0
 AreDropped entry links linked =
     (s : ℕ) → installs_at s entry.event ≡ false → (if has s entry.reply.dropped then None else link_at links s) ≡ link_at linked s

@@ -45,7 +45,7 @@ pub record AreRetired (w : World) (e : Event) (sites : List ℕ) : Type 0 where
   pub only : (s : ℕ) → has s sites ≡ true → footprints.retires w e s ≡ true
   pub linked : (s : ℕ) (l : Link) → scratch w s ≡ Ok l → footprints.retires w e s ≡ true → has s sites ≡ true
 
--- The same by what the log keeps of the event, which has led to the world: each that had a link is among them.
+-- Sites that the event, by what the log keeps of it, has retired, each that had a link among them. The event has led to the world.
 pub record AreGone (w : World) (told : Accepted) (links : List (ℕ × Link)) (sites : List ℕ) : Type 0 where
   pub only : (s : ℕ) → has s sites ≡ true → retires_at w told s ≡ true
   pub linked : (s : ℕ) (l : Link) → link_at links s ≡ Some l → retires_at w told s ≡ true → has s sites ≡ true
@@ -55,7 +55,7 @@ pub data IsRetirement : Accepted → List ℕ → Type 0 where
   of_one : (loader : ℕ) → IsRetirement (variant.Retire loader) (loader ∷ [])
   of_several : (loaders : List ℕ) → IsRetirement (variant.RetireAll loaders) loaders
 
--- what the index says of how many evaluations the event takes that retires the loaders: those of the sites that are left
+-- what the index says of how many evaluations a retirement of the loaders takes: those of the sites that are left
 abbrev pub most_left : World → List (ℕ × Rests) → Event → List ℕ → ℕ
 most_left w index e loaders =
     sum_by (most_for (events.step w e)) (filter (λ s. not (retires_site w loaders s)) (touched_by index (footprints.keys w e)))
@@ -66,7 +66,8 @@ most_to_settle w index (variant.Retire loader) = most_left w index (variant.Reti
 most_to_settle w index (variant.RetireAll loaders) = most_left w index (variant.RetireAll loaders) loaders
 most_to_settle w index e = length (touched_by index (footprints.keys w e))
 
--- the same by what the log keeps of the event, which has led to the world
+-- what the index says of how many evaluations the event takes once it was judged, by what the log keeps of the event, which has led to the
+-- world
 abbrev pub most_told : World → Accepted → List (ℕ × Rests) → List Key → ℕ
 most_told w (variant.Retire loader) index keys = sum_by (most_for w) (filter (λ s. not (retires_site w (loader ∷ []) s)) (touched_by index keys))
 most_told w (variant.RetireAll loaders) index keys = sum_by (most_for w) (filter (λ s. not (retires_site w loaders s)) (touched_by index keys))

@@ -16,11 +16,11 @@ touched_by _ dropped = dropped
 abbrev pub has : ℕ → List ℕ → Bool
 has s sites = list_any (λ k. k == s) sites
 
--- the same sites, each once, rising
+-- the second list has the sites of the first one, each once, rising
 pub record AreTouched (sites rising : List ℕ) : Type 0 where
   pub rises : Rises rising
   pub same : (s : ℕ) → has s rising ≡ has s sites
 
--- the site's slot, where its links differ
+-- the site's slot, if its links differ
 abbrev pub slot_at : List (ℕ × Link) → List (ℕ × Link) → ℕ → Option (ℕ × Option Link)
 slot_at before after s = option_map (λ slot. (s, slot)) (change (link_at before s) (link_at after s))

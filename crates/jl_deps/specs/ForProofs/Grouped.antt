@@ -3,7 +3,7 @@ use Rattle.std.specs.Prelude.{ℕ, List, [], ◌∷◌}
 use Rattle.jl_deps.specs.declared.group.Kept.{Kept}
 use Rattle.jl_deps.specs.declared.group.Kept.TheVariants.{Nothing, One, Many}
 
-abbrev pub sites_of : Kept → List ℕ
-sites_of Nothing = []
-sites_of (One site) = site ∷ []
-sites_of (Many sites) = sites.value.keys
+abbrev pub kept_sites : Kept → List ℕ
+kept_sites Nothing = []
+kept_sites (One site) = site ∷ []
+kept_sites (Many sites) = sites.value.keys

@@ -42,7 +42,7 @@ pub record AreKept {S T : Type 0} (sites : List (ℕ × Rests)) (lists : IndexMa
   pub listed : AreListed sites lists
   pub below : AreBelow sites
 
--- what it rests on, where that may be nothing: its keys, and its form
+-- the keys of what a site rests on, and its form, if it may rest on nothing
 abbrev pub keys_in : Option Rests → List Key
 keys_in None = []
 keys_in (Some r) = r.footprint

@@ -6,7 +6,7 @@ use Rattle.jl_types.specs.declared.link.Link.TheVariants.{Fault, Plain, Direct, 
 use Rattle.jl_types.specs.Values.World.{Classes}
 use Rattle.jl_types.specs.Values.Members.{is_private}
 
--- a link that an instruction which may select by the receiver has only where it looks at receivers
+-- an instruction that may select by the receiver has such a link only if it looks at receivers
 abbrev pub tells_receivers : Classes → Link → Bool
 tells_receivers cs (Table kind rows) = true
 tells_receivers cs Mega = true

@@ -1,4 +1,4 @@
--- Invocations whose links are equal, since the classes alone and what is equal of both say what they come to.
+-- Invocations whose links are equal, since the classes and what is equal of both decide them.
 use Rattle.std.specs.Prelude.{◌≡◌, List, ℕ}
 use Rattle.jl_class.specs.declared.site.Operand.{Operand}
 use Rattle.jl_class.specs.declared.site.Operand.TheVariants as operand

@@ -1,4 +1,4 @@
--- What the receivers of an invocation come to, receiver by receiver. A means of proof.
+-- The outcomes of an invocation, receiver by receiver. A means of proof.
 use Rattle.std.specs.Prelude.{ℕ, Bool, true, ◌&&◌, List, [], ◌∷◌, map, Option, Some, None, option_and_then, if◌then◌else◌}
 use Rattle.jl_types.specs.declared.ids.MethodId.{MethodId}
 use Rattle.jl_types.specs.declared.answer.Answer.{Answer}
@@ -31,7 +31,7 @@ outcome_of cs s x = outcome_by cs s.kind s.named s.method x
 abbrev pub rows_of : Classes → Selection → List ℕ → List (ℕ × Outcome)
 rows_of cs s xs = map (λ x. (x, outcome_of cs s x)) xs
 
--- the method that earlier receivers and this one run, where they run one same method
+-- the method that earlier receivers and this one run, if they run the same method
 abbrev pub joined : Option MethodId → Outcome → Option MethodId
 joined None (Run m) = Some m
 joined (Some first) (Run m) = if runs first (Run m) then Some first else None
@@ -44,7 +44,7 @@ run_on common (row ∷ rows) = option_and_then (λ m. run_on (Some m) rows) (joi
 
 -- ---- links
 
--- the link of an invocation whose receivers decide it, by what they come to
+-- the link of an invocation whose receivers decide it, by their outcomes
 abbrev pub link_by_rows : TableKind → List (ℕ × Outcome) → Link
 link_by_rows Virtual rows = virtual_link rows
 link_by_rows Interface rows = table_or_mega Interface rows

@@ -21,7 +21,7 @@ abbrev pub depends_by : Classes → Selection → TableKind → Bool
 depends_by cs s Virtual = not (is_private cs s.method)
 depends_by cs s Interface = nat_le (length (receivers cs s.named)) 8
 
--- what the receivers come to decides the link
+-- the outcomes of the receivers decide the link
 abbrev pub depends : Classes → Selection → Bool
 depends cs s = depends_by cs s s.kind
 
@@ -33,7 +33,7 @@ abbrev pub link_with : Outline → List (ℕ × Outcome) → Link
 link_with (Known link) rows = link
 link_with (Depends s) rows = link_by_rows s.kind rows
 
--- the same, by the classes
+-- the link of a row of the plan, by the classes
 abbrev pub link_of_plan : Classes → Outline → Link
 link_of_plan cs (Known link) = link
 link_of_plan cs (Depends s) = link_by_rows s.kind (rows_of cs s (receivers cs s.named))
@@ -69,6 +69,6 @@ pairs_in cs (Depends s) = pairs_with s (receivers cs s.named)
 abbrev pub pairs_of : Classes → List (ℕ × Outline) → List Pair
 pairs_of cs plan = flat_map (λ row. pairs_in cs row.1) plan
 
--- what a pair comes to
+-- the receiver of a pair, with its outcome
 abbrev pub looked_up : Classes → Pair → ℕ × Outcome
 looked_up cs p = (p.receiver, outcome_of cs p.selection p.receiver)

@@ -29,12 +29,12 @@ has_bridge cs u a k = same_package cs u k && list_any (is_bridge a) (methods_of 
 abbrev pub above : Classes → ℕ → List ℕ
 above cs c = option_map_or (superclasses cs) (superclass_of cs c) []
 
--- the list comes to u, and something before it passes, or was found already
+-- u is in the list, and something before it passes, or was found already
 abbrev pub bridged_before : ℕ → (ℕ → Bool) → Bool → List ℕ → Bool
 bridged_before u test found [] = false
 bridged_before u test found (k ∷ ks) = if k == u then found else bridged_before u test (found || test k) ks
 
--- the class's own declaration, where it passes
+-- the class's own declaration, if it passes
 abbrev pub own_passing : (MethodId → Bool) → Classes → List ℕ → List ℕ → ℕ → Option MethodId
 own_passing test cs name ty c = option_and_then (λ m. if test m then Some m else None) (declared cs name ty c)
 

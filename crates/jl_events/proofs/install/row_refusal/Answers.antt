@@ -21,7 +21,7 @@ returns-then-ne-clause-refusal c =
     (sym (rest_at c.args.rows.now c.loop-row.row-index row c.loop-row-test.true c.row-item.is))
     ∙ c.loop-row.invariant.left
 
--- the count of one row and of those behind it
+-- the count of one row and of those after it
 counted : (here rest work next last first all : ℕ) → next ≤ work + here → work + last ≤ first + all → last ≡ here + rest → next + rest ≤ first + all
 counted here rest work next last first all step before split = omega arith
 

@@ -1,7 +1,7 @@
 use Rattle.std.specs.Prelude.{◌≡◌, ◌≤◌, length}
 use Rattle.std.proofs.Common.{rules}
 use Rattle.std.proofs.lemmas.Result.{err_from_is_err_and}
-use Rattle.jl_renewal.proofs.InstallLaws.{installs_none, installs_turn, installs_all, still_fresh, adds_of, install_lacks, stops, front_is, behind_is}
+use Rattle.jl_renewal.proofs.InstallLaws.{installs_none, installs_turn, installs_all, still_fresh, adds_of, install_lacks, stops, front_is, after_is}
 use Rattle.jl_renewal.proofs.links.install_all.Goals as goal
 
 pub loop-left-init : goal.loop-left-init
@@ -32,12 +32,12 @@ loop-left-preserved g c =
     let some : 1 ≤ length c.loop-left.left.now = search rules in
     let copied : c.of.result ≡ c.split_at.result.0.now = search rules in
     let batch = front_is c.loop-left.left.now c.split_at.result.0.now c.of.result c.min.result c.min.ensures c.split_at.ensures.front copied in
-    let behind = behind_is c.loop-left.left.now c.split_at.result.1.now c.min.result c.min.ensures c.split_at.ensures.back in
+    let later = after_is c.loop-left.left.now c.split_at.result.1.now c.min.result c.min.ensures c.split_at.ensures.back in
     let added = adds_of _ _ (g.M.EventMachine.state c.loop-left.fresh) (g.M.EventMachine.state c.accept.new.self) c.in_ok-accept.ensures.accepted in
     record {
-      front = installs_turn c.args.rows.now c.loop-left.left.now c.of.result c.split_at.result.1.now _ _ _ some batch behind c.loop-left.invariant.front
+      front = installs_turn c.args.rows.now c.loop-left.left.now c.of.result c.split_at.result.1.now _ _ _ some batch later c.loop-left.invariant.front
           added;
-      fresh = λ fresh. still_fresh c.loop-left.left.now c.of.result c.split_at.result.1.now _ _ behind added (c.loop-left.invariant.fresh fresh);
+      fresh = λ fresh. still_fresh c.loop-left.left.now c.of.result c.split_at.result.1.now _ _ later added (c.loop-left.invariant.fresh fresh);
     }
 
 pub returns-clause-installs : goal.returns-clause-installs

@@ -1,6 +1,6 @@
 use Rattle.std.specs.Prelude.{◌≡◌, ◌≤◌, length}
 use Rattle.std.proofs.Common.{rules}
-use Rattle.jl_renewal.proofs.InstallLaws.{installs_none, installs_turn, installs_all, still_fresh, adds_of, may_install, lacks, front_is, behind_is}
+use Rattle.jl_renewal.proofs.InstallLaws.{installs_none, installs_turn, installs_all, still_fresh, adds_of, may_install, lacks, front_is, after_is}
 use Rattle.jl_renewal.proofs.links.install_fresh.Goals as goal
 
 pub loop-rest-init : goal.loop-rest-init
@@ -24,13 +24,13 @@ loop-rest-preserved g c =
     let some : 1 ≤ length c.loop-rest.rest.now = search rules in
     let copied : c.of.result ≡ c.split_at.result.0.now = search rules in
     let batch = front_is c.loop-rest.rest.now c.split_at.result.0.now c.of.result c.min.result c.min.ensures c.split_at.ensures.front copied in
-    let behind = behind_is c.loop-rest.rest.now c.split_at.result.1.now c.min.result c.min.ensures c.split_at.ensures.back in
+    let later = after_is c.loop-rest.rest.now c.split_at.result.1.now c.min.result c.min.ensures c.split_at.ensures.back in
     let before = g.M.EventMachine.state c.loop-rest.fresh in
     let added = adds_of _ _ before (g.M.EventMachine.state c.accept_judged.new.self) c.in_ok-accept_judged.ensures.accepted in
     record {
-      front = installs_turn c.args.rows.now c.loop-rest.rest.now c.of.result c.split_at.result.1.now _ _ _ some batch behind c.loop-rest.invariant.front
+      front = installs_turn c.args.rows.now c.loop-rest.rest.now c.of.result c.split_at.result.1.now _ _ _ some batch later c.loop-rest.invariant.front
           added;
-      fresh = still_fresh c.loop-rest.rest.now c.of.result c.split_at.result.1.now _ _ behind added c.loop-rest.invariant.fresh;
+      fresh = still_fresh c.loop-rest.rest.now c.of.result c.split_at.result.1.now _ _ later added c.loop-rest.invariant.fresh;
     }
 
 pub returns-clause-installs : goal.returns-clause-installs

@@ -7,7 +7,7 @@ ghost use Rattle.std.specs.Vec.{vec_len, vec_capacity};
 ghost use Rattle.jl_relink.specs.ForProofs.Fills.{FailsFirst};
 
 /// Fills an empty list, which has room for it, with what `make` gives for each item, in order. The first error ends it.
-pub(crate) fn fill<T, U: Drop, E: Drop, F: Fn(&T) -> Result<U, E>>(
+pub fn fill<T, U: Drop, E: Drop, F: Fn(&T) -> Result<U, E>>(
     items: &[T],
     made: &mut Vec<U>,
     make: F,

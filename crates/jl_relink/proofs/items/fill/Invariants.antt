@@ -2,7 +2,7 @@ use Rattle.std.proofs.Common.{Ok, take, ◌+◌, ◌≤◌, length}
 use Rattle.std.specs.Fn.{FnReturnsAt}
 use Rattle.std.specs.List.{AllZip}
 use Rattle.std.specs.Vec.{vec_len, vec_capacity}
-use Rattle.jl_relink.proofs.fill.fill.Given as goal
+use Rattle.jl_relink.proofs.items.fill.Given as goal
 
 -- the items so far are made, and there is room for the others
 abbrev pub invariant-loop-item : goal.invariant-loop-item

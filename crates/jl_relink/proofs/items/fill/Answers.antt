@@ -4,7 +4,7 @@ use Rattle.std.proofs.lemmas.List.{take_more}
 use Rattle.std.proofs.lemmas.Result.{err_from_is_err_and}
 use Rattle.std.proofs.lemmas.Slice.Zip.{all_zipped_more}
 use Rattle.jl_types.proofs.Lists.{rest_at}
-use Rattle.jl_relink.proofs.fill.fill.Goals as goal
+use Rattle.jl_relink.proofs.items.fill.Goals as goal
 
 pub returns-in_err-one-clause-first : goal.returns-in_err-one-clause-first
 returns-in_err-one-clause-first g c =
