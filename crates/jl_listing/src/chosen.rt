@@ -5,10 +5,10 @@ use jl_hierarchy::Classes;
 use jl_report::{Row, Shape, is_open};
 use std::alloc::{AllocError, Global};
 
-/// The words for what an invocation comes to.
+/// The words by which invocations are chosen.
 pub(crate) const FORMS: &[&str] = &["direct", "table", "mega", "fault", "waits", "open"];
 
-/// What an invocation comes to, as it is asked for.
+/// What is to be found of an invocation that is asked for.
 #[derive(Clone, Copy, Debug, PartialEq, Eq)]
 pub enum Choice {
     /// One method.
@@ -17,7 +17,7 @@ pub enum Choice {
     Table,
     /// Too many receivers for a table.
     Mega,
-    /// A further class may change what it comes to.
+    /// Its link, which a further class may change.
     Open,
     /// It throws.
     Fault,
@@ -39,7 +39,7 @@ impl Choice {
         }
     }
 
-    /// Whether it is what the row comes to.
+    /// Whether the finding of the row is such.
     fn takes(self, classes: &Classes, row: &Row) -> bool {
         let shape = Shape::of(&row.finding);
         match self {
@@ -56,9 +56,9 @@ impl Choice {
 /// Which invocations are reported.
 #[derive(Debug)]
 pub struct Chosen {
-    /// Those that come to one of these, or all where there are none.
+    /// Those of which one of these is found, or all if there are none.
     pub choices: Vec<Choice>,
-    /// Those in classes whose names begin with one of these, or all where there are none. Parts of a name are joined by `/`.
+    /// Those in classes whose names begin with one of these, or all if there are none. Parts of a name are joined by `/`.
     pub prefixes: Vec<String>,
 }
 
@@ -73,8 +73,7 @@ impl Drop for Chosen {
 }
 
 impl Chosen {
-    /// Those that come to one of these, in classes whose names begin with one of these texts, where a dot stands for `/`, too. Want of
-    /// memory is an error.
+    /// Those of which one of these is found, in classes whose names begin with one of these texts. A dot stands for `/`, too.
     pub(crate) fn new(
         alloc: Global,
         choices: Vec<Choice>,
@@ -87,7 +86,7 @@ impl Chosen {
         Ok(Chosen { choices, prefixes })
     }
 
-    /// Whether the invocation of the row is reported, where its class is.
+    /// Whether the invocation of the row is reported, if its class is.
     pub(crate) fn takes_row(&self, classes: &Classes, row: &Row) -> bool {
         if self.choices.is_empty() {
             return true;
@@ -100,7 +99,7 @@ impl Chosen {
         false
     }
 
-    /// Whether the class of this name is reported. Want of memory is an error.
+    /// Whether the class of this name is reported.
     pub(crate) fn takes_class(&self, alloc: Global, name: &[u8]) -> Result<bool, AllocError> {
         if self.prefixes.is_empty() {
             return Ok(true);

@@ -40,7 +40,7 @@ impl Drop for LeftOut {
     }
 }
 
-/// Whose file it is, where it is no module's.
+/// Whose file it is, if it is no module's.
 fn whose_of(is_reported: bool) -> Whose {
     if is_reported {
         Whose::Reported
@@ -49,7 +49,7 @@ fn whose_of(is_reported: bool) -> Whose {
     }
 }
 
-/// Adds the files that are no class files. Want of memory is an error.
+/// Adds the files that are no class files.
 pub(crate) fn add_no_classes(
     alloc: Global,
     files: Vec<NoClass>,
@@ -70,7 +70,7 @@ pub(crate) fn add_no_classes(
     Ok(())
 }
 
-/// The answer that refuses the file. Want of memory is an error.
+/// The answer that refuses the file.
 fn no_class_answer(alloc: Global, reason: NoClassReason) -> Result<Value, AllocError> {
     match reason {
         NoClassReason::Malformed(fault) => FileRefusal::from(fault).to_value(alloc),
@@ -82,7 +82,7 @@ fn no_class_answer(alloc: Global, reason: NoClassReason) -> Result<Value, AllocE
     }
 }
 
-/// The answer that refuses a file for what it is. Want of memory is an error.
+/// The answer that refuses a file for what it is.
 fn refused_as(alloc: Global, name: &str) -> Result<Value, AllocError> {
     let mut members = Map::new(alloc);
     put(
@@ -94,7 +94,7 @@ fn refused_as(alloc: Global, name: &str) -> Result<Value, AllocError> {
     Ok(Value::Object(members))
 }
 
-/// The answer that refuses a file for its version, with the version and the release that takes it, if one does. Want of memory is an error.
+/// The answer that refuses a file for its version, with the version and the release that takes it, if one does.
 fn of_version(alloc: Global, version: Version) -> Result<Value, AllocError> {
     let mut answer = FileRefusal::from(ClassFault::BadVersion).to_value(alloc)?;
     if let Value::Object(members) = &mut answer {
@@ -114,7 +114,7 @@ fn of_version(alloc: Global, version: Version) -> Result<Value, AllocError> {
     Ok(answer)
 }
 
-/// Adds the file of which no class was made. Want of memory is an error.
+/// Adds the file of which no class was made.
 fn leave_out(
     alloc: Global,
     source: &Source,
@@ -131,8 +131,8 @@ fn leave_out(
     })?)
 }
 
-/// Adds the files of which no classes were made, with the parents that some of them miss, and tells of each file whether its class is there
-/// and is to be reported. Want of memory is an error.
+/// Adds the files of which no classes were made, with the parents that some of them miss. Tells of each file whether its class is there and
+/// is to be reported.
 pub(crate) fn add_refused(
     alloc: Global,
     sources: &[Source],

@@ -1,10 +1,10 @@
-//! A report as a user of the program has it: what each invocation of the class files below paths comes to.
+//! A report as a user of the program has it: what is found of each invocation of the class files below paths.
 //!
 //! What a report says is a contract of jl_report. Here nothing is proved but that each call returns: what a file holds and what a terminal
 //! shows can't be stated.
 //!
-//! The forms of a report, `texts` and `html`, are modules here, which makes a large crate: a library of their own would write all that a
-//! report's types state once more.
+//! The forms of a report, `texts` and `html`, are modules here, which makes a large crate. A library of their own would state once more all
+//! that a report's types state.
 #![tactic(auto)]
 
 // What is asked for.

@@ -89,20 +89,18 @@ impl Page {
 }
 
 impl Page {
-    /// Defines the class of a further file, and adds the invocations whose links it drops. The file comes back where its class may not be
-    /// defined.
+    /// Defines the class of a further file, if it may be defined, and adds the invocations whose links it drops.
     pub(crate) fn add_further(
         &mut self,
         alloc: Global,
         report: &mut Report,
         chosen: &Chosen,
         file: ClassFile,
-    ) -> Result<Option<ClassFile>, ReportFault> {
+    ) -> Result<(), ReportFault> {
         let class = ClassId::new(report.classes().count_in_order() as u32);
         let mut dropped = Vec::new(alloc);
-        let back = report.add_class(alloc, file, &mut self.kept, &mut dropped)?;
-        if back.is_some() {
-            return Ok(back);
+        if let Some(_) = report.add_class(alloc, file, &mut self.kept, &mut dropped)? {
+            return Ok(());
         }
         self.further = self.further.saturating_add(1);
         for one in &dropped {
@@ -110,7 +108,7 @@ impl Page {
                 self.add_dropped(alloc, report.classes(), class, one)?;
             }
         }
-        Ok(None)
+        Ok(())
     }
 
     /// Adds an invocation whose link this class drops.
@@ -197,7 +195,7 @@ impl Page {
     pub(crate) fn add_class(
         &mut self,
         alloc: Global,
-        report: &mut Report,
+        report: &Report,
         marks: &Marks,
         asked: &ReportWords,
         class: ClassId,
@@ -402,7 +400,7 @@ impl Page {
         Ok(())
     }
 
-    /// Adds the same as lines of JSON.
+    /// Adds the files that are left out, and the totals, as lines of JSON.
     fn add_end_lines(&mut self, alloc: Global, left_out: Vec<LeftOut>) -> Result<(), ReportFault> {
         let count = left_out.len() as u64;
         for one in left_out {
@@ -415,7 +413,7 @@ impl Page {
         Ok(())
     }
 
-    /// Writes what there is, where it is long.
+    /// Writes what there is, if it is long.
     pub(crate) fn write_if_full<W: Write>(&mut self, out: &mut W) -> Result<(), ReportFault> {
         if self.text.len() > MOST_BYTES || self.bytes.len() > MOST_BYTES {
             self.write(out)?;
@@ -423,7 +421,7 @@ impl Page {
         Ok(())
     }
 
-    /// Writes what there is. Where the pipe is closed, and a page is asked for, nothing more is written but the page.
+    /// Writes what there is. If the pipe is closed, and a page is asked for, nothing more is written but the page.
     pub(crate) fn write<W: Write>(&mut self, out: &mut W) -> Result<(), ReportFault> {
         if !self.is_closed {
             match write_both(self.text.as_bytes(), self.bytes.as_slice(), out) {

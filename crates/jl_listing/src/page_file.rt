@@ -77,7 +77,7 @@ pub(crate) fn written_over<'a, R: Files + AllocGlobal>(
     Ok(None)
 }
 
-/// Where the file is or would be, by no link; none, if its folder isn't there. Want of memory is an error.
+/// Where the file is or would be, by no link. `None` if its folder isn't there. Want of memory is an error.
 fn place_of<R: Files + AllocGlobal>(
     rt: &R,
     page: &str,

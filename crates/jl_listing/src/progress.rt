@@ -22,7 +22,7 @@ pub(crate) struct Progress {
 }
 
 impl Progress {
-    /// No line yet, and never one where this is no terminal.
+    /// No line yet, and never one if this is no terminal.
     pub(crate) fn new<R: Clock, E: IsTerminal>(rt: &R, errors: &E) -> Self {
         Progress {
             start: if errors.is_terminal() {

@@ -33,13 +33,15 @@ struct Missed {
     later: u64,
 }
 
-/// Reads the class files of the paths, and writes what their invocations come to. A path that can't be read is told to `errors`. If `out` is
-/// a closed pipe, it ends early and without an error, but writes the page that is asked for.
+/// Reads the class files of the paths, and writes what is found of their invocations. A path that can't be read is told to `errors`. If
+/// `out` is a closed pipe, it ends early and without an error, but writes the page that is asked for.
 ///
 /// # Errors
 ///
-/// A page that would be written over class files, before anything is read; a path that couldn't be read, after the report of the others;
-/// no class to be reported, after the report of why; a failed write; want of memory.
+/// - A page that would be written over class files, before anything is read.
+/// - A path that couldn't be read, after the report of the others.
+/// - No class to be reported, after the report of why.
+/// - A failed write, or want of memory.
 pub fn run_report<R: Files + AllocGlobal + Clock + Clone + Drop, W: Write, E: Write + IsTerminal>(
     rt: &R,
     asked: &ReportWords,
@@ -52,7 +54,7 @@ pub fn run_report<R: Files + AllocGlobal + Clock + Clone + Drop, W: Write, E: Wr
     }
 }
 
-/// The same, where a closed pipe is an error, too.
+/// Reads the class files of the paths, and writes the report, as [`run_report`] does. A closed pipe is an error, too.
 fn report<R: Files + AllocGlobal + Clock + Clone + Drop, W: Write, E: Write + IsTerminal>(
     rt: &R,
     asked: &ReportWords,
@@ -76,7 +78,7 @@ fn report<R: Files + AllocGlobal + Clock + Clone + Drop, W: Write, E: Write + Is
 ///
 /// # Errors
 ///
-/// Always: that, unless it can't be told.
+/// Always: [`ReportFault::BadWords`], or why that couldn't be told.
 fn refuse_page<W: Write>(
     alloc: Global,
     asked: &ReportWords,
@@ -111,15 +113,15 @@ fn add_all<R: Files + AllocGlobal + Clock + Clone + Drop, W: Write, E: Write + I
     let mut classes = Classes::new(rt.alloc())?;
     let listed = listed_of(rt, asked, &mut classes, page, missed)?;
     let marks = Marks::of(rt.alloc(), &classes)?;
-    let mut report = Report::of(rt.alloc(), classes)?;
-    add_classes(rt, asked, &mut report, &marks, &listed, page, out, errors)?;
+    let mut report = Report::of(classes);
+    add_classes(rt, asked, &report, &marks, &listed, page, out, errors)?;
     if !asked.breaks.is_empty() {
         add_breaks(rt, asked, &mut report, page, missed, out)?;
     }
     Ok(())
 }
 
-/// Defines the classes of the paths, and gives those that are reported, by name. Where none is there it is told why.
+/// Defines the classes of the paths, and gives those that are reported, by name. If none is there, it is told why.
 fn listed_of<R: Files + AllocGlobal + Clone + Drop>(
     rt: &R,
     asked: &ReportWords,
@@ -188,7 +190,7 @@ fn write_end<R: Files + AllocGlobal + Clock, W: Write, E: Write>(
     }
 }
 
-/// Seconds since 1970, or 0 where no clock tells them.
+/// Seconds since 1970, or 0 if no clock tells them.
 fn seconds_now<R: Clock>(rt: &R) -> u64 {
     match SystemTime::now(rt) {
         Ok(now) => match now.duration_since(UNIX_EPOCH) {
@@ -239,7 +241,7 @@ fn write_html<R: Files + AllocGlobal + Clock>(
 fn add_classes<R: AllocGlobal + Clock, W: Write, E: Write + IsTerminal>(
     rt: &R,
     asked: &ReportWords,
-    report: &mut Report,
+    report: &Report,
     marks: &Marks,
     listed: &[ClassId],
     page: &mut Page,

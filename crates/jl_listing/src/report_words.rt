@@ -1,4 +1,4 @@
-//! What the words behind `linkd report` ask for.
+//! What the words after `linkd report` ask for.
 
 use crate::chosen::{Choice, Chosen, FORMS};
 use crate::fault::ReportFault;
@@ -123,7 +123,7 @@ pub(crate) fn command<'a>(alloc: Global) -> Result<Command<'a>, AllocError> {
         .arg(paths(alloc))
 }
 
-/// The values of the option, in order. Want of memory is an error.
+/// The values of the option, in order.
 fn texts(alloc: Global, matches: &ArgMatches, id: &str) -> Result<Vec<String>, AllocError> {
     let mut texts = Vec::new(alloc);
     if let Some(values) = matches.get_strs(id) {
@@ -145,8 +145,7 @@ fn form_of(matches: &ArgMatches) -> Form {
     }
 }
 
-/// What the invocations that are asked for come to, which may be anything where none is named; none, where a word names nothing. Want of
-/// memory is an error.
+/// Which invocations are asked for, by what is found of them: all if the list is empty. `None` if a word names nothing.
 fn choices(alloc: Global, matches: &ArgMatches) -> Result<Option<Vec<Choice>>, AllocError> {
     let mut choices = Vec::new(alloc);
     if let Some(words) = matches.get_strs("only") {
@@ -160,7 +159,7 @@ fn choices(alloc: Global, matches: &ArgMatches) -> Result<Option<Vec<Choice>>, A
     Ok(Some(choices))
 }
 
-/// What the words ask for, `report` first; none, where they ask for nothing.
+/// What the words ask for, `report` first. `None` if they ask for nothing.
 ///
 /// # Errors
 ///

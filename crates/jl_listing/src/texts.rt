@@ -1,4 +1,4 @@
-//! What stands in a report, as text and as JSON: invocations with what they come to, files that are left out, and totals.
+//! What stands in a report, as text and as JSON: invocations with what is found of them, files that are left out, and totals.
 //!
 //! What the words and keys are is in docs/FORMATS.md.
 

@@ -1,4 +1,4 @@
-//! What is told of an invocation beside what it comes to.
+//! What is told of an invocation beside its link.
 
 use crate::report_words::ReportWords;
 use jl_hierarchy::Classes;
@@ -40,7 +40,7 @@ impl Drop for Marks {
 }
 
 impl Marks {
-    /// Of these classes. Want of memory is an error.
+    /// The marks for these classes.
     pub(crate) fn of(alloc: Global, classes: &Classes) -> Result<Marks, AllocError> {
         Ok(Marks {
             made: Made::of(alloc, classes)?,
@@ -49,7 +49,7 @@ impl Marks {
     }
 }
 
-/// What is told of an invocation beside what it comes to.
+/// What is told of an invocation beside its link, or beside why it has none.
 pub(crate) struct Note {
     pub(crate) methods: Methods,
     /// Whether the methods of a megamorphic one are told by their names.
@@ -83,7 +83,7 @@ impl Note {
         }
     }
 
-    /// How many different methods it can run, where that is known.
+    /// How many different methods it can run, if that is known.
     pub(crate) fn method_count(&self) -> Option<usize> {
         match &self.methods {
             Methods::All(methods) => Some(methods.len()),
@@ -92,10 +92,10 @@ impl Note {
     }
 }
 
-/// What is told of these invocations, in order: nothing of those that aren't reported. Want of memory is an error.
+/// What is told of these invocations, in order: nothing of those that aren't reported.
 pub(crate) fn notes_of(
     alloc: Global,
-    report: &mut Report,
+    report: &Report,
     marks: &Marks,
     asked: &ReportWords,
     rows: &[Row],
@@ -114,10 +114,10 @@ pub(crate) fn notes_of(
     Ok(notes)
 }
 
-/// The methods that the invocation can run, where its link may run several. Want of memory is an error.
+/// The methods that the invocation can run, if its link may run several.
 fn methods_of(
     alloc: Global,
-    report: &mut Report,
+    report: &Report,
     asked: &ReportWords,
     row: &Row,
 ) -> Result<Methods, AllocError> {
@@ -137,7 +137,7 @@ fn methods_of(
     }
 }
 
-/// All methods that the invocation can run. Want of memory is an error.
-fn all_methods(alloc: Global, report: &mut Report, row: &Row) -> Result<Methods, AllocError> {
+/// All methods that the invocation can run.
+fn all_methods(alloc: Global, report: &Report, row: &Row) -> Result<Methods, AllocError> {
     Ok(Methods::All(report.methods_of(alloc, row, usize::MAX)?))
 }

@@ -1,9 +1,6 @@
--- A link is that of its place among its classes, whatever else is requested, where no call site is bound.
-use Rattle.std.proofs.Common.{◌≡◌, ◌∙◌, ap, refl, sym, ℕ, Option, Some, None, List, [], ◌∷◌, ◌++◌, true, length, if◌then◌else◌}
-use Rattle.std.specs.Prelude.{slice_get, get_or, find, position, option_map, ◌==◌, ◌&&◌}
-use Rattle.std.proofs.lemmas.Bool.Decides.{Decides-eqb}
-use Rattle.std.proofs.lemmas.List.Quantifiers.{position-Some}
-use Rattle.std.proofs.lemmas.Option.{slice_get-get_or}
+-- A link is that of its place among its classes, whatever else is requested, if no call site is bound.
+use Rattle.std.proofs.Common.{◌≡◌, ◌∙◌, ap, refl, ℕ, Option, Some, None, List, [], if◌then◌else◌}
+use Rattle.std.specs.Prelude.{slice_get}
 use Rattle.jl_class.specs.Site.{Site}
 use Rattle.jl_class.specs.declared.site.Kind.{Kind}
 use Rattle.jl_class.specs.declared.site.Operand.{Operand}
@@ -11,16 +8,12 @@ use Rattle.jl_class.specs.declared.site.Operand.TheVariants as operand
 use Rattle.jl_types.specs.declared.ids.Place.{Place}
 use Rattle.jl_types.specs.Values.World.{World}
 use Rattle.jl_types.specs.Values.Members.{is_present}
-use Rattle.jl_types.specs.Events.Verdict.{same_place}
-use Rattle.jl_types.proofs.Bools.{first_test, second_test}
 use Rattle.jl_types.specs.Linkage.Stages.{Stage, Waits, bound_to, by_binding, by_operand, stage_of, stage_at, invocation_at}
 use Rattle.jl_types.specs.declared.answer.Unlinked.TheVariants.{Gone}
-use Rattle.jl_types.specs.declared.answer.Recv.{Recv}
-use Rattle.jl_types.specs.Linkage.Calls.{dispatch, answer_of}
 use Rattle.jl_types.specs.Linkage.Links.{scratch, link_of}
 use Rattle.jl_types.specs.declared.key.Key.{Key}
 use Rattle.jl_types.specs.Events.Footprints.{footprint, of_place, of_operand, of_binding, of_invocation}
-use Rattle.jl_report.specs.Reports.{asking}
+use Rattle.jl_relink.specs.Placed.{asking}
 
 same_operand : (w : World) (s : ℕ) (place : Place) (kind : Kind) (named : Operand (List ℕ)) → bound_to w s ≡ None
     → by_operand w s place.class kind named ≡ by_operand (asking w.classes place) 0 place.class kind named
@@ -38,35 +31,6 @@ same_scratch w s place at none =
     ap (λ found. link_of w.classes (stage_at w s found)) at
     ∙ ap (λ (found : Stage). link_of w.classes (if is_present w.classes place.class then found else Waits Gone))
     (same_stage w s place (invocation_at w.classes place) none)
-
-pub same_answer : (w : World) (s : ℕ) (place : Place) (recv : Recv) → slice_get w.places s ≡ Some place → bound_to w s ≡ None
-    → dispatch w s recv ≡ dispatch (asking w.classes place) 0 recv
-same_answer w s place recv at none =
-    ap (λ found. answer_of w.classes (stage_at w s found) recv) at
-    ∙ ap (λ (found : Stage). answer_of w.classes (if is_present w.classes place.class then found else Waits Gone) recv)
-    (same_stage w s place (invocation_at w.classes place) none)
-
--- a place stands where it is found
-same_so : (p q : Place) → same_place p q ≡ true → p ≡ q
-same_so p q is =
-    let class = (Decides-eqb p.class q.class).0 (first_test (p.class == q.class) ((p.method == q.method) && (p.pc == q.pc)) is) in
-    let rest = second_test (p.class == q.class) ((p.method == q.method) && (p.pc == q.pc)) is in
-    let method = (Decides-eqb p.method q.method).0 (first_test (p.method == q.method) (p.pc == q.pc) rest) in
-    let pc = (Decides-eqb p.pc q.pc).0 (second_test (p.method == q.method) (p.pc == q.pc) rest) in
-    λ i. record { class = class i; method = method i; pc = pc i }
-
-pub found_there : (p : Place) (places : List Place) (s : ℕ) → position (same_place p) places ≡ Some s → slice_get places s ≡ Some p
-found_there p places s at =
-    let found = position-Some (same_place p) places s p at in
-    slice_get-get_or places s p found.0 ∙ ap Some (sym (same_so p (get_or places s p) found.1))
-
-pub last_there : (p : Place) (places : List Place) → slice_get (places ++ p ∷ []) (length places) ≡ Some p
-last_there p [] = refl
-last_there p (x ∷ places) = last_there p places
-
--- nothing is bound in a world without call sites
-pub unbound : (w : World) (s : ℕ) → w.bindings ≡ [] → bound_to w s ≡ None
-unbound w s none = ap (λ (bindings : List (ℕ × ℕ)). option_map (λ b. b.1) (find (λ b. b.0 == s) bindings)) none
 
 same_rest : (w : World) (s : ℕ) (place : Place) (kind : Kind) (named : Operand (List ℕ)) → bound_to w s ≡ None
     → of_operand w s place.class kind named ≡ of_operand (asking w.classes place) 0 place.class kind named

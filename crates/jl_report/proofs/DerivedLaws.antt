@@ -1,4 +1,4 @@
--- Classes none of which overrides a FINAL method, with one more that overrides none.
+-- Classes that override no FINAL method, with one more that overrides none.
 use Rattle.std.specs.Prelude.{◌≡◌, ℕ, zero, suc, ◌+◌, ◌<◌, ◌≤◌, Bool, false, ◌&&◌, ◌||◌, List, [], ◌∷◌, ◌++◌, length, map}
 use Rattle.std.specs.Prelude.{Option, Some, None, option_and_then, IfSome}
 use Rattle.std.specs.List.{AllByRecursion, list_any, range_with_len}

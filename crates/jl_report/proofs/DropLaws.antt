@@ -64,7 +64,7 @@ open_ended cs first rows before kept so none =
 
 -- ---- the rows whose links are dropped
 
--- those that are left so far and those from here on are those of all, and likewise those that are dropped
+-- those that are left so far and those from here on are those of all, and so are those that are dropped
 pub record Parted (cs : Classes) (keys : List Key) (first rows left : List Row) (earlier told : List Dropped) : Type 0 where
   pub all_left : left ++ left_among cs keys (reverse rows) ≡ left_among cs keys first
   pub all_told : told ++ dropped_among cs keys (reverse rows) ≡ earlier ++ dropped_among cs keys first

@@ -1,4 +1,4 @@
--- Rows that run a FINAL method of the class that they name: no further class drops their links where none overrides a FINAL method.
+-- Rows that run a FINAL method of the class that they name: no further class drops their links if none overrides a FINAL method.
 use Rattle.std.specs.Prelude.{◌≡◌, ℕ, ◌==◌, nat_le, Bool, true, false, not, ◌&&◌, ◌||◌, List, [], ◌∷◌, filter, filter_map, length, map}
 use Rattle.std.specs.Prelude.{slice_get, Option, Some, None, IfSome, if◌then◌else◌}
 use Rattle.std.specs.Bool.{beq}

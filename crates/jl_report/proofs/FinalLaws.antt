@@ -1,4 +1,4 @@
--- No class extends a FINAL one where each came by its definition, so a further class gives a FINAL one no receiver.
+-- No class extends a FINAL one if each came by its definition, so a further class gives a FINAL one no receiver.
 use Rattle.std.proofs.Common.{◌≡◌, ◌∙◌, sym, ap, refl, arith, ℕ, ◌<◌, ◌||◌, List, []}
 use Rattle.std.proofs.Common.{◌∷◌, length, map}
 use Rattle.std.specs.Prelude.{Bool, true, false, not, slice_get, Option, Some, None, if◌then◌else◌}
@@ -96,7 +96,7 @@ module _ (cs : Classes) (order : AreInOrder cs) (loader : ℕ) (file : ClassFile
       let both = or_parts (may_grow cs k) (list_any (may_grow cs) ks) h in
       λ i. one_apart k both.0 i || none_met ks both.1 i
 
-  -- what no class changes none changes behind the new one
+  -- what no class changes, none changes once the new one is there
   closed_key : (k : Key) → may_grow cs k ≡ false → may_grow new k ≡ false
   closed_key (key.Receivers c) h = stays_extended c (low c h) ∙ h
   closed_key (key.Target c) h = refl

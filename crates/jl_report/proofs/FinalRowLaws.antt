@@ -38,6 +38,7 @@ use Rattle.jl_resolve.proofs.Later.{step_stays}
 use Rattle.jl_resolve.proofs.Unchanged.{IsThere, IsOfThere, flag_stays, interface_stays, method_stays, private_stays, abstract_stays, static_stays}
 use Rattle.jl_resolve.proofs.Unchanged.{row_stays, upward_stays}
 use Rattle.jl_relink.specs.Laws.{IsInOrder, OneMore}
+use Rattle.jl_relink.specs.Placed.{asking}
 use Rattle.jl_relink.proofs.KeyLaws.{constant}
 use Rattle.jl_relink.proofs.OneReceiver.{one_more}
 use Rattle.jl_relink.proofs.Untouched.{IsLater, SiteKeeps, site_stays}
@@ -45,7 +46,7 @@ use Rattle.jl_report.specs.declared.row.Row.{Row}
 use Rattle.jl_report.specs.declared.row.Finding.{Finding}
 use Rattle.jl_report.specs.declared.row.Finding.TheVariants as finding
 use Rattle.jl_report.specs.declared.invocation.Invocation.{Invocation}
-use Rattle.jl_report.specs.Reports.{asking, rests_on, row_of}
+use Rattle.jl_report.specs.Reports.{rests_on, row_of}
 use Rattle.jl_report.specs.Drops.{keys_of, row_now, now_without, now_changed}
 use Rattle.jl_report.specs.Methods.{looked_at, run_by_link, run_by}
 use Rattle.jl_report.specs.Finals.{FINAL, AreDerived}

@@ -1,4 +1,4 @@
--- Where an invocation has a link, that is the one from scratch.
+-- If an invocation has a link, that is the one from scratch.
 use Rattle.std.proofs.Common.{◌≡◌, Option, Some, None}
 use Rattle.std.specs.Prelude.{Result, Ok, Err}
 use Rattle.jl_types.specs.declared.answer.Unlinked.{Unlinked}

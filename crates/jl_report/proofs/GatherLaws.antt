@@ -1,6 +1,6 @@
 -- Files that become classes, one after the other, the last one of those that wait first.
 use Rattle.std.proofs.Common.{◌≡◌, ◌∙◌, sym, ap, subst, refl, append_assoc, append-nil, zero-add, arith}
-use Rattle.std.proofs.Common.{ℕ, ◌+◌, ◌≤◌, List, [], ◌∷◌, ◌++◌, map, reverse, length}
+use Rattle.std.proofs.Common.{ℕ, ◌+◌, ◌<◌, List, [], ◌∷◌, ◌++◌, map, reverse, length}
 use Rattle.std.specs.Prelude.{slice_get, Option, Some, None, is_some, is_none, Bool, not, true, false, All}
 use Rattle.std.specs.List.{range_with_len}
 use Rattle.std.proofs.lemmas.List.{map-append, reverse-append, reverse-reverse, length-append}
@@ -12,8 +12,9 @@ use Rattle.jl_types.specs.Values.World.{Classes}
 use Rattle.jl_types.specs.Events.Definitions.{define_fault, defined}
 use Rattle.jl_report.specs.declared.defining.Refused.{Refused}
 use Rattle.jl_report.specs.declared.defining.Waiting.{Waiting}
+use Rattle.jl_report.specs.declared.defining.Rounds.{Rounds}
 use Rattle.jl_report.specs.Gathering.{most_classes, Gathers, ends, defines, numbers, IsRefused}
-use Rattle.jl_report.specs.ForProofs.Waiting.{AreOf, AreStuck, places}
+use Rattle.jl_report.specs.ForProofs.Waiting.{AreOf, AreStuck, places, queue, IsTaken, IsNextInRound, IsNext}
 
 -- what leads from these waiting files in the end leads there from those at the beginning
 abbrev pub Leads : List ClassFile → Classes → List ℕ → Classes → List ℕ → Type 0
@@ -49,77 +50,98 @@ turned files out cs waiting left (defines front n back file is there free rest) 
 
 -- ---- a round
 
--- those that wait for their turn, and those that had it and are left
-abbrev pub whole : List Waiting → List Waiting → List Waiting
-whole waiting left = waiting ++ reverse left
+-- those that had their turn since are left, and loader 0 may define none of them
+pub record HadTurns (cs : Classes) (first before waiting left : List Waiting) : Type 0 where
+  pub since : List Waiting
+  pub all : first ≡ waiting ++ since
+  pub back : reverse left ≡ since ++ reverse before
+  pub stuck : AreStuck cs since
 
-popped_whole : (waiting : List Waiting) (one : Waiting) (left : List Waiting) → whole (waiting ++ one ∷ []) left ≡ waiting ++ one ∷ reverse left
-popped_whole waiting one left = append_assoc waiting (one ∷ []) (reverse left)
+pub no_turn : (cs : Classes) (waiting left : List Waiting) → HadTurns cs waiting left waiting left
+no_turn cs waiting left = record { since = []; all = sym (append-nil waiting); back = refl; stuck = tt }
 
-pushed_whole : (waiting : List Waiting) (one : Waiting) (left : List Waiting) → whole waiting (left ++ one ∷ []) ≡ waiting ++ one ∷ reverse left
-pushed_whole waiting one left = ap (λ (xs : List Waiting). waiting ++ xs) (last_first left one)
+module _ (cs : Classes) (first before waiting : List Waiting) (one : Waiting) (left : List Waiting)
+    (had : HadTurns cs first before (waiting ++ one ∷ []) left) where
+  -- the next one is left
+  pub one_left : is_some (define_fault most_classes cs 0 one.file) ≡ true → HadTurns cs first before waiting (left ++ one ∷ [])
+  one_left barred = record {
+    since = one ∷ had.since;
+    all = had.all ∙ append_assoc waiting (one ∷ []) had.since;
+    back = last_first left one ∙ ap (λ (xs : List Waiting). one ∷ xs) had.back;
+    stuck = (barred, had.stuck);
+  }
 
--- what is so in the middle of a round that began with these classes and files
-pub record SoFar (first : Classes) (before : List Waiting) (cs : Classes) (waiting left : List Waiting) : Type 0 where
-  pub leads : (files : List ClassFile) → AreOf files before → Leads files first (places before) cs (places (whole waiting left))
-  pub files : (files : List ClassFile) → AreOf files before → AreOf files (whole waiting left)
-  pub fewer : length (whole waiting left) ≤ length before
-  pub stuck : length (whole waiting left) ≡ length before → AreStuck cs (reverse left)
+  -- the next one is taken out
+  pub one_taken : define_fault most_classes cs 0 one.file ≡ None
+      → IsTaken cs (first ++ reverse before) (waiting ++ reverse left) one.file
+  one_taken free = record {
+    front = waiting;
+    one = one;
+    back = reverse left;
+    all =
+        ap (λ (xs : List Waiting). xs ++ reverse before) had.all
+        ∙ append_assoc (waiting ++ one ∷ []) had.since (reverse before)
+        ∙ append_assoc waiting (one ∷ []) (had.since ++ reverse before)
+        ∙ sym (ap (λ (xs : List Waiting). waiting ++ one ∷ xs) had.back);
+    others = refl;
+    same = refl;
+    free = free;
+  }
 
-pub begun : (cs : Classes) (before : List Waiting) → SoFar cs before cs before []
-begun cs before =
-    let is = append-nil before in
-    record {
-      leads = λ files of. subst (λ xs. Leads files cs (places before) cs (places xs)) (sym is) (λ out left g. g);
-      files = λ files of. subst (AreOf files) (sym is) of;
-      fewer = let same = ap length is in omega (arith, same);
-      stuck = λ e. tt;
-    }
+-- all had their turn
+pub all_turned : (cs : Classes) (first before waiting left : List Waiting) → HadTurns cs first before waiting left → waiting ≡ []
+    → (reverse left ≡ first ++ reverse before) × AreStuck cs first
+all_turned cs first before waiting left had none =
+    let same = had.all ∙ ap (λ (xs : List Waiting). xs ++ had.since) none in (
+      had.back ∙ sym (ap (λ (xs : List Waiting). xs ++ reverse before) same),
+      subst (AreStuck cs) (sym same) had.stuck,
+    )
 
--- the next one is left
-pub one_left : (first : Classes) (before : List Waiting) (old new : Classes) (waiting : List Waiting) (one : Waiting) (left : List Waiting)
-    → SoFar first before old (waiting ++ one ∷ []) left → is_some (define_fault most_classes old 0 one.file) ≡ true → new ≡ old
-    → SoFar first before new waiting (left ++ one ∷ [])
-one_left first before old new waiting one left s barred is =
-    subst (λ cs. SoFar first before cs waiting (left ++ one ∷ [])) (sym is) (record {
-      leads = λ files of. subst (λ xs. Leads files first (places before) old (places xs)) same (s.leads files of);
-      files = λ files of. subst (AreOf files) same (s.files files of);
-      fewer = let size = ap length same in let few = s.fewer in omega (arith, size, few);
-      stuck = λ e. subst (AreStuck old) (sym (last_first left one)) (barred, s.stuck (ap length same ∙ e));
-    })
-  where
-    same : whole (waiting ++ one ∷ []) left ≡ whole waiting (left ++ one ∷ [])
-    same = popped_whole waiting one left ∙ sym (pushed_whole waiting one left)
+queue_is : (old between : Rounds) → between.waiting.items ≡ queue old → between.left.items ≡ [] → queue between ≡ queue old
+queue_is old between all none =
+    ap (λ (xs : List Waiting). between.waiting.items ++ reverse xs) none ∙ append-nil between.waiting.items ∙ all
 
--- the next one becomes a class
-pub one_defined : (first : Classes) (before : List Waiting) (old new : Classes) (waiting : List Waiting) (one : Waiting) (left : List Waiting)
-    → SoFar first before old (waiting ++ one ∷ []) left → define_fault most_classes old 0 one.file ≡ None → new ≡ defined old 0 one.file
-    → SoFar first before new waiting left
-one_defined first before old new waiting one left s free is =
-    subst (λ cs. SoFar first before cs waiting left) (sym is) (record {
-      leads = λ files of out rest g. s.leads files of out rest
-          (defines (places waiting) one.place (places (reverse left)) one.file split (there files of).1.0 free
-          (subst (λ xs. Gathers files out (defined old 0 one.file) xs rest) (map-append (λ (w : Waiting). w.place) waiting (reverse left)) g));
-      files = λ files of. All-both (λ (w : Waiting). slice_get files w.place ≡ Some w.file) waiting (reverse left) (there files of).0 (there files of).1.1;
-      fewer = let size = one_fewer in let few = s.fewer in omega (arith, size, few);
-      stuck = λ e. absurd (let size = one_fewer in let few = s.fewer in omega (arith, size, few, e));
-    })
-  where
-    split : places (whole (waiting ++ one ∷ []) left) ≡ places waiting ++ one.place ∷ places (reverse left)
-    split = ap places (popped_whole waiting one left) ∙ map-append (λ (w : Waiting). w.place) waiting (one ∷ reverse left)
+-- one more round, after one in which none was taken out
+pub once_more : (cs : Classes) (old between new : Rounds) → IsNextInRound cs old between None
+    → (file : Option ClassFile) → IsNextInRound cs between new file → IsNext cs old new file
+once_more cs old between new none (Some file) taken =
+    subst (λ xs. IsTaken cs xs (queue new) file) (queue_is old between none.0 none.1) taken
+once_more cs old between new none None again =
+    let same = again.0 ∙ queue_is old between none.0 none.1 in
+    (same, (again.1, subst (AreStuck cs) (none.0 ∙ sym same) again.2))
 
-    one_fewer : length (whole (waiting ++ one ∷ []) left) ≡ length (whole waiting left) + 1
-    one_fewer =
-        let a = ap length (popped_whole waiting one left) ∙ length-append waiting (one ∷ reverse left) in
-        let b = length-append waiting (reverse left) in
-        omega (arith, a, b)
+-- ---- one that becomes a class
 
-    there : (files : List ClassFile) → AreOf files before → AreOf files waiting × AreOf files (one ∷ reverse left)
-    there files of =
-        let all = subst (AreOf files) (popped_whole waiting one left) (s.files files of) in (
-          All-front (λ (w : Waiting). slice_get files w.place ≡ Some w.file) waiting (one ∷ reverse left) all,
-          All-back (λ (w : Waiting). slice_get files w.place ≡ Some w.file) waiting (one ∷ reverse left) all,
-        )
+module _ (cs : Classes) (old new : List Waiting) (file : ClassFile) (taken : IsTaken cs old new file) where
+  there : (files : List ClassFile) → AreOf files old → AreOf files taken.front × AreOf files (taken.one ∷ taken.back)
+  there files of =
+      let all = subst (AreOf files) taken.all of in (
+        All-front (λ (w : Waiting). slice_get files w.place ≡ Some w.file) taken.front (taken.one ∷ taken.back) all,
+        All-back (λ (w : Waiting). slice_get files w.place ≡ Some w.file) taken.front (taken.one ∷ taken.back) all,
+      )
+
+  pub others_of : (files : List ClassFile) → AreOf files old → AreOf files new
+  others_of files of =
+      let parts = there files of in
+      subst (AreOf files) (sym taken.others)
+      (All-both (λ (w : Waiting). slice_get files w.place ≡ Some w.file) taken.front taken.back parts.0 parts.1.1)
+
+  pub one_fewer : length new < length old
+  one_fewer =
+      let a = ap length taken.all ∙ length-append taken.front (taken.one ∷ taken.back) in
+      let b = ap length taken.others ∙ length-append taken.front taken.back in
+      omega (arith, a, b)
+
+  pub one_defined : (files : List ClassFile) (first made : Classes) (waiting : List ℕ) → AreOf files old → made ≡ defined cs 0 file
+      → Leads files first waiting cs (places old) → Leads files first waiting made (places new)
+  one_defined files first made waiting of is leads = λ out left rest.
+      leads out left
+      (defines (places taken.front) taken.one.place (places taken.back) file
+      (ap places taken.all ∙ map-append (λ (w : Waiting). w.place) taken.front (taken.one ∷ taken.back))
+      ((there files of).1.0 ∙ ap Some taken.same) taken.free
+      (subst (λ xs. Gathers files out (defined cs 0 file) xs left)
+      (ap places taken.others ∙ map-append (λ (w : Waiting). w.place) taken.front taken.back)
+      (subst (λ cs. Gathers files out cs (places new) left) is rest)))
 
 -- ---- all files, each with its place
 

@@ -23,19 +23,19 @@ use Rattle.jl_types.specs.Values.Members.{is_interface}
 use Rattle.jl_types.specs.Values.Ancestry.{AreOrdered, ancestors, is_ancestor}
 use Rattle.jl_types.proofs.Grown.{among_ancestors}
 use Rattle.jl_report.specs.Made.{class_of_element, class_of, made, is_above}
-use Rattle.jl_report.specs.ForProofs.Results.{closes, still_in_name, behind_parameters, class_named, result_class}
+use Rattle.jl_report.specs.ForProofs.Results.{closes, still_in_name, after_parameters, class_named, result_class}
 use Rattle.jl_report.specs.Made.{may_be_made, made_receivers, marks_of, is_marked, marked_receivers}
 use Rattle.jl_report.proofs.MethodLaws.{take_front, any_none, no_ancestor}
 use Rattle.jl_report.specs.ForProofs.Marking.{AreMarked}
 
--- ---- behind the parameters
+-- ---- after the parameters
 
 pub one_on : (in_name : Bool) (b : ℕ) (bs : List ℕ) → closes in_name b ≡ false
-    → behind_parameters in_name (b ∷ bs) ≡ behind_parameters (still_in_name in_name b) bs
-one_on in_name b bs e = ap (λ (t : Bool). if t then bs else behind_parameters (still_in_name in_name b) bs) e
+    → after_parameters in_name (b ∷ bs) ≡ after_parameters (still_in_name in_name b) bs
+one_on in_name b bs e = ap (λ (t : Bool). if t then bs else after_parameters (still_in_name in_name b) bs) e
 
-pub one_closes : (in_name : Bool) (b : ℕ) (bs : List ℕ) → closes in_name b ≡ true → behind_parameters in_name (b ∷ bs) ≡ bs
-one_closes in_name b bs e = ap (λ (t : Bool). if t then bs else behind_parameters (still_in_name in_name b) bs) e
+pub one_closes : (in_name : Bool) (b : ℕ) (bs : List ℕ) → closes in_name b ≡ true → after_parameters in_name (b ∷ bs) ≡ bs
+one_closes in_name b bs e = ap (λ (t : Bool). if t then bs else after_parameters (still_in_name in_name b) bs) e
 
 -- ---- marks
 
@@ -123,12 +123,12 @@ all_marked cs old new is marked =
     ∙ ap (λ (b : Bool). b || may_be_made cs c) (ap (λ (xs : List Bool). is_marked xs c) is ∙ none_set (length cs.rows) c) ∙ ap (may_be_made cs) (omega arith))
     ∙ ap (λ (n : ℕ). map (may_be_made cs) (range_with_len 0 n)) (marked.many ∙ many)
 
--- of a test that fails behind the end
+-- of a test that fails from the end on
 mark_at : (f : ℕ → Bool) (a n c : ℕ) → ((k : ℕ) → n ≤ k → f (a + k) ≡ false) → get_or (map f (range_with_len a n)) c false ≡ f (a + c)
-mark_at f a zero c behind = sym (behind c (omega arith))
-mark_at f a (suc n) zero behind = ap f (omega arith)
-mark_at f a (suc n) (suc c) behind =
-    mark_at f (a + 1) n c (λ k le. ap f (omega arith) ∙ behind (suc k) (omega (arith, le))) ∙ ap f (omega arith)
+mark_at f a zero c past = sym (past c (omega arith))
+mark_at f a (suc n) zero past = ap f (omega arith)
+mark_at f a (suc n) (suc c) past =
+    mark_at f (a + 1) n c (λ k le. ap f (omega arith) ∙ past (suc k) (omega (arith, le))) ∙ ap f (omega arith)
 
 none_above : (a b : Bool) → b ≡ false → (a && b) ≡ false
 none_above true b e = e
@@ -155,7 +155,7 @@ marks_tell cs (k ∷ keys) = λ i. key_is cs k i || marks_tell cs keys i
 
 -- ---- a signature's result
 
-skip_brackets : (n : ℕ) (text : List ℕ) → behind_parameters false (replicate n (byte "[") ++ text) ≡ behind_parameters false text
+skip_brackets : (n : ℕ) (text : List ℕ) → after_parameters false (replicate n (byte "[") ++ text) ≡ after_parameters false text
 skip_brackets zero text = refl
 skip_brackets (suc n) text = skip_brackets n text
 
@@ -165,15 +165,15 @@ second false true r e = cc
 second false false r e = refl
 
 skip_name : (fresh : Bool) (name rest : List ℕ) → is_name fresh name ≡ true
-    → behind_parameters true ((name ++ byte ";" ∷ []) ++ rest) ≡ behind_parameters false rest
+    → after_parameters true ((name ++ byte ";" ∷ []) ++ rest) ≡ after_parameters false rest
 skip_name fresh [] rest e = refl
 skip_name fresh (b ∷ bs) rest e =
     let parts = and_parts (not (is_stop fresh b)) (is_name (b == byte "/") bs) e in
-    ap (λ (t : Bool). behind_parameters (not t) ((bs ++ byte ";" ∷ []) ++ rest))
+    ap (λ (t : Bool). after_parameters (not t) ((bs ++ byte ";" ∷ []) ++ rest))
     (second (b == byte ".") (b == byte ";") ((b == byte "[") || ((b == byte "/") && fresh)) parts.0)
     ∙ skip_name (b == byte "/") bs rest parts.1
 
-skip_element : (e : Element) → IsElement e → (rest : List ℕ) → behind_parameters false (element_text e ++ rest) ≡ behind_parameters false rest
+skip_element : (e : Element) → IsElement e → (rest : List ℕ) → after_parameters false (element_text e ++ rest) ≡ after_parameters false rest
 skip_element element.Byte h rest = refl
 skip_element element.Char h rest = refl
 skip_element element.Double h rest = refl
@@ -184,17 +184,17 @@ skip_element element.Short h rest = refl
 skip_element element.Boolean h rest = refl
 skip_element (element.Class name) h rest = skip_name true name rest ((is_name-parts name).0 ∙ h)
 
-skip_field : (ty : FieldType) → IsFieldType ty → (rest : List ℕ) → behind_parameters false (field_text ty ++ rest) ≡ behind_parameters false rest
+skip_field : (ty : FieldType) → IsFieldType ty → (rest : List ℕ) → after_parameters false (field_text ty ++ rest) ≡ after_parameters false rest
 skip_field ty h rest =
-    ap (behind_parameters false) (append_assoc (replicate ty.dimensions (byte "[")) (element_text ty.element) rest)
+    ap (after_parameters false) (append_assoc (replicate ty.dimensions (byte "[")) (element_text ty.element) rest)
     ∙ skip_brackets ty.dimensions (element_text ty.element ++ rest)
     ∙ skip_element ty.element h.element rest
 
 skip_all : (types : List FieldType) → AllByRecursion IsFieldType types → (rest : List ℕ)
-    → behind_parameters false (flat_map field_text types ++ rest) ≡ behind_parameters false rest
+    → after_parameters false (flat_map field_text types ++ rest) ≡ after_parameters false rest
 skip_all [] h rest = refl
 skip_all (ty ∷ types) h rest =
-    ap (behind_parameters false) (append_assoc (field_text ty) (flat_map field_text types) rest)
+    ap (after_parameters false) (append_assoc (field_text ty) (flat_map field_text types) rest)
     ∙ skip_field ty h.0 (flat_map field_text types ++ rest)
     ∙ skip_all types h.1 rest
 

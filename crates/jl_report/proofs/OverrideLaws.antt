@@ -1,4 +1,4 @@
--- Among classes none of which overrides a FINAL method each class below one runs the FINAL method that this first declares upward.
+-- Among classes that override no FINAL method, each class below another one runs the FINAL method that this one first declares upward.
 use Rattle.std.specs.Prelude.{◌≡◌, ℕ, ◌<◌, ◌==◌, Bool, true, false, cond, ◌&&◌, ◌||◌, List, [], ◌∷◌, filter, filter_map, length, slice_get}
 use Rattle.std.specs.Prelude.{Option, Some, None, option_and_then, if◌then◌else◌}
 use Rattle.std.specs.List.{list_any, cons_option, range_with_len}

@@ -1,4 +1,4 @@
--- What the invocation of a place was resolved to where it selects by the receiver.
+-- What the invocation of a place was resolved to if it selects by the receiver.
 use Rattle.std.specs.Prelude.{◌≡◌, ℕ, ◌==◌, Bool, true, false, not, ◌&&◌, ◌||◌, List, [], ◌∷◌, filter_map, position, slice_get, Option, Some, None}
 use Rattle.std.specs.Prelude.{option_map, Result, Ok, Err, IfSome, if◌then◌else◌, ⊤}
 use Rattle.std.specs.Bool.{beq}
@@ -34,7 +34,7 @@ use Rattle.jl_types.specs.Linkage.Stages.{selecting, by_kind, by_resolution, by_
 use Rattle.jl_types.specs.Linkage.Stages.{stage_of, stage}
 use Rattle.jl_types.specs.Linkage.Targets.{method_of}
 use Rattle.jl_resolve.proofs.Unchanged.{all_filter, all_found, first_there, first_of_there}
-use Rattle.jl_report.specs.Reports.{asking}
+use Rattle.jl_relink.specs.Placed.{asking}
 
 -- ---- what is declared is called so
 
@@ -57,7 +57,7 @@ declared_called cs name ty c m = by_place (position (is_called name ty) (methods
         let same : ◌≡◌ {A = MethodId} (record { class = c; index = k }) m = cc in
         subst (λ (n : MethodId). (n.class ≡ c) × IsCalled cs name ty n) same (refl, passes_at (is_called name ty) (methods_of cs c) k is)
 
--- ---- what a reference to a class finds where it is declared upward
+-- ---- what a reference to a class finds if it is declared upward
 
 pub upward_found : (cs : Classes) (ref : Reference (List ℕ)) (c : ℕ) (m r : MethodId) → ref.itf ≡ false
     → declared_upward cs ref.name ref.ty c ≡ Some m → found cs ref c ≡ Some r → m ≡ r
@@ -214,7 +214,7 @@ module _ (cs : Classes) (name ty : List ℕ) where
         ),
       )
 
--- where the reference names a class
+-- if the reference names a class
 pub found_called : (cs : Classes) (ref : Reference (List ℕ)) (c : ℕ) (r : MethodId) → ref.itf ≡ false → found cs ref c ≡ Some r
     → IsCalled cs ref.name ref.ty r
 found_called cs ref c r is at = subst (λ (o : Option MethodId). IfSome o (IsCalled cs ref.name ref.ty)) found_here (in_class_called cs ref.name ref.ty c)

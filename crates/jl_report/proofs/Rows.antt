@@ -25,12 +25,13 @@ use Rattle.jl_types.specs.Values.Ancestry.{is_ancestor}
 use Rattle.jl_types.specs.Events.Definitions.{define_fault, defined}
 use Rattle.jl_types.specs.Events.Footprints.{footprint}
 use Rattle.jl_types.proofs.Rows.Sketch.{object, class, classes, file, method, first, calling, class_ref, itf_ref}
+use Rattle.jl_relink.specs.Placed.{asking}
 use Rattle.jl_report.specs.declared.invocation.Invocation.{Invocation}
 use Rattle.jl_report.specs.declared.row.Finding.TheVariants as finding
 use Rattle.jl_report.specs.declared.row.Row.{Row}
 use Rattle.jl_report.specs.declared.shape.Shape.TheVariants as shape
 use Rattle.jl_report.specs.Order.{name_of}
-use Rattle.jl_report.specs.Reports.{asking, never_linked, invocation_of, invocations_in, rests_on, row_of, rows_in}
+use Rattle.jl_report.specs.Reports.{never_linked, invocation_of, invocations_in, rests_on, row_of, rows_in}
 use Rattle.jl_report.specs.Drops.{keys_of, row_now, now_changed, left_among, dropped_among, IsAdded}
 use Rattle.jl_hierarchy.specs.Constancy.{may_be_extended, ExtendNoFinal}
 use Rattle.jl_report.specs.Drops.{may_change, has_changing_link, may_grow, is_open}
@@ -122,7 +123,7 @@ direct = refl
 direct_open : is_open (with_a 33) (of_a 33) ≡ true
 direct_open = refl
 
--- the same of a FINAL class
+-- the row of a FINAL A's f, which isn't open
 final_link : (of_a 49).finding ≡ finding.Linked (Direct (Run (first 1)))
 final_link = refl
 
@@ -230,14 +231,14 @@ changing_findings = refl
 abbrev further : List Method → ClassFile
 further methods = record (file (codes "D") 33 methods) { superclass = Some (codes "A") }
 
--- with D below A, behind the others
+-- with D below A, after the others
 abbrev with_d : List Method → Classes
 with_d methods = defined (with_a 33) 0 (further methods)
 
 abbrev keys_of_d : List Method → List Key
 keys_of_d methods = keys_of (with_a 33) (further methods)
 
--- what the row of A's f comes to there, where D has its own f
+-- the row of A's f there, if D has its own f
 abbrev two_receivers : Row
 two_receivers = record {
   place = record { class = 2; method = 0; pc = 0 };
@@ -255,7 +256,7 @@ now = refl
 now_with_d : row_now (with_d (f ∷ [])) (of_a 33) ≡ two_receivers
 now_with_d = refl
 
--- the same, as if it rested on the receivers of another class
+-- the row of A's f, as if it rested on the receivers of another class
 abbrev elsewhere : Row
 elsewhere = record (of_a 33) { rests_on = Receivers 2 ∷ [] }
 
@@ -299,7 +300,7 @@ below_final h = let e = h 3 1 (class (67 ∷ 48 ∷ []) 33 (Some 1) [] (f ∷ []
 
 -- ---- which methods run
 
--- none, where there are no receivers, and of what has no link
+-- none, if there are no receivers, and of what has no link
 no_method : methods_run (with_a 1057) (of_a 1057) ≡ []
 no_method = refl
 
@@ -550,7 +551,7 @@ some_override : map some_overrides_final (
     ≡ false ∷ true ∷ true ∷ false ∷ []
 some_override = refl
 
--- the mark says nothing where a further class overrides a FINAL method, and nothing is dropped by one with a private f
+-- the mark says nothing if a further class overrides a FINAL method, and nothing is dropped by one with a private f
 abbrev after_d : List Class → List Method → Option Row
 after_d more methods =
     now_changed (defined (with_f final_f more) 0 (further methods)) (keys_of (with_f final_f more) (further methods)) (of_f final_f more)
@@ -561,7 +562,7 @@ overriding_drops = refl
 private_drops_none : after_d [] (method 2 (codes "f") ∷ []) ≡ None
 private_drops_none = refl
 
--- nor where an abstract class that was there overrides one
+-- nor if an abstract class that was there overrides one
 abbrev abstract_b : Class
 abstract_b = class (codes "B") 1057 (Some 1) [] (f ∷ [])
 
@@ -578,7 +579,7 @@ inherits_and_drops = refl
 overrides_none_itself : overrides_final (defined (with_f final_f (abstract_b ∷ [])) 0 below_b) 4 ≡ false
 overrides_none_itself = refl
 
--- no classes are derived, but not with B, nor where C has A above it by an interface alone
+-- no classes are derived, but not with B, nor if C has A above it by an interface alone
 none_derived : AreDerived (classes [])
 none_derived = record {
   finals = refl;
@@ -801,7 +802,7 @@ one_never = refl
 none_static : count Static shape.Direct three ≡ 0
 none_static = refl
 
--- what stands in a column, and nothing where there is none
+-- what stands in a column, and nothing if there is none
 told_there : told (range_with_len 100 40) Special shape.Table ≡ 109
 told_there = refl
 

@@ -23,13 +23,14 @@ use Rattle.jl_types.specs.Events.History.{is_link}
 use Rattle.jl_types.proofs.Installed.{is_link_decides}
 use Rattle.jl_hierarchy.specs.Constancy.{AreInOrder, MayDefine}
 use Rattle.jl_relink.specs.Laws.{IsInOrder, SiteStays}
+use Rattle.jl_relink.specs.Placed.{asking}
 use Rattle.jl_relink.proofs.KeyLaws.{untouched_stays}
 use Rattle.jl_relink.proofs.OneReceiver.{one_more}
 use Rattle.jl_report.specs.declared.row.Row.{Row}
 use Rattle.jl_report.specs.declared.row.Finding.{Finding}
 use Rattle.jl_report.specs.declared.row.Finding.TheVariants as finding
 use Rattle.jl_report.specs.declared.invocation.Invocation.{Invocation}
-use Rattle.jl_report.specs.Reports.{asking, found, finding_in, rests_on, row_of}
+use Rattle.jl_report.specs.Reports.{found, finding_in, rests_on, row_of}
 use Rattle.jl_report.specs.Drops.{keys_of, row_now, now_without, now_changed, has_changing_link, may_grow, is_open}
 use Rattle.jl_report.specs.Gathering.{most_classes}
 use Rattle.jl_report.proofs.FinalLaws.{none_met, closed_keys}

@@ -1,4 +1,4 @@
--- Which links a further class drops: those that aren't their invocations' any more, once it is defined behind the others.
+-- Which links a further class drops: those that aren't their invocations' any more, once it is defined after the others.
 use Rattle.std.specs.Prelude.{◌≡◌, ◌&&◌, ◌++◌, Bool, true, false, List, filter, filter_map, length, Option, Some, None}
 use Rattle.std.specs.Prelude.{option_map, is_some, is_none, if◌then◌else◌}
 use Rattle.std.specs.List.{list_any}
@@ -13,32 +13,33 @@ use Rattle.jl_types.specs.Events.Definitions.{define_fault, defined}
 use Rattle.jl_types.specs.Events.Footprints.{of_class, meets}
 use Rattle.jl_types.specs.Events.History.{is_link}
 use Rattle.jl_hierarchy.specs.Constancy.{may_be_extended}
+use Rattle.jl_relink.specs.Placed.{asking}
 use Rattle.jl_report.specs.declared.row.Row.{Row}
 use Rattle.jl_report.specs.declared.row.Finding.{Finding}
 use Rattle.jl_report.specs.declared.row.Finding.TheVariants as finding
 use Rattle.jl_report.specs.declared.breaking.Dropped.{Dropped}
-use Rattle.jl_report.specs.Reports.{asking, found, row_with}
+use Rattle.jl_report.specs.Reports.{found, row_with}
 use Rattle.jl_report.specs.Gathering.{most_classes}
 
--- what the class changes that loader 0 makes of the file behind these: the keys of its definition
+-- what is changed by the class that loader 0 makes of the file after these: the keys of its definition
 abbrev pub keys_of : Classes → ClassFile → List Key
 keys_of cs file = of_class (defined cs 0 file) (length cs.rows)
 
--- what the row's invocation comes to among these classes
+-- the row of the row's invocation among these classes
 abbrev pub row_now : Classes → Row → Row
 row_now cs row = row_with (asking cs row.place) row.place row.kind (found (scratch (asking cs row.place) 0))
 
--- what it comes to where it had a link, and hasn't this one among these classes
+-- its row among these classes, if it had a link and hasn't this one any more
 abbrev pub now_without : Classes → Row → Finding → Option Row
 now_without cs row (finding.Linked link) = if is_link (scratch (asking cs row.place) 0) link then None else Some (row_now cs row)
 now_without cs row (finding.Unlinked reason) = None
 now_without cs row (finding.NotLinkable reason) = None
 
--- the same of a row that rests on one of the keys, and nothing of any other
+-- the invocation's row among these classes, if the row rests on one of the keys, had a link, and its invocation hasn't this one any more
 abbrev pub now_changed : Classes → List Key → Row → Option Row
 now_changed cs keys row = if meets row.rests_on keys then now_without cs row row.finding else None
 
--- The link of the row is dropped, where these are the classes with the further one, and it changes these keys.
+-- The row before and after, if its link is dropped: these are the classes with the further one, which changes these keys.
 abbrev pub dropped_of : Classes → List Key → Row → Option Dropped
 dropped_of cs keys row = option_map (λ after. record { before = row; after = after }) (now_changed cs keys row)
 
@@ -49,8 +50,8 @@ dropped_among cs keys rows = filter_map (dropped_of cs keys) rows
 abbrev pub left_among : Classes → List Key → List Row → List Row
 left_among cs keys rows = filter (λ row. is_none (now_changed cs keys row)) rows
 
--- Loader 0 was to define the class of the file behind the old classes. It did, the rows whose links it drops are told behind those that
--- were told before, and the others are left; else the file is given back, and nothing changed.
+-- Loader 0 was to define the class of the file after the old classes. If it did, the rows whose links it drops are told after those that
+-- were told before, and the others are left. Else the file is given back, and nothing changed.
 abbrev pub IsAdded : Classes → Classes → ClassFile → List Row → List Row → List Dropped → List Dropped → Option ClassFile → Type 0
 IsAdded old new file rows left earlier told (Some back) =
     (back ≡ file) × (is_some (define_fault most_classes old 0 file) ≡ true) × (new ≡ old) × (left ≡ rows) × (told ≡ earlier)

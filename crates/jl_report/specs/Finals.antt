@@ -41,7 +41,7 @@ overrides_above cs m =
 abbrev pub overrides_final : Classes → ℕ → Bool
 overrides_final cs c = list_any (overrides_above cs) (methods_in cs c)
 
--- some class does
+-- some class overrides a FINAL method so
 abbrev pub some_overrides_final : Classes → Bool
 some_overrides_final cs = list_any (overrides_final cs) (numbers cs)
 

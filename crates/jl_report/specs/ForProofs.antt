@@ -1,5 +1,4 @@
 -- Means of proof. What is promised doesn't rest on how these say it.
-pub mod Asked
 pub mod Found
 pub mod Marking
 pub mod Results

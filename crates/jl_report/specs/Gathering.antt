@@ -1,4 +1,4 @@
--- Which class files become classes, where each waits for its parents (JVMS 5.3.5).
+-- Which class files become classes. Each waits for its parents (JVMS 5.3.5).
 use Rattle.std.specs.Prelude.{◌≡◌, ℕ, List, ◌∷◌, ◌++◌, map, slice_get, Some, None}
 use Rattle.jl_class.specs.Class.{ClassFile}
 use Rattle.jl_types.specs.Values.World.{Classes}
@@ -12,7 +12,7 @@ most_classes = 65536
 abbrev pub numbers : List Refused → List ℕ
 numbers refused = map (λ r. r.place) refused
 
--- Of the files at the waiting places, one after the other, in any order, becomes a class that loader 0 may define then. In the end
+-- The files at the waiting places become classes one after the other, in any order, each when loader 0 may define it. In the end
 -- these classes are there, and these places are left.
 pub data Gathers (files : List ClassFile) (out : Classes) : Classes → List ℕ → List ℕ → Type 0 where
   ends : {left : List ℕ} → Gathers files out out left left

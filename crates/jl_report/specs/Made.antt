@@ -73,7 +73,7 @@ names_interface Dynamic = false
 abbrev pub meets_made : Classes → Row → Bool
 meets_made cs row = names_interface row.kind && list_any (made_receivers cs) row.rests_on
 
--- ---- the same by a mark for each class
+-- ---- which rows meet such objects, by a mark for each class
 
 abbrev pub marks_of : Classes → List Bool
 marks_of cs = map (may_be_made cs) (numbers cs)

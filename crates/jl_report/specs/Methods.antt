@@ -12,10 +12,10 @@ use Rattle.jl_types.specs.declared.link.Link.TheVariants.{Fault, Plain, Direct, 
 use Rattle.jl_types.specs.Values.World.{World, Classes}
 use Rattle.jl_types.specs.Values.Ancestry.{receivers}
 use Rattle.jl_types.specs.Linkage.Calls.{dispatch}
+use Rattle.jl_relink.specs.Placed.{asking}
 use Rattle.jl_report.specs.declared.row.Row.{Row}
 use Rattle.jl_report.specs.declared.row.Finding.{Finding}
 use Rattle.jl_report.specs.declared.row.Finding.TheVariants as finding
-use Rattle.jl_report.specs.Reports.{asking}
 
 abbrev pub is_same : MethodId → MethodId → Bool
 is_same m n = (m.class == n.class) && (m.index == n.index)
@@ -25,7 +25,7 @@ abbrev pub distinct : List MethodId → List MethodId
 distinct [] = []
 distinct (m ∷ ms) = m ∷ filter (λ n. not (is_same m n)) (distinct ms)
 
--- the method that runs, where one does
+-- the method that runs, if one does
 abbrev pub run_of : Answer → Option MethodId
 run_of (answer.Run m) = Some m
 run_of (answer.Throws throwable) = None
@@ -50,14 +50,14 @@ run_by (finding.Linked link) = run_by_link link
 run_by (finding.Unlinked reason) = None
 run_by (finding.NotLinkable reason) = None
 
--- the class whose receivers a link looks at that rests on these, where it looks at any
+-- the class whose receivers a link that rests on these looks at, if it looks at any
 abbrev pub looked_at : List Key → Option ℕ
 looked_at [] = None
 looked_at (key.Receivers c ∷ keys) = Some c
 looked_at (key.Target c ∷ keys) = None
 looked_at (key.Valid p ∷ keys) = None
 
--- what the row's invocation runs on one receiver of this class after the other, and what its link runs where that looks at none
+-- what the row's invocation runs on one receiver of this class after the other; if its link looks at none, what the link runs
 abbrev pub runs : Classes → Row → Option ℕ → List MethodId
 runs cs row (Some c) = filter_map (run_on (asking cs row.place)) (receivers cs c)
 runs cs row None = option_to_list (run_by row.finding)

@@ -1,5 +1,5 @@
--- What each invocation of a closed set of classes comes to: its link from scratch among these classes, and no others.
-use Rattle.std.specs.Prelude.{◌≡◌, ℕ, ◌+◌, List, [], ◌∷◌, ◌++◌, map, Option, Some, None, Result, Ok, Err}
+-- What is found of each invocation of a closed set of classes: its link from scratch among these classes and no others, or why it has none.
+use Rattle.std.specs.Prelude.{ℕ, ◌+◌, List, [], ◌∷◌, ◌++◌, map, Option, Some, None, Result, Ok, Err}
 use Rattle.std.specs.Bool.{then_some}
 use Rattle.jl_class.specs.Class.{Method}
 use Rattle.jl_class.specs.Site.{Site}
@@ -11,24 +11,17 @@ use Rattle.jl_types.specs.declared.link.Link.{Link}
 use Rattle.jl_types.specs.declared.answer.Unlinked.{Unlinked}
 use Rattle.jl_types.specs.declared.refusal.NotLinkable.{NotLinkable}
 use Rattle.jl_types.specs.declared.refusal.NotLinkable.TheVariants.{ArrayReceiver, PolymorphicSignature}
-use Rattle.jl_types.specs.Values.World.{World, Classes, nothing_yet}
+use Rattle.jl_types.specs.Values.World.{World, Classes}
 use Rattle.jl_types.specs.Values.Members.{methods_of}
 use Rattle.jl_types.specs.Linkage.Resolution.{first_of}
 use Rattle.jl_types.specs.Linkage.Links.{scratch}
 use Rattle.jl_types.specs.Events.Verdict.{names_array, is_polymorphic}
 use Rattle.jl_types.specs.Events.Footprints.{footprint}
+use Rattle.jl_relink.specs.Placed.{asking}
 use Rattle.jl_report.specs.declared.row.Row.{Row}
 use Rattle.jl_report.specs.declared.row.Finding.{Finding}
 use Rattle.jl_report.specs.declared.row.Finding.TheVariants as finding
 use Rattle.jl_report.specs.declared.invocation.Invocation.{Invocation}
-
--- there are no call sites and switch points, and nothing is bound
-abbrev pub IsBare : World → Type 0
-IsBare w = (w.bindings ≡ []) × (w.sites ≡ nothing_yet.sites)
-
--- the world of these classes in which this place alone is requested, and no call site is there
-abbrev pub asking : Classes → Place → World
-asking cs place = record { classes = cs; places = place ∷ []; bindings = []; sites = nothing_yet.sites }
 
 -- ---- every invocation, once
 
@@ -56,7 +49,7 @@ invocations_from c i (m ∷ ms) = map (invocation_of c i) m.sites ++ invocations
 abbrev pub invocations_in : Classes → ℕ → List Invocation
 invocations_in cs c = invocations_from c 0 (methods_of cs c)
 
--- ---- what they come to
+-- ---- what is found of them
 
 abbrev pub found : Result Link Unlinked → Finding
 found (Ok link) = finding.Linked link
@@ -67,17 +60,17 @@ abbrev pub finding_in : World → Option NotLinkable → Finding
 finding_in w (Some reason) = finding.NotLinkable reason
 finding_in w None = found (scratch w 0)
 
--- what its link rests on, and nothing where it has none
+-- what its link rests on: nothing if it has none
 abbrev pub rests_on : World → Finding → List Key
 rests_on w (finding.Linked link) = footprint w 0
 rests_on w (finding.Unlinked reason) = []
 rests_on w (finding.NotLinkable reason) = []
 
--- the row of the world's only site, where it comes to this
+-- the row of the world's only site, of which this is found
 abbrev pub row_with : World → Place → Kind → Finding → Row
 row_with w place kind found = record { place = place; kind = kind; finding = found; rests_on = rests_on w found }
 
--- what the invocation comes to, and what its link rests on
+-- what is found of the invocation, and what its link rests on
 abbrev pub row_of : Classes → Invocation → Row
 row_of cs invocation =
     row_with (asking cs invocation.place) invocation.place invocation.kind (finding_in (asking cs invocation.place) invocation.never)

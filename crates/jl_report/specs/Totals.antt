@@ -1,4 +1,4 @@
--- How many invocations of each instruction come to what.
+-- How many invocations of each instruction have which shape.
 use Rattle.std.specs.Prelude.{◌≡◌, ℕ, ◌+◌, ◌-◌, ◌*◌, ◌^◌, min, Bool, ◌==◌, List, [], ◌∷◌, filter, length, get_or}
 use Rattle.jl_class.specs.declared.site.Kind.{Kind}
 use Rattle.jl_class.specs.declared.site.Kind.TheVariants.{Virtual, Special, Static, Interface, Dynamic}
@@ -13,7 +13,7 @@ use Rattle.jl_report.specs.declared.row.Finding.TheVariants as finding
 use Rattle.jl_report.specs.declared.shape.Shape.{Shape}
 use Rattle.jl_report.specs.declared.shape.Shape.TheVariants as shape
 
--- ---- what an invocation comes to, in the large
+-- ---- the shape of what is found of an invocation
 
 abbrev pub shape_of_link : Link → Shape
 shape_of_link (link.Fault throwable) = shape.Throws
@@ -24,7 +24,7 @@ shape_of_link (link.Table kind []) = shape.NoReceivers
 shape_of_link (link.Table kind (row ∷ rows)) = shape.Table
 shape_of_link link.Mega = shape.Mega
 
--- what has no link waits for its call site where it is an invokedynamic, and else for a class
+-- what has no link waits for its call site if it is an invokedynamic, and else for a class
 abbrev pub shape_unlinked : Unlinked → Shape
 shape_unlinked unlinked.Unbound = shape.Unbound
 shape_unlinked (unlinked.NotReady missing) = shape.Waits
@@ -55,7 +55,7 @@ shape_number shape.Waits = 5
 shape_number shape.Unbound = 6
 shape_number shape.NotLinkable = 7
 
--- the number among 40 of what is counted together: an instruction, and what it comes to
+-- the number among 40 of what is counted together: an instruction and a shape
 abbrev pub column : Kind → Shape → ℕ
 column kind shape = 8 * kind_number kind + shape_number shape
 
@@ -63,7 +63,7 @@ column kind shape = 8 * kind_number kind + shape_number shape
 abbrev pub is_in : ℕ → Row → Bool
 is_in n row = column row.kind (shape_of row.finding) == n
 
--- how many of the rows are of the instruction and come to this
+-- how many of the rows are of the instruction and have this shape
 abbrev pub count : Kind → Shape → List Row → ℕ
 count kind shape rows = length (filter (is_in (column kind shape)) rows)
 
@@ -75,6 +75,6 @@ told totals kind shape = get_or totals (column kind shape) 0
 abbrev pub largest : ℕ
 largest = 2 ^ 64 - 1
 
--- the totals are those of the rows, where a count stands still at the largest number
+-- the totals are those of the rows; a count stands still at the largest number
 abbrev pub AreTotals : List ℕ → List Row → Type 0
 AreTotals totals rows = (kind : Kind) (shape : Shape) → told totals kind shape ≡ min (count kind shape rows) largest

@@ -6,26 +6,24 @@ ghost use Rattle.jl_types.specs.Events.Definitions as definitions;
 ghost use Rattle.jl_types.specs.Events.Footprints as footprints;
 ghost use Rattle.jl_types.specs.Events.History.{is_link};
 ghost use Rattle.jl_report.specs.declared.row.Finding.TheVariants as finding;
-ghost use Rattle.jl_report.specs.Reports as reports;
 ghost use Rattle.jl_report.specs.Drops as drops;
 
-use crate::asked::{Asked, ask, link_there};
 use crate::defining::{define_one, first_loader, is_barred};
 use crate::report::{Report, rests_on};
 use crate::row::{Finding, Row};
 use jl_class::{ClassFile, FINAL, has_flag};
 use jl_deps::keys_of_definition;
 use jl_hierarchy::Classes;
-use jl_relink::World;
+use jl_relink::link_at;
 use jl_types::{ClassId, Key, Link, Unlinked, same_link};
 use std::alloc::{AllocError, Global};
 
 /// An invocation whose link a further class drops.
 #[derive(Debug)]
 pub struct Dropped {
-    /// What it came to before, a link.
+    /// Its row before, which has a link.
     pub before: Row,
-    /// What it comes to once the class is there.
+    /// Its row once the class is there.
     pub after: Row,
 }
 
@@ -40,9 +38,9 @@ impl Drop for Dropped {
 }
 
 impl Report {
-    /// Loader 0 defines the class of the file behind the others, and those of the rows whose links it drops go over to `dropped`, in
-    /// order, each with what its invocation comes to then. They are found by what they rest on: no link is looked up of a row that rests
-    /// on nothing that the class changes. Where the class may not be defined the file is given back, and nothing changes.
+    /// Loader 0 defines the class of the file after the others. Those of the rows whose links it drops go over to `dropped`, in order,
+    /// each with its invocation's row then. They are found by what they rest on: no link is looked up of a row that rests on nothing
+    /// that the class changes. If the class may not be defined, the file is given back, and nothing changes.
     ///
     /// # Errors
     ///
@@ -57,11 +55,17 @@ impl Report {
         ensures { IfOk result (λ back.
             drops.IsAdded self.old self.new file rows.old.items rows.new.items dropped.old.items dropped.new.items back) }
     {
-        add_to(alloc, &mut self.world, file, rows, dropped)
+        if is_barred(&self.classes, &file) {
+            return Ok(Some(file));
+        }
+        let keys = keys_of_definition(alloc, &self.classes, first_loader(), &file)?;
+        define_one(alloc, &mut self.classes, file)?;
+        drop_some(alloc, &self.classes, keys.as_slice(), rows, dropped)?;
+        Ok(None)
     }
 }
 
-/// Those of the rows whose links a further class may change go behind the others that are kept. Want of memory is an error.
+/// Adds those of the rows whose links a further class may change after the others that are kept.
 pub fn keep_open(classes: &Classes, rows: Vec<Row>, kept: &mut Vec<Row>) -> Result<(), AllocError>
     ensures { OnOk result (kept.new.items ≡ kept.old.items ++ filter (drops.is_open classes.now) rows.items) }
 {
@@ -110,7 +114,7 @@ fn is_final(classes: &Classes, class: ClassId) -> bool
     }
 }
 
-/// Whether it has a link other than Mega, which one receiver more leaves.
+/// Whether it has a link other than Mega. A further receiver leaves Mega as it is.
 fn has_changing_link(finding: &Finding) -> bool
     ensures { result ≡ drops.has_changing_link finding.now }
 {
@@ -123,46 +127,21 @@ fn has_changing_link(finding: &Finding) -> bool
     }
 }
 
-/// The same over the world.
-fn add_to(
-    alloc: Global,
-    world: &mut World,
-    file: ClassFile,
-    rows: &mut Vec<Row>,
-    dropped: &mut Vec<Dropped>,
-) -> Result<Option<ClassFile>, AllocError>
-    requires { reports.IsBare world.old }
-    ensures added { IfOk result (λ back. drops.IsAdded world.old.classes world.new.classes file
-        rows.old.items rows.new.items dropped.old.items dropped.new.items back) }
-    ensures bare { reports.IsBare world.new }
-{
-    if is_barred(&world.classes, &file) {
-        return Ok(Some(file));
-    }
-    let keys = keys_of_definition(alloc, &world.classes, first_loader(), &file)?;
-    define_one(alloc, &mut world.classes, file)?;
-    drop_some(alloc, world, keys.as_slice(), rows, dropped)?;
-    Ok(None)
-}
-
-/// Takes the rows away whose links are dropped, once these keys have changed. Want of memory is an error.
+/// Takes the rows away whose links are dropped, once these keys have changed.
 fn drop_some(
     alloc: Global,
-    world: &mut World,
+    classes: &Classes,
     keys: &[Key],
     rows: &mut Vec<Row>,
     dropped: &mut Vec<Dropped>,
 ) -> Result<(), AllocError>
-    requires { reports.IsBare world.old }
-    ensures left { OnOk result (rows.new.items ≡ drops.left_among world.old.classes keys.now rows.old.items) }
-    ensures dropped { OnOk result (dropped.new.items ≡ dropped.old.items ++ drops.dropped_among world.old.classes keys.now rows.old.items) }
-    ensures classes { world.new.classes ≡ world.old.classes }
-    ensures bare { reports.IsBare world.new }
+    ensures left { OnOk result (rows.new.items ≡ drops.left_among classes.now keys.now rows.old.items) }
+    ensures dropped { OnOk result (dropped.new.items ≡ dropped.old.items ++ drops.dropped_among classes.now keys.now rows.old.items) }
 {
     let mut left = Vec::new(alloc);
     rows.reverse();
     while let Some(before) = rows.pop() {
-        match changed(alloc, world, keys, &before)? {
+        match changed(classes, keys, &before) {
             Some(after) => dropped.push(Dropped { before, after })?,
             None => left.push(before)?,
         }
@@ -171,56 +150,35 @@ fn drop_some(
     Ok(())
 }
 
-/// What the row's invocation comes to, if the row rests on one of the keys and its link isn't its own any more. Want of memory is an
-/// error.
-fn changed(
-    alloc: Global,
-    world: &mut World,
-    keys: &[Key],
-    row: &Row,
-) -> Result<Option<Row>, AllocError>
-    requires { reports.IsBare world.old }
-    ensures row { IfOk result (λ after. after ≡ drops.now_changed world.old.classes keys.now row.now) }
-    ensures classes { world.new.classes ≡ world.old.classes }
-    ensures bare { reports.IsBare world.new }
+/// The row of the row's invocation now, if the row rests on one of the keys and its link isn't that of the invocation any more.
+fn changed(classes: &Classes, keys: &[Key], row: &Row) -> Option<Row>
+    ensures { result ≡ drops.now_changed classes.now keys.now row.now }
 {
     if !meets(row.rests_on.as_slice(), keys) {
-        return Ok(None);
+        return None;
     }
     match &row.finding {
-        Finding::Linked(link) => without(alloc, world, row, link),
-        Finding::Unlinked(_) => Ok(None),
-        Finding::NotLinkable(_) => Ok(None),
+        Finding::Linked(link) => without(classes, row, link),
+        Finding::Unlinked(_) => None,
+        Finding::NotLinkable(_) => None,
     }
 }
 
-/// What the row's invocation comes to, if this isn't its link. Want of memory is an error.
-fn without(
-    alloc: Global,
-    world: &mut World,
-    row: &Row,
-    link: &Link,
-) -> Result<Option<Row>, AllocError>
-    requires { reports.IsBare world.old }
-    ensures row { IfOk result (λ after. after ≡ drops.now_without world.old.classes row.now (finding.Linked link.now)) }
-    ensures classes { world.new.classes ≡ world.old.classes }
-    ensures bare { reports.IsBare world.new }
+/// The row of the row's invocation now, if this isn't its link.
+fn without(classes: &Classes, row: &Row, link: &Link) -> Option<Row>
+    ensures { result ≡ drops.now_without classes.now row.now (finding.Linked link.now) }
 {
-    let asked = Asked {
-        site: ask(alloc, world, row.place)?,
-        place: row.place,
-    };
-    let found = link_there(world, &asked);
+    let found = link_at(classes, &row.place);
     if is_link(&found, link) {
-        return Ok(None);
+        return None;
     }
     let finding = Finding::of(found);
-    Ok(Some(Row {
+    Some(Row {
         place: row.place,
         kind: row.kind,
         finding,
-        rests_on: rests_on(alloc, world, &asked, &finding)?,
-    }))
+        rests_on: rests_on(classes, &row.place, &finding),
+    })
 }
 
 /// Whether it is this link.

@@ -1,20 +1,20 @@
 //! Which class files become classes.
 
-ghost use Rattle.std.specs.Prelude.{◌≡◌, ◌≤◌, ℕ, List, length, reverse, All, IfOk, OnOk, is_some, slice_get, true, Some, None};
+ghost use Rattle.std.specs.Prelude.{◌≡◌, List, length, reverse, All, IfOk, OnOk, is_some, slice_get, true, Some, None};
 ghost use Rattle.std.specs.List.{range_with_len};
 ghost use Rattle.jl_class.specs.Class.{ClassFile};
-ghost use Rattle.jl_types.specs.Values.World as world;
 ghost use Rattle.jl_types.specs.Events.Definitions.{define_fault, defined};
 ghost use Rattle.jl_report.specs.Gathering.{most_classes, Gathers, IsRefused, numbers};
-ghost use Rattle.jl_report.specs.ForProofs.Waiting.{AreOf, AreStuck, IsTried, places};
+ghost use Rattle.jl_report.specs.ForProofs.Waiting.{AreOf, AreRefused, IsNext, IsNextInRound, places, queue};
 
 use jl_class::ClassFile;
 use jl_hierarchy::Classes;
 use jl_types::{DefineFault, LoaderId};
 use std::alloc::{AllocError, Global};
+use std::mem;
 
 /// The most classes of a report.
-pub const MOST_CLASSES: u32 = 65_536;
+const MOST_CLASSES: u32 = 65_536;
 
 /// Why the file at this place makes no class.
 #[derive(Debug, Drop)]
@@ -28,6 +28,81 @@ pub struct Refused {
 pub(crate) struct Waiting {
     place: usize,
     file: ClassFile,
+}
+
+/// Files that wait for their definition, in rounds. A file waits until its parents are there, so files may come in any order; parents had
+/// best come first.
+#[derive(Drop)]
+pub struct Rounds {
+    /// Those whose turn comes in this round, the next one last.
+    waiting: Vec<Waiting>,
+    /// Those that had their turn in this round.
+    left: Vec<Waiting>,
+}
+
+impl Rounds {
+    /// These files, the first one next.
+    ///
+    /// # Errors
+    ///
+    /// Want of memory.
+    pub fn of(alloc: Global, files: Vec<ClassFile>) -> Result<Self, AllocError>
+        ensures places { IfOk result (λ rounds. places (queue rounds) ≡ reverse (range_with_len 0 (length files.items))) }
+        ensures files { IfOk result (λ rounds. AreOf files.items (queue rounds)) }
+    {
+        Ok(Rounds {
+            waiting: every_file(alloc, files)?,
+            left: Vec::new(alloc),
+        })
+    }
+
+    /// Takes out the next file whose class loader 0 may define, if it may define one of them.
+    ///
+    /// # Errors
+    ///
+    /// Want of memory. A file may be lost then.
+    pub fn next(&mut self, classes: &Classes) -> Result<Option<ClassFile>, AllocError>
+        ensures { IfOk result (λ file. IsNext classes.now self.old self.new file) }
+    {
+        match self.next_in_round(classes)? {
+            Some(file) => Ok(Some(file)),
+            None => self.next_in_round(classes),
+        }
+    }
+
+    /// Takes out the next file of this round whose class loader 0 may define. If there is none, another round begins.
+    fn next_in_round(&mut self, classes: &Classes) -> Result<Option<ClassFile>, AllocError>
+        ensures { IfOk result (λ file. IsNextInRound classes.now self.old self.new file) }
+    {
+        while let Some(one) = self.waiting.pop() {
+            if !is_barred(classes, &one.file) {
+                return Ok(Some(one.file));
+            }
+            self.left.push(one)?;
+        }
+        self.left.reverse();
+        mem::swap(&mut self.waiting, &mut self.left);
+        Ok(None)
+    }
+
+    /// Why loader 0 may define none of the files that are left, the last one first.
+    ///
+    /// # Errors
+    ///
+    /// Want of memory.
+    pub fn refusals(self, alloc: Global, classes: &Classes) -> Result<Vec<Refused>, AllocError>
+        requires { AreRefused classes.now self }
+        ensures places { IfOk result (λ refused. numbers refused.items ≡ reverse (places self.waiting.items)) }
+        ensures refused { IfOk result (λ refused. (files : List ClassFile) → AreOf files self.waiting.items
+            → All (IsRefused files classes.now) refused.items) }
+    {
+        let mut waiting = self.waiting;
+        let mut refused = Vec::with_capacity(alloc, waiting.len())?;
+        while let Some(one) = waiting.pop() {
+            refused.push(refusal(classes, one))?;
+        }
+        Ok(refused)
+    }
 }
 
 /// The loader that defines all classes.
@@ -44,8 +119,8 @@ pub(crate) fn is_barred(classes: &Classes, file: &ClassFile) -> bool
     !classes.admits(first_loader(), file, MOST_CLASSES)
 }
 
-/// Loader 0 makes classes of these files, beside those that are there, and of the files that are told it makes none: in the end it may
-/// define none of them. A file waits until its parents are there, so files may come in any order; parents had best come first.
+/// Loader 0 makes classes of these files, beside those that are there. Of the files that are told it makes none: in the end it may define
+/// none of them.
 ///
 /// # Errors
 ///
@@ -59,17 +134,14 @@ pub fn define_all(
         Gathers files.items classes.new classes.old (range_with_len 0 (length files.items)) (numbers refused.items)) }
     ensures refused { IfOk result (λ refused. All (IsRefused files.items classes.new) refused.items) }
 {
-    let mut waiting = every_file(alloc, files)?;
-    loop {
-        let before = waiting.len();
-        define_some(alloc, classes, &mut waiting)?;
-        if waiting.len() == before {
-            return refusals(alloc, classes, waiting);
-        }
+    let mut rounds = Rounds::of(alloc, files)?;
+    while let Some(file) = rounds.next(classes)? {
+        define_one(alloc, classes, file)?;
     }
+    rounds.refusals(alloc, classes)
 }
 
-/// The files, each with its place, the first one last. Want of memory is an error.
+/// The files, each with its place, the first one last.
 fn every_file(alloc: Global, files: Vec<ClassFile>) -> Result<Vec<Waiting>, AllocError>
     ensures places { IfOk result (λ all. places all.items ≡ reverse (range_with_len 0 (length files.items))) }
     ensures files { IfOk result (λ all. AreOf files.items all.items) }
@@ -85,47 +157,7 @@ fn every_file(alloc: Global, files: Vec<ClassFile>) -> Result<Vec<Waiting>, Allo
     Ok(all)
 }
 
-/// Defines those of the files that may be defined when their turn comes, the last one first, and leaves the others. Want of memory is an
-/// error.
-fn define_some(
-    alloc: Global,
-    classes: &mut Classes,
-    waiting: &mut Vec<Waiting>,
-) -> Result<(), AllocError>
-    ensures gathers { OnOk result ((files : List ClassFile) (out : world.Classes) (left : List ℕ) → AreOf files waiting.old.items
-        → Gathers files out classes.new (places waiting.new.items) left → Gathers files out classes.old (places waiting.old.items) left) }
-    ensures files { OnOk result ((files : List ClassFile) → AreOf files waiting.old.items → AreOf files waiting.new.items) }
-    ensures fewer { OnOk result (length waiting.new.items ≤ length waiting.old.items) }
-    ensures stuck { OnOk result (length waiting.new.items ≡ length waiting.old.items → AreStuck classes.new waiting.new.items) }
-{
-    let mut left = Vec::new(alloc);
-    while let Some(one) = waiting.pop() {
-        let Some(one) = try_define(alloc, classes, one)? else {
-            continue;
-        };
-        left.push(one)?;
-    }
-    left.reverse();
-    *waiting = left;
-    Ok(())
-}
-
-/// Defines the class of the file, or gives the file back where it may not be defined. Want of memory is an error.
-fn try_define(
-    alloc: Global,
-    classes: &mut Classes,
-    one: Waiting,
-) -> Result<Option<Waiting>, AllocError>
-    ensures { IfOk result (λ left. IsTried classes.old classes.new one left) }
-{
-    if is_barred(classes, &one.file) {
-        return Ok(Some(one));
-    }
-    define_one(alloc, classes, one.file)?;
-    Ok(None)
-}
-
-/// Loader 0 defines the class of the file. Want of memory is an error.
+/// Loader 0 defines the class of the file.
 pub(crate) fn define_one(
     alloc: Global,
     classes: &mut Classes,
@@ -136,25 +168,6 @@ pub(crate) fn define_one(
 {
     let _class = classes.add(alloc, first_loader(), file)?;
     Ok(())
-}
-
-/// Why loader 0 may not define these files, the last one first. Want of memory is an error.
-fn refusals(
-    alloc: Global,
-    classes: &Classes,
-    waiting: Vec<Waiting>,
-) -> Result<Vec<Refused>, AllocError>
-    requires { AreStuck classes.now waiting.items }
-    ensures places { IfOk result (λ refused. numbers refused.items ≡ reverse (places waiting.items)) }
-    ensures refused { IfOk result (λ refused. (files : List ClassFile) → AreOf files waiting.items
-        → All (IsRefused files classes.now) refused.items) }
-{
-    let mut waiting = waiting;
-    let mut refused = Vec::with_capacity(alloc, waiting.len())?;
-    while let Some(one) = waiting.pop() {
-        refused.push(refusal(classes, one))?;
-    }
-    Ok(refused)
 }
 
 /// Why loader 0 may not define the file.

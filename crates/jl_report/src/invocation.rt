@@ -17,7 +17,7 @@ pub(crate) struct Invocation {
     pub(crate) never: Option<NotLinkable>,
 }
 
-/// The invocations of the class, by method and pc. Want of memory is an error.
+/// The invocations of the class, by method and pc.
 pub(crate) fn invocations_in(
     alloc: Global,
     classes: &Classes,
@@ -31,7 +31,7 @@ pub(crate) fn invocations_in(
     }
 }
 
-/// The invocations of the class's methods. Want of memory is an error.
+/// The invocations of the class's methods.
 fn invocations_of(
     alloc: Global,
     class: ClassId,
@@ -49,7 +49,7 @@ fn invocations_of(
     Ok(all)
 }
 
-/// Adds these invocations in the method that has this number in its class. Want of memory is an error.
+/// Adds these invocations in the method that has this number in its class.
 fn push_invocations(
     all: &mut Vec<Invocation>,
     class: ClassId,

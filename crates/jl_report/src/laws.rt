@@ -18,18 +18,19 @@ ghost use Rattle.jl_types.specs.Events.Definitions.{define_fault, defined};
 ghost use Rattle.jl_types.specs.Events.Footprints.{footprint, meets};
 ghost use Rattle.jl_hierarchy.specs.Constancy.{AreInOrder};
 ghost use Rattle.jl_hierarchy.specs.Redeclared.{AreLines};
+ghost use Rattle.jl_relink.specs.Placed.{asking};
 ghost use Rattle.jl_report.specs.declared.invocation.Invocation.{Invocation};
 ghost use Rattle.jl_report.specs.declared.row.Row.{Row};
 ghost use Rattle.jl_report.specs.declared.row.Finding.TheVariants as finding;
-ghost use Rattle.jl_report.specs.Reports.{asking, row_of};
+ghost use Rattle.jl_report.specs.Reports.{row_of};
 ghost use Rattle.jl_report.specs.Drops.{keys_of, now_changed, has_changing_link, is_open};
 ghost use Rattle.jl_report.specs.Methods.{is_same, looked_at, runs, methods_run};
 ghost use Rattle.jl_report.specs.Finals.{overrides_final, AreDerived, is_final_call};
 ghost use Rattle.jl_report.specs.Made.{class_of, made_by, meets_made, marks_of, meets_marks};
 ghost use Rattle.jl_report.specs.Gathering.{most_classes};
 
-/// Whatever else is requested, and whatever call sites there are: in each world of the same classes a site that is bound to none has
-/// the link that a report of its place has, and rests on the same.
+/// In each world of the same classes a site that is bound to no call site has the link that a report of its place has, and rests on the
+/// same keys. It is so whatever else is requested, and whatever call sites there are.
 pub fn reported_links_are_from_scratch()
     ensures links { (w : World) (s : ℕ) (place : Place) → slice_get w.places s ≡ Some place → bound_to w s ≡ None
         → scratch w s ≡ scratch (asking w.classes place) 0 }
@@ -38,8 +39,8 @@ pub fn reported_links_are_from_scratch()
 {}
 
 /// Among classes that came in order a row that has a link is the same one once a further class is defined that doesn't drop the link.
-/// None is dropped of a row that rests on nothing that the class changes, nor of one with no link or a megamorphic one, and none but of
-/// rows that are open: a row with a link that isn't open is the same one whichever class is defined, and isn't open then.
+/// No link is dropped of a row that rests on nothing that the class changes, nor of one with no link or a megamorphic one. Links are
+/// dropped of open rows alone: a row with a link that isn't open is the same one whichever class is defined, and isn't open then.
 pub fn undropped_links_stay()
     ensures undropped { (cs : Classes) (file : ClassFile) (invocation : Invocation) (l : Link) → AreInOrder cs
         → define_fault most_classes cs 0 file ≡ None → (row_of cs invocation).finding ≡ finding.Linked l
@@ -64,8 +65,8 @@ pub fn undropped_links_stay()
 {}
 
 /// No class that a JVM takes drops the link of a row that runs a FINAL method of the class that it names, or of a superclass, though the
-/// row may be open: among classes that came in order a further class leaves the row and its mark, where the classes with the further one
-/// are derived (JVMS SE 17 §5.3.5). They are where the others are derived, the further class overrides no FINAL method, and each ancestor
+/// row may be open. Among classes that came in order a further class leaves the row and its mark, if the classes with the further one
+/// are derived (JVMS SE 17 §5.3.5). They are derived if the others are, the further class overrides no FINAL method, and each ancestor
 /// of a class that isn't an interface is one of its superclasses.
 pub fn final_calls_stay()
     ensures kept { (cs : Classes) (file : ClassFile) (invocation : Invocation) → AreInOrder cs → define_fault most_classes cs 0 file ≡ None
@@ -89,8 +90,8 @@ pub fn told_methods_run()
 {}
 
 /// An invokedynamic whose descriptor is the text of a signature (JVMS SE 17 §4.3.3) makes an object of the class or interface that loader 0
-/// has recorded by the name of the signature's result, where that is one. And by the marks of the classes a row meets such objects where
-/// it does by its own words.
+/// has recorded by the name of the signature's result, if that is one. And the marks of the classes tell of each row whether it meets such
+/// objects.
 pub fn made_objects_are_marked()
     ensures results { (cs : Classes) (site : Site) (specifier : CallSiteSpecifier (List ℕ)) (m : Signature)
         → site.operand ≡ operand.CallSite specifier → IsSignature m → specifier.ty ≡ method_text m

@@ -1,9 +1,16 @@
-//! What each invocation of a closed set of classes comes to, which analysers and ahead-of-time compilers ask (JVMS SE 17 §6.5).
+//! The link of each invocation of a closed set of classes, or why it has none (JVMS SE 17 §6.5). Analysers and ahead-of-time compilers ask
+//! for that.
 //!
-//! Which files become classes stands in `specs/Gathering`, what a report says of classes, in `specs/Reports`, which methods an invocation
-//! runs, in `specs/Methods`, which receivers may be of a class that no file has, in `specs/Made`, which links a further class drops, in
-//! `specs/Drops`, which of them none drops that a JVM takes, in `specs/Finals`, how many invocations come to what, in `specs/Totals`, and in
-//! which order classes are reported, in `specs/Order`.
+//! It stands in `specs/`:
+//!
+//! - `Gathering`: which files become classes.
+//! - `Reports`: what a report says of classes.
+//! - `Methods`: which methods an invocation runs.
+//! - `Made`: which receivers may be of a class that no file has.
+//! - `Drops`: which links a further class drops.
+//! - `Finals`: which links no class drops that a JVM takes.
+//! - `Totals`: how many invocations of each instruction have which shape.
+//! - `Order`: in which order classes are reported.
 #![tactic(auto)]
 
 // Classes.
@@ -11,7 +18,6 @@ mod defining;
 mod order;
 
 // What is reported of them.
-mod asked;
 mod invocation;
 mod made;
 mod methods;
@@ -29,7 +35,7 @@ mod inherited;
 mod laws;
 
 pub use breaking::{Dropped, is_open, keep_open};
-pub use defining::{MOST_CLASSES, Refused, define_all};
+pub use defining::{Refused, Rounds, define_all};
 pub use finals::{is_final_call, overrides_final, some_overrides_final};
 pub use laws::{
     final_calls_stay, made_objects_are_marked, reported_links_are_from_scratch, told_methods_run,

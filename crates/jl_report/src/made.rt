@@ -15,8 +15,8 @@ use jl_types::{ClassId, Key, LoaderId};
 use std::alloc::{AllocError, Global};
 use std::marker::Model;
 
-/// Of which classes an object may be that an invokedynamic gives, and that is of a class that no file has, as of a lambda: one mark for
-/// each class. A clause sees the marks.
+/// A mark for each class: whether an object that an invokedynamic gives, as a lambda, may be of it. No file has such an object's own class.
+/// A clause sees the marks.
 #[derive(Debug)]
 pub struct Made {
     marks: Vec<bool>,
@@ -38,7 +38,7 @@ impl Model for Made {
 }
 
 impl Made {
-    /// Those of these classes.
+    /// The marks of these classes.
     ///
     /// # Errors
     ///
@@ -118,7 +118,7 @@ fn mark_methods(classes: &Classes, methods: &Methods<'_>, marks: &mut [bool])
     }
 }
 
-/// Marks what objects may be that those of these instructions give which are invokedynamics.
+/// Marks what objects may be that the invokedynamics among these instructions give.
 fn mark_sites(classes: &Classes, sites: &Sites<'_>, marks: &mut [bool])
     ensures { AreMarked (made.is_above classes.now) (filter_map (made.made_by classes.now) sites.now) marks.old marks.new }
 {
@@ -166,15 +166,15 @@ fn named_result<'a>(operand: &Operand<LentName<'a>>) -> Option<&'a [u8]>
 fn result_class(text: &[u8]) -> Option<&[u8]>
     ensures { option_map (λ name. name.now) result ≡ results.result_class text.now }
 {
-    match behind_parameters(text) {
+    match after_parameters(text) {
         [b'L', name @ ..] => Some(&name[..name.len().saturating_sub(1)]),
         _ => None,
     }
 }
 
-/// What stands behind the parameters of the method descriptor.
-fn behind_parameters(text: &[u8]) -> &[u8]
-    ensures { result.now ≡ results.behind_parameters false text.now }
+/// What stands after the parameters of the method descriptor.
+fn after_parameters(text: &[u8]) -> &[u8]
+    ensures { result.now ≡ results.after_parameters false text.now }
 {
     let mut in_name = false;
     for (place, byte) in text.iter().enumerate() {

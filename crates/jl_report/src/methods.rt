@@ -2,38 +2,44 @@
 
 ghost use Rattle.std.specs.Prelude.{◌≡◌, take, filter_map, option_to_list, IfOk, OnOk};
 ghost use Rattle.jl_types.specs.Values.Ancestry as ancestry;
-ghost use Rattle.jl_report.specs.Reports as reports;
+ghost use Rattle.jl_relink.specs.Placed.{asking};
 ghost use Rattle.jl_report.specs.Methods as methods;
-ghost use Rattle.jl_report.specs.ForProofs.Asked.{IsAsked};
 ghost use Rattle.jl_report.specs.ForProofs.Found.{is_among, with_run};
 
-use crate::asked::{Asked, answer_there, ask};
 use crate::report::Report;
 use crate::row::{Finding, Row};
 use jl_hierarchy::Classes;
-use jl_relink::World;
-use jl_types::{Answer, ClassId, Key, Link, MethodId, Outcome, Recv};
+use jl_relink::dispatch_at;
+use jl_types::{Answer, ClassId, Key, Link, MethodId, Outcome, Place, Recv};
 use std::alloc::{AllocError, Global};
 
 impl Report {
-    /// The different methods that calls of the row's invocation run, over all classes of receivers that its link looks at, in the order
-    /// of the first receiver that runs each; at most so many. A link that looks at no receivers runs one method, or none. No receiver is
-    /// asked behind the one that runs the last of so many. Each method is sought among those before it. Want of memory is an error.
+    /// The different methods that calls of the row's invocation run, at most so many. All classes of receivers that its link looks at are
+    /// asked, and the methods are in the order of the first receiver that runs each. A link that looks at no receivers runs one method, or
+    /// none. No receiver is asked after the one that runs the last of so many. Each method is sought among those before it.
     pub fn methods_of(
-        &mut self,
+        &self,
         alloc: Global,
         row: &Row,
         most: usize,
     ) -> Result<Vec<MethodId>, AllocError>
-        ensures methods { IfOk result (λ found. found.items ≡ take most (methods.methods_run self.old row.now)) }
-        ensures stays { self.new ≡ self.old }
+        ensures { IfOk result (λ found. found.items ≡ take most (methods.methods_run self.now row.now)) }
     {
-        methods_in(alloc, &mut self.world, row, most)
+        match row.looked_at() {
+            Some(class) => methods_on(
+                alloc,
+                &self.classes,
+                &row.place,
+                receivers_of(&self.classes, class),
+                most,
+            ),
+            None => own_methods(alloc, &row.finding, most),
+        }
     }
 }
 
 impl Row {
-    /// The class whose receivers the row's link looks at, where it looks at any.
+    /// The class whose receivers the row's link looks at, if it looks at any.
     pub fn looked_at(&self) -> Option<ClassId>
         ensures { result ≡ methods.looked_at self.now.rests_on }
     {
@@ -46,37 +52,7 @@ impl Row {
     }
 }
 
-/// The same in the world.
-fn methods_in(
-    alloc: Global,
-    world: &mut World,
-    row: &Row,
-    most: usize,
-) -> Result<Vec<MethodId>, AllocError>
-    requires { reports.IsBare world.old }
-    ensures methods { IfOk result (λ found. found.items ≡ take most (methods.methods_run world.old.classes row.now)) }
-    ensures classes { world.new.classes ≡ world.old.classes }
-    ensures bare { reports.IsBare world.new }
-{
-    match row.looked_at() {
-        Some(class) => {
-            let asked = Asked {
-                site: ask(alloc, world, row.place)?,
-                place: row.place,
-            };
-            methods_on(
-                alloc,
-                world,
-                &asked,
-                receivers_of(&world.classes, class),
-                most,
-            )
-        }
-        None => own_methods(alloc, &row.finding, most),
-    }
-}
-
-/// The receivers of the class, none where there is no such class.
+/// The receivers of the class, none if there is no such class.
 fn receivers_of(classes: &Classes, class: ClassId) -> &[ClassId]
     ensures { result.now ≡ ancestry.receivers classes.now class }
 {
@@ -86,34 +62,32 @@ fn receivers_of(classes: &Classes, class: ClassId) -> &[ClassId]
     &[]
 }
 
-/// The different methods that calls of the place run on objects of these classes, at most so many. Want of memory is an error.
+/// The different methods that calls of the place run on objects of these classes, at most so many.
 fn methods_on(
     alloc: Global,
-    world: &World,
-    asked: &Asked,
+    classes: &Classes,
+    place: &Place,
     receivers: &[ClassId],
     most: usize,
 ) -> Result<Vec<MethodId>, AllocError>
-    requires { IsAsked world.now asked.now.site asked.now.place }
     ensures { IfOk result (λ found. found.items
-        ≡ take most (methods.distinct (filter_map (methods.run_on (reports.asking world.now.classes asked.now.place)) receivers.now))) }
+        ≡ take most (methods.distinct (filter_map (methods.run_on (asking classes.now place.now)) receivers.now))) }
 {
     let mut found = Vec::new(alloc);
     for receiver in receivers {
         if found.len() >= most {
             return Ok(found);
         }
-        add_run(&mut found, run_on(world, asked, *receiver))?;
+        add_run(&mut found, run_on(classes, place, *receiver))?;
     }
     Ok(found)
 }
 
 /// What a call of the place runs on an object of the class.
-fn run_on(world: &World, asked: &Asked, receiver: ClassId) -> Option<MethodId>
-    requires { IsAsked world.now asked.now.site asked.now.place }
-    ensures { result ≡ methods.run_on (reports.asking world.now.classes asked.now.place) receiver }
+fn run_on(classes: &Classes, place: &Place, receiver: ClassId) -> Option<MethodId>
+    ensures { result ≡ methods.run_on (asking classes.now place.now) receiver }
 {
-    match answer_there(world, asked, Recv::Of(receiver)) {
+    match dispatch_at(classes, place, Recv::Of(receiver)) {
         Answer::Run(method) => Some(method),
         Answer::Throws(_) => None,
         Answer::Unlinked(_) => None,
@@ -121,7 +95,7 @@ fn run_on(world: &World, asked: &Asked, receiver: ClassId) -> Option<MethodId>
     }
 }
 
-/// What the link runs, which looks at no receivers: one method, or none; at most so many. Want of memory is an error.
+/// What the link runs, which looks at no receivers: one method, or none; at most so many.
 fn own_methods(alloc: Global, finding: &Finding, most: usize) -> Result<Vec<MethodId>, AllocError>
     ensures { IfOk result (λ found. found.items ≡ take most (methods.distinct (option_to_list (methods.run_by finding.now)))) }
 {
@@ -145,7 +119,7 @@ pub(crate) fn run_by(finding: &Finding) -> Option<MethodId>
     }
 }
 
-/// Adds the method that a call runs, if it runs one that isn't among these. Want of memory is an error.
+/// Adds the method that a call runs, if it runs one that isn't among these.
 fn add_run(found: &mut Vec<MethodId>, run: Option<MethodId>) -> Result<(), AllocError>
     ensures { OnOk result (found.new.items ≡ with_run found.old.items run) }
 {

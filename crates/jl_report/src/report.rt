@@ -1,145 +1,111 @@
-//! What each invocation of the classes comes to.
+//! The report of classes, which has a row for each of their invocations.
 
 ghost use Rattle.std.specs.Prelude.{◌≡◌, map, Ok, IfOk};
 ghost use Rattle.jl_types.specs.declared.link.Link.{Link};
 ghost use Rattle.jl_types.specs.Linkage.Links.{scratch};
+ghost use Rattle.jl_relink.specs.Placed.{asking};
 ghost use Rattle.jl_report.specs.declared.row.Finding.TheVariants.{Linked};
 ghost use Rattle.jl_report.specs.Reports as reports;
-ghost use Rattle.jl_report.specs.ForProofs.Asked.{IsAsked};
 
-use crate::asked::{Asked, ask, footprint_there, link_there};
 use crate::invocation::{Invocation, invocations_in};
 use crate::row::{Finding, Row};
-use indexmap::IndexMap;
-use jl_callsites::Sites;
-use jl_deps::Footprint;
+use jl_deps::{Footprint, footprint_at};
 use jl_hierarchy::Classes;
-use jl_places::Places;
-use jl_relink::World;
-use jl_types::{ClassId, NotLinkable};
+use jl_relink::link_at;
+use jl_types::{ClassId, NotLinkable, Place};
 use std::alloc::{AllocError, Global};
 use std::marker::Model;
 
-/// Classes, of whose invocations it is told what they come to among these classes. A clause sees the classes.
+/// Classes, and what is found of each of their invocations among these classes. A clause sees the classes.
 pub struct Report {
-    /// Their world, in which places are requested as they are asked.
-    pub(crate) world: World,
+    pub(crate) classes: Classes,
 }
 
 // Written out, since a derived drop is proved anew in each crate that lets one go.
 impl Drop for Report {
     fn drop(self) {
-        let Report { world: _world } = self;
+        let Report { classes: _classes } = self;
     }
 }
 
 impl Model for Report {
     ghost use Rattle.jl_types.specs.Values.World.{Classes};
-    ghost use Rattle.jl_report.specs.Reports.{IsBare};
 
     ghost Value = { Classes };
 
-    ghost view = { λ r. r.world.classes };
-
-    ghost invariant = { λ r. IsBare r.world };
+    ghost view = { λ r. r.classes };
 }
 
 impl Report {
-    /// The report of these classes. Want of memory is an error.
-    pub fn of(alloc: Global, classes: Classes) -> Result<Self, AllocError>
-        ensures { IfOk result (λ report. report ≡ classes) }
+    /// The report of these classes. Takes no memory.
+    pub fn of(classes: Classes) -> Self
+        ensures { result ≡ classes }
     {
-        Ok(Report {
-            world: World {
-                classes,
-                places: Places::new(alloc)?,
-                bindings: IndexMap::new(alloc),
-                sites: Sites::new(alloc),
-            },
-        })
+        Report { classes }
     }
 
     /// The classes.
     pub fn classes(&self) -> &Classes
         ensures { result.now ≡ self.now }
     {
-        &self.world.classes
+        &self.classes
     }
 
-    /// What each invocation of the class comes to, by method and pc. Want of memory is an error.
-    pub fn rows_in(&mut self, alloc: Global, class: ClassId) -> Result<Vec<Row>, AllocError>
-        ensures rows { IfOk result (λ rows. rows.items ≡ reports.rows_in self.old class) }
-        ensures stays { self.new ≡ self.old }
+    /// The rows of the class's invocations, by method and pc.
+    pub fn rows_in(&self, alloc: Global, class: ClassId) -> Result<Vec<Row>, AllocError>
+        ensures { IfOk result (λ rows. rows.items ≡ reports.rows_in self.now class) }
     {
-        let invocations = invocations_in(alloc, &self.world.classes, class)?;
-        rows_of(alloc, &mut self.world, &invocations)
+        let invocations = invocations_in(alloc, &self.classes, class)?;
+        rows_of(alloc, &self.classes, &invocations)
     }
 }
 
-/// The rows of these invocations, in order. Want of memory is an error.
+/// The rows of these invocations, in order.
 fn rows_of(
     alloc: Global,
-    world: &mut World,
+    classes: &Classes,
     invocations: &[Invocation],
 ) -> Result<Vec<Row>, AllocError>
-    requires { reports.IsBare world.old }
-    ensures rows { IfOk result (λ rows. rows.items ≡ map (reports.row_of world.old.classes) invocations.now) }
-    ensures classes { world.new.classes ≡ world.old.classes }
-    ensures bare { reports.IsBare world.new }
+    ensures { IfOk result (λ rows. rows.items ≡ map (reports.row_of classes.now) invocations.now) }
 {
     let mut rows = Vec::with_capacity(alloc, invocations.len())?;
     for invocation in invocations {
-        let row = row_of(alloc, world, *invocation)?;
-        rows.push(row)?;
+        rows.push(row_of(classes, invocation))?;
     }
     Ok(rows)
 }
 
-/// The row of the invocation. Want of memory is an error.
-fn row_of(alloc: Global, world: &mut World, invocation: Invocation) -> Result<Row, AllocError>
-    requires { reports.IsBare world.old }
-    ensures row { IfOk result (λ row. row ≡ reports.row_of world.old.classes invocation) }
-    ensures classes { world.new.classes ≡ world.old.classes }
-    ensures bare { reports.IsBare world.new }
+/// The row of the invocation.
+fn row_of(classes: &Classes, invocation: &Invocation) -> Row
+    ensures { result ≡ reports.row_of classes.now invocation.now }
 {
-    let asked = Asked {
-        site: ask(alloc, world, invocation.place)?,
-        place: invocation.place,
-    };
-    let finding = finding_in(world, &asked, invocation.never);
-    Ok(Row {
+    let finding = finding_in(classes, &invocation.place, invocation.never);
+    Row {
         place: invocation.place,
         kind: invocation.kind,
         finding,
-        rests_on: rests_on(alloc, world, &asked, &finding)?,
-    })
-}
-
-/// What the link of the place rests on, where that comes to this: nothing, where it has none. Want of memory is an error.
-pub(crate) fn rests_on(
-    alloc: Global,
-    world: &World,
-    asked: &Asked,
-    finding: &Finding,
-) -> Result<Footprint, AllocError>
-    requires asked { IsAsked world.now asked.now.site asked.now.place }
-    requires linked { (l : Link) → finding.now ≡ Linked l → scratch (reports.asking world.now.classes asked.now.place) 0 ≡ Ok l }
-    ensures { IfOk result (λ keys. keys ≡ reports.rests_on (reports.asking world.now.classes asked.now.place) finding.now) }
-{
-    match finding {
-        Finding::Linked(link) => footprint_there(alloc, world, asked, link),
-        Finding::Unlinked(_) => Ok(Footprint::nothing()),
-        Finding::NotLinkable(_) => Ok(Footprint::nothing()),
+        rests_on: rests_on(classes, &invocation.place, &finding),
     }
 }
 
-/// What the place comes to, unless it is never linked for this reason.
-fn finding_in(world: &World, asked: &Asked, never: Option<NotLinkable>) -> Finding
-    requires { IsAsked world.now asked.now.site asked.now.place }
-    ensures { result ≡ reports.finding_in (reports.asking world.now.classes asked.now.place) never }
+/// What the link of the place rests on, of which this is found: nothing if the place has no link.
+pub(crate) fn rests_on(classes: &Classes, place: &Place, finding: &Finding) -> Footprint
+    requires { (l : Link) → finding.now ≡ Linked l → scratch (asking classes.now place.now) 0 ≡ Ok l }
+    ensures { result ≡ reports.rests_on (asking classes.now place.now) finding.now }
+{
+    match finding {
+        Finding::Linked(link) => footprint_at(classes, place, link),
+        Finding::Unlinked(_) => Footprint::nothing(),
+        Finding::NotLinkable(_) => Footprint::nothing(),
+    }
+}
+
+/// What is found of the place: that it is never linked, if a reason for that is given, or else its link or why it has none.
+fn finding_in(classes: &Classes, place: &Place, never: Option<NotLinkable>) -> Finding
+    ensures { result ≡ reports.finding_in (asking classes.now place.now) never }
 {
     if let Some(reason) = never {
         return Finding::NotLinkable(reason);
     }
-    Finding::of(link_there(world, asked))
+    Finding::of(link_at(classes, place))
 }

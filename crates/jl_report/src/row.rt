@@ -7,7 +7,7 @@ use jl_class::Kind;
 use jl_deps::Footprint;
 use jl_types::{Link, NotLinkable, Place, Unlinked};
 
-/// What an invocation comes to.
+/// What is found of an invocation: its link, or why it has none.
 #[derive(Clone, Copy, Debug)]
 pub enum Finding {
     /// It has this link.
@@ -19,7 +19,7 @@ pub enum Finding {
 }
 
 impl Finding {
-    /// What an invocation comes to that has this link, or has none for this reason.
+    /// The finding of an invocation that has this link, or has none for this reason.
     pub(crate) fn of(found: Result<Link, Unlinked>) -> Finding
         ensures { result ≡ reports.found found }
     {
@@ -30,7 +30,7 @@ impl Finding {
     }
 }
 
-/// An invocation: its place and its instruction (JVMS SE 17 §6.5), what it comes to, and what its link rests on that a further class may
+/// An invocation: its place and its instruction (JVMS SE 17 §6.5), what is found of it, and what its link rests on that a further class may
 /// change.
 #[derive(Debug)]
 pub struct Row {

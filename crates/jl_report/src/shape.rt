@@ -1,4 +1,4 @@
-//! What an invocation comes to, in the large.
+//! The shape of what is found of an invocation.
 
 ghost use Rattle.std.specs.Prelude.{◌≡◌};
 ghost use Rattle.jl_report.specs.Totals as totals;
@@ -6,7 +6,7 @@ ghost use Rattle.jl_report.specs.Totals as totals;
 use crate::row::Finding;
 use jl_types::{Link, Outcome, Unlinked};
 
-/// What an invocation comes to, in the large.
+/// The shape of what is found of an invocation.
 #[derive(Clone, Copy, Debug, PartialEq, Eq)]
 pub enum Shape {
     /// One method.
@@ -28,7 +28,7 @@ pub enum Shape {
 }
 
 impl Shape {
-    /// The shape of what an invocation comes to.
+    /// The shape of the finding.
     pub fn of(finding: &Finding) -> Shape
         ensures { result ≡ totals.shape_of finding.now }
     {

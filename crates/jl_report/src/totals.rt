@@ -1,4 +1,4 @@
-//! How many invocations come to what.
+//! How many invocations of each instruction have which shape.
 
 ghost use Rattle.std.specs.Prelude.{◌≡◌, ◌<◌, ◌++◌, [], ◌∷◌, List};
 ghost use Rattle.jl_report.specs.declared.row.Row.{Row};
@@ -12,7 +12,7 @@ use std::marker::Model;
 /// How many columns there are: eight shapes for each of five instructions.
 const COLUMNS: usize = 40;
 
-/// How many invocations of each instruction come to each shape. A clause sees a count for each.
+/// How many invocations of each instruction have each shape. A clause sees a count for each.
 #[derive(Debug, Drop)]
 pub struct Totals {
     counts: [u64; COLUMNS],
@@ -36,7 +36,7 @@ impl Totals {
         }
     }
 
-    /// The totals of this row, too. A count stands still at the largest number of 64 bits.
+    /// Counts this row, too. A count stands still at the largest number of 64 bits.
     pub fn add(&mut self, row: &Row)
         ensures { (earlier : List Row) → totals.AreTotals self.old earlier → totals.AreTotals self.new (earlier ++ row.now ∷ []) }
     {
@@ -44,7 +44,7 @@ impl Totals {
         self.counts[column] = self.counts[column].saturating_add(1);
     }
 
-    /// How many invocations of the instruction come to the shape.
+    /// How many invocations of the instruction have the shape.
     pub fn count(&self, kind: Kind, shape: Shape) -> u64
         ensures { result ≡ totals.told self.now kind shape }
     {

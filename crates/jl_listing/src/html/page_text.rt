@@ -13,9 +13,11 @@ h1{font-size:1.4em;margin:0}h2{font-size:1.1em;margin:1.5em 0 .3em}p{margin:.4em
 .row b,.head span{width:4.6rem;text-align:right;font-weight:normal;font-variant-numeric:tabular-nums}
 .row b{border-bottom:2px solid var(--c)}.row b.none{border-color:transparent;color:var(--faint)}
 .head{position:sticky;top:0;background:var(--paper);border-bottom:1px solid var(--edge);color:var(--soft);font-size:.85em;line-height:1.2;align-items:end}
-.head .name{text-align:left}.bar,.head .bar{display:flex;flex:none;width:12rem;height:.8em;border:1px solid var(--edge);text-align:left}.head .bar{visibility:hidden}
+.head .name{text-align:left}.bar,.head .bar{display:flex;flex:none;width:12rem;height:.8em;border:1px solid var(--edge);text-align:left}
+.head .bar{visibility:hidden}
 .p0{--c:#1b9e77}.p1{--c:#e6ab02}.p2{--c:#d95f02}.p3{--c:#7a0177}.p4{--c:#a6cee3}.p5{--c:#999}
-i{display:block;background:var(--c)}.key span,label{white-space:nowrap}.key i{display:inline-block;width:1em;height:.8em;border:1px solid var(--edge);margin-left:.8em}
+i{display:block;background:var(--c)}.key span,label{white-space:nowrap}
+.key i{display:inline-block;width:1em;height:.8em;border:1px solid var(--edge);margin-left:.8em}
 summary{cursor:pointer}summary.row::before{content:"+";width:1em}details[open]>summary.row::before{content:"-"}
 details details,.site{margin-left:1.4em}
 .site{padding:.15em 0 .15em .6em;border-left:3px solid var(--c);overflow-wrap:anywhere}.site small{color:var(--soft)}
@@ -32,14 +34,15 @@ details>button{display:block;margin-left:1.4em;font-size:.9em}.note{font-weight:
 <form onsubmit="return false"><label>Find <input id="find" type="search" placeholder="class, method or type"></label>
 <label>Show <select id="chosen"><option value="all">all</option><option value="mega">megamorphic ones</option>
 <option value="open">those that a further class may change</option></select></label>
-<label>Order <select id="order"><option value="name">by name</option><option value="worst">fewest of one method or a table first</option></select></label></form>
+<label>Order <select id="order"><option value="name">by name</option>
+<option value="worst">fewest of one method or a table first</option></select></label></form>
 <div class="row head" id="head"></div><div id="all"></div>
 <div id="dropped"></div><div id="missing"></div><div id="circles"></div><div id="elsewhere"></div><div id="left"></div><div id="about" hidden></div>
 <noscript><p>The rows are shown by a script of this page.</p></noscript>
 <script type="application/json" id="report">"##;
 
 /// What comes after them.
-pub(crate) const BEHIND_ROWS: &str = r##"</script><script>
+pub(crate) const AFTER_ROWS: &str = r##"</script><script>
 "use strict";
 const PARTS = ["one method", "table", "mega\u00admorphic", "throws", "no re\u00adceivers, never linked", "waits"];
 const D = JSON.parse(document.getElementById("report").textContent), T = D.texts;
@@ -207,9 +210,13 @@ const MOST_CALLERS = 200;
 // A method: a way to its row, and who calls it.
 function about(of, name, type) {
   const key = of + "." + name + type, found = callersOf(key), panel = at("about"), list = make("ul");
-  for (const [caller, pc] of found.slice(0, MOST_CALLERS)) list.append(make("li"), " "), list.lastElementChild.append(button(titled(caller) + ", " + pc, () => goTo(caller)));
+  for (const [caller, pc] of found.slice(0, MOST_CALLERS)) {
+    list.append(make("li"), " ");
+    list.lastElementChild.append(button(titled(caller) + ", " + pc, () => goTo(caller)));
+  }
   if (found.length > MOST_CALLERS) list.append(make("li", "", "and " + (found.length - MOST_CALLERS) + " more"));
-  panel.replaceChildren(make("strong", "", javaMethod(of, name, type)), " ", PLACES.has(key) ? button("its invocations", () => goTo(key)) : "(no invocations here) ", " ",
+  panel.replaceChildren(make("strong", "", javaMethod(of, name, type)), " ",
+    PLACES.has(key) ? button("its invocations", () => goTo(key)) : "(no invocations here) ", " ",
     button("close", () => panel.hidden = true), make("div", "", "called by " + found.length + " invocations of this page"), list);
   panel.hidden = false;
 }

@@ -1,11 +1,15 @@
 //! What a page shows, as JSON in the page.
 //!
-//! `texts` has each text once, and all others stand by their places there. A class is a list of its name and its methods, a method one of its
-//! name, its descriptor and its invocations, and an invocation one of its pc, its instruction, what it comes to in the large (0 to 5), the
-//! class, name and descriptor that it names, and what it comes to in words. Each list ends with a 0, so no element needs to know whether it
-//! is the last one.
+//! `texts` has each text once, and all others stand by their places there. Each of these is a list:
+//!
+//! - a class: its name and its methods;
+//! - a method: its name, its descriptor and its invocations;
+//! - an invocation: its pc, its instruction, the shape of its finding (0 to 5), the class, name and descriptor that it names, and its
+//!   finding in words.
+//!
+//! Each list ends with a 0, so no element needs to know whether it is the last one.
 
-use crate::html::page_text::{BEFORE_ROWS, BEHIND_ROWS};
+use crate::html::page_text::{AFTER_ROWS, BEFORE_ROWS};
 use crate::left_out::{LeftOut, Whose};
 use crate::texts::{Elsewhere, MissingClasses, Summary, push_finding, push_name, push_reason};
 use crate::told::Note;
@@ -24,7 +28,7 @@ pub(crate) struct Read<'a> {
     pub(crate) words: &'a [String],
     pub(crate) paths: &'a [String],
     pub(crate) beside: &'a [String],
-    /// Seconds since 1970, or 0 where no clock tells them.
+    /// Seconds since 1970, or 0 if no clock tells them.
     pub(crate) seconds: u64,
 }
 
@@ -66,7 +70,7 @@ impl Drop for HtmlPage {
     }
 }
 
-/// What an invocation comes to in the large, as a page counts it.
+/// The number of a shape, as a page counts invocations.
 fn part_of(shape: Shape) -> u8 {
     match shape {
         Shape::Direct => 0,
@@ -80,7 +84,7 @@ fn part_of(shape: Shape) -> u8 {
     }
 }
 
-/// Appends the text as JSON has it, where no `<` stands, since it could end what a page has as a script. Want of memory is an error.
+/// Appends the text as JSON has it, but no `<`, since that could end what a page has as a script.
 fn push_json(text: &str, out: &mut String) -> Result<(), AllocError> {
     out.push('"')?;
     for c in text.chars() {
@@ -98,7 +102,7 @@ fn push_json(text: &str, out: &mut String) -> Result<(), AllocError> {
     out.push('"')
 }
 
-/// Appends a list of texts under the key. Want of memory is an error.
+/// Appends a list of texts under the key.
 fn push_texts(key: &str, texts: &[String], out: &mut String) -> Result<(), AllocError> {
     write!(out, "\"{key}\":[")?;
     for text in texts {
@@ -120,7 +124,7 @@ impl HtmlPage {
         }
     }
 
-    /// The place of a text. Want of memory is an error.
+    /// The place of a text.
     fn place_of(&mut self, text: String) -> Result<usize, AllocError> {
         if let Some(place) = self.texts.get_index_of(text.as_str()) {
             return Ok(place);
@@ -130,27 +134,27 @@ impl HtmlPage {
         Ok(place)
     }
 
-    /// The place of a name. Want of memory is an error.
+    /// The place of a name.
     fn place_of_name(&mut self, alloc: Global, name: &[u8]) -> Result<usize, AllocError> {
         let mut text = String::new(alloc);
         push_name(alloc, name, &mut text)?;
         self.place_of(text)
     }
 
-    /// Begins the class of this name. Want of memory is an error.
+    /// Begins the class of this name.
     pub(crate) fn begin_class(&mut self, alloc: Global, name: &[u8]) -> Result<(), AllocError> {
         let name = self.place_of_name(alloc, name)?;
         self.class.clear();
         write!(self.class, "[{name},")
     }
 
-    /// Ends the class, which has invocations. Want of memory is an error.
+    /// Ends the class, which has invocations.
     pub(crate) fn end_class(&mut self) -> Result<(), AllocError> {
         self.classes.push_str(self.class.as_str())?;
         self.classes.push_str("0],\n")
     }
 
-    /// Begins a method of it, which has invocations. Want of memory is an error.
+    /// Begins a method of it, which has invocations.
     pub(crate) fn begin_method(
         &mut self,
         alloc: Global,
@@ -161,12 +165,12 @@ impl HtmlPage {
         write!(self.class, "[{name},{ty},")
     }
 
-    /// Ends the method. Want of memory is an error.
+    /// Ends the method.
     pub(crate) fn end_method(&mut self) -> Result<(), AllocError> {
         self.class.push_str("0],\n")
     }
 
-    /// Adds an invocation of the method. Want of memory is an error.
+    /// Adds an invocation of the method.
     pub(crate) fn add_row(
         &mut self,
         alloc: Global,
@@ -195,7 +199,7 @@ impl HtmlPage {
         write!(self.class, "{words}],")
     }
 
-    /// The place of what the invocation comes to, in words. Want of memory is an error.
+    /// The place of what is found of the invocation, in words.
     fn place_of_finding(
         &mut self,
         alloc: Global,
@@ -209,7 +213,7 @@ impl HtmlPage {
         self.place_of(words)
     }
 
-    /// The place of the name of a class. Want of memory is an error.
+    /// The place of the name of a class.
     fn place_of_class(
         &mut self,
         alloc: Global,
@@ -222,7 +226,7 @@ impl HtmlPage {
         }
     }
 
-    /// Adds an invocation of the method whose link this class drops. Want of memory is an error.
+    /// Adds an invocation of the method whose link this class drops.
     pub(crate) fn add_dropped(
         &mut self,
         alloc: Global,
@@ -247,13 +251,13 @@ impl HtmlPage {
         )
     }
 
-    /// Appends the place of a name. Want of memory is an error.
+    /// Appends the place of a name.
     fn push_named(&mut self, alloc: Global, name: &[u8]) -> Result<(), AllocError> {
         let place = self.place_of_name(alloc, name)?;
         write!(self.class, "{place},")
     }
 
-    /// Adds the files that are left out. Want of memory is an error.
+    /// Adds the files that are left out.
     pub(crate) fn add_left_out(
         &mut self,
         alloc: Global,
@@ -274,7 +278,7 @@ impl HtmlPage {
         Ok(())
     }
 
-    /// The page. Want of memory is an error.
+    /// The page.
     pub(crate) fn text(
         &self,
         alloc: Global,
@@ -297,12 +301,12 @@ impl HtmlPage {
         out.push_str("0],\n\"classes\":[")?;
         out.push_str(self.classes.as_str())?;
         out.push_str("0]}")?;
-        out.push_str(BEHIND_ROWS)?;
+        out.push_str(AFTER_ROWS)?;
         Ok(out)
     }
 }
 
-/// Appends what is counted, when that was, and why nothing is, if it is nothing. Want of memory is an error.
+/// Appends what is counted, when that was, and why nothing is, if it is nothing.
 fn push_numbers(seconds: u64, end: &PageEnd<'_>, out: &mut String) -> Result<(), AllocError> {
     let Summary {
         later,
@@ -323,7 +327,7 @@ fn push_numbers(seconds: u64, end: &PageEnd<'_>, out: &mut String) -> Result<(),
     out.push_str(",\n")
 }
 
-/// Appends how many class files aren't at their classes' places, and the first of them. Want of memory is an error.
+/// Appends how many class files aren't at their classes' places, and the first of them.
 fn push_elsewhere(elsewhere: &Elsewhere, out: &mut String) -> Result<(), AllocError> {
     let count = elsewhere.count;
     write!(out, "\"elsewhere\":[{count},")?;
@@ -333,8 +337,7 @@ fn push_elsewhere(elsewhere: &Elsewhere, out: &mut String) -> Result<(), AllocEr
     out.push_str("],\n")
 }
 
-/// Appends the classes that aren't there, each with how many invocations wait for it and how many classes are left out below it. Want of
-/// memory is an error.
+/// Appends the classes that aren't there, each with how many invocations wait for it and how many classes are left out below it.
 fn push_missing(
     alloc: Global,
     missing: &MissingClasses,

@@ -43,7 +43,7 @@ impl Elsewhere {
         }
     }
 
-    /// Counts the file of this path, if the class of this name has another place. Want of memory is an error.
+    /// Counts the file of this path, if the class of this name has another place.
     pub(crate) fn add(&mut self, alloc: Global, path: &str, name: &[u8]) -> Result<(), AllocError> {
         let mut class = String::new(alloc);
         push_name(alloc, name, &mut class)?;
@@ -58,7 +58,7 @@ impl Elsewhere {
         Ok(())
     }
 
-    /// Appends how many there are, and the first of them, if there is one. Want of memory is an error.
+    /// Appends how many there are, and the first of them, if there is one.
     pub(crate) fn push(&self, alloc: Global, out: &mut String) -> Result<(), AllocError> {
         if self.count == 0 {
             return Ok(());
@@ -70,7 +70,7 @@ impl Elsewhere {
         push_line(line.as_str(), out)
     }
 
-    /// Writes the same under its key, if there is one. Want of memory is an error.
+    /// Writes how many there are, and the first of them, under its key, if there is one.
     pub(crate) fn write(&self, out: &mut Writer) -> Result<(), AllocError> {
         if self.count == 0 {
             return Ok(());

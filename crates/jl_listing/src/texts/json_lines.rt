@@ -16,7 +16,7 @@ use serde_json::{Value, put};
 use std::alloc::{AllocError, Global};
 use std::str::from_utf8;
 
-/// Writes a name, as text. Want of memory is an error.
+/// Writes a name, as text.
 fn write_name(alloc: Global, name: &[u8], out: &mut Writer) -> Result<(), AllocError> {
     if let Ok(text) = from_utf8(name) {
         return out.string(text);
@@ -26,7 +26,7 @@ fn write_name(alloc: Global, name: &[u8], out: &mut Writer) -> Result<(), AllocE
     out.string(text.as_str())
 }
 
-/// Writes the name of the class. Want of memory is an error.
+/// Writes the name of the class.
 fn write_class(
     alloc: Global,
     classes: &Classes,
@@ -39,19 +39,19 @@ fn write_class(
     }
 }
 
-/// Writes a text under the key. Want of memory is an error.
+/// Writes a text under the key.
 fn write_text(key: &str, text: &str, out: &mut Writer) -> Result<(), AllocError> {
     out.key(key)?;
     out.string(text)
 }
 
-/// Writes a number under the key. Want of memory is an error.
+/// Writes a number under the key.
 fn write_number(key: &str, number: u64, out: &mut Writer) -> Result<(), AllocError> {
     out.key(key)?;
     out.u64(number)
 }
 
-/// Writes a name under the key. Want of memory is an error.
+/// Writes a name under the key.
 fn write_name_at(
     alloc: Global,
     key: &str,
@@ -62,7 +62,7 @@ fn write_name_at(
     write_name(alloc, name, out)
 }
 
-/// Writes the name of the class under the key. Want of memory is an error.
+/// Writes the name of the class under the key.
 fn write_class_at(
     alloc: Global,
     key: &str,
@@ -89,7 +89,7 @@ fn write_outcome(
     out.end_object()
 }
 
-/// Writes the members of a link by a table: its kind, and each class with its outcome. Want of memory is an error.
+/// Writes the members of a link by a table: its kind, and each class with its outcome.
 fn write_table(
     alloc: Global,
     classes: &Classes,
@@ -109,7 +109,7 @@ fn write_table(
     out.end_array()
 }
 
-/// Writes the members of a link. Want of memory is an error.
+/// Writes the members of a link.
 fn write_link_members(
     alloc: Global,
     classes: &Classes,
@@ -131,15 +131,15 @@ fn write_link_members(
     }
 }
 
-/// What an invocation came to, before this class was defined behind the others.
+/// The row of an invocation before this class was defined after the others.
 #[derive(Clone, Copy)]
 pub(crate) struct Former<'a> {
     pub(crate) row: &'a Row,
     pub(crate) class: ClassId,
 }
 
-/// Writes the invocation of the row, which stands in this method, and what it comes to, with the link that it had and the class that dropped
-/// it, if one did. Keys are in byte order. Want of memory is an error.
+/// Writes the invocation of the row, which stands in this method, and what is found of it, with the link that it had and the class that
+/// dropped it, if one did. Keys are in byte order.
 pub(crate) fn write_line(
     alloc: Global,
     classes: &Classes,
@@ -173,7 +173,7 @@ pub(crate) fn write_line(
     out.end_object()
 }
 
-/// Writes the members of a line behind those of the link. Want of memory is an error.
+/// Writes the members of a line after those of the link.
 fn write_named(
     alloc: Global,
     classes: &Classes,
@@ -211,7 +211,7 @@ fn write_link_of(
     }
 }
 
-/// Writes the classes of the methods that can run, of a megamorphic link whose receivers were all asked. Want of memory is an error.
+/// Writes the classes of the methods that can run, of a megamorphic link whose receivers were all asked.
 fn write_runs(
     alloc: Global,
     classes: &Classes,
@@ -254,8 +254,7 @@ fn write_operand(
     }
 }
 
-/// Writes the pc, why the invocation is never linked, what its link rests on, and the classes of the methods that can run. Want of memory is
-/// an error.
+/// Writes the pc, why the invocation is never linked, what its link rests on, and the classes of the methods that can run.
 fn write_between(
     alloc: Global,
     classes: &Classes,
@@ -298,7 +297,7 @@ fn write_unlinked(finding: &Finding, out: &mut Writer) -> Result<(), AllocError>
     }
 }
 
-/// Appends the file that is left out and why, as a line. Want of memory is an error.
+/// Appends the file that is left out and why, as a line.
 pub(crate) fn push_left_out_line(
     alloc: Global,
     one: LeftOut,
@@ -313,7 +312,7 @@ pub(crate) fn push_left_out_line(
     Ok(out.push(b'\n')?)
 }
 
-/// Appends why no class is there, as a line. Want of memory is an error.
+/// Appends why no class is there, as a line.
 pub(crate) fn push_nothing_line(
     alloc: Global,
     nothing: &str,
@@ -327,7 +326,7 @@ pub(crate) fn push_nothing_line(
     Ok(out.push(b'\n')?)
 }
 
-/// Writes the totals. Want of memory is an error.
+/// Writes the totals.
 pub(crate) fn write_totals(
     summary: &Summary,
     elsewhere: &Elsewhere,
@@ -351,7 +350,7 @@ pub(crate) fn write_totals(
     out.end_object()
 }
 
-/// Writes under the key how many invocations of each instruction come to each shape, where there are any. Want of memory is an error.
+/// Writes under the key how many invocations of each instruction have each shape, if there are any.
 fn write_kinds(key: &str, totals: &Totals, out: &mut Writer) -> Result<(), AllocError> {
     out.key(key)?;
     out.begin_object()?;
@@ -369,7 +368,7 @@ fn write_kinds(key: &str, totals: &Totals, out: &mut Writer) -> Result<(), Alloc
     out.end_object()
 }
 
-/// Writes the class: its name, what it declares, its flags, and the classes above it. Want of memory is an error.
+/// Writes the class: its name, what it declares, its flags, and the classes above it.
 pub(crate) fn write_class_line(
     alloc: Global,
     file: &ClassFile,
@@ -391,7 +390,7 @@ pub(crate) fn write_class_line(
     out.end_object()
 }
 
-/// Writes the methods that the class declares. Want of memory is an error.
+/// Writes the methods that the class declares.
 fn write_declared(alloc: Global, file: &ClassFile, out: &mut Writer) -> Result<(), AllocError> {
     let methods = file.methods();
     out.key("declares")?;

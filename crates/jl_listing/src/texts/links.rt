@@ -1,4 +1,4 @@
-//! What an invocation comes to, in words.
+//! What is found of an invocation, in words.
 
 use crate::texts::names::push_name;
 use crate::told::{Methods, Note};
@@ -12,12 +12,12 @@ use jl_types::{
 };
 use std::alloc::{AllocError, Global};
 
-/// Appends a decimal number. Want of memory is an error.
+/// Appends a decimal number.
 pub(crate) fn push_number(number: u64, out: &mut String) -> Result<(), AllocError> {
     write!(out, "{number}")
 }
 
-/// Appends the name of the class. Want of memory is an error.
+/// Appends the name of the class.
 pub(crate) fn push_class(
     alloc: Global,
     classes: &Classes,
@@ -30,7 +30,7 @@ pub(crate) fn push_class(
     }
 }
 
-/// Appends the class and the name of the method. Want of memory is an error.
+/// Appends the class and the name of the method.
 fn push_method(
     alloc: Global,
     classes: &Classes,
@@ -49,7 +49,7 @@ fn push_method(
     push_name(alloc, found.name().as_slice(), out)
 }
 
-/// Appends what the invocation names. Want of memory is an error.
+/// Appends what the invocation names.
 pub(crate) fn push_operand(
     alloc: Global,
     operand: &Operand<LentName<'_>>,
@@ -69,7 +69,7 @@ pub(crate) fn push_operand(
     }
 }
 
-/// Appends what a receiver's class comes to. Want of memory is an error.
+/// Appends the outcome on objects of a class.
 fn push_outcome(
     alloc: Global,
     classes: &Classes,
@@ -82,12 +82,13 @@ fn push_outcome(
     }
 }
 
+/// Appends that each call throws this.
 fn push_throws(throwable: Throwable, out: &mut String) -> Result<(), AllocError> {
     out.push_str("throws ")?;
     out.push_str(throwable_name(throwable))
 }
 
-/// Appends the table, each class with what it comes to. Want of memory is an error.
+/// Appends the table, each class with its outcome.
 fn push_table(
     alloc: Global,
     classes: &Classes,
@@ -116,7 +117,7 @@ fn push_table(
     Ok(())
 }
 
-/// Appends the link. Want of memory is an error.
+/// Appends the link.
 fn push_link(
     alloc: Global,
     classes: &Classes,
@@ -144,6 +145,7 @@ fn push_link(
     }
 }
 
+/// Appends the outcome of a link that is the same for each receiver.
 fn push_direct(
     alloc: Global,
     classes: &Classes,
@@ -156,7 +158,7 @@ fn push_direct(
     push_outcome(alloc, classes, outcome, out)
 }
 
-/// Appends how many different methods can run, where they were asked, behind this text. Want of memory is an error.
+/// Appends how many different methods can run, if they were asked, after this text.
 fn push_methods(before: &str, note: &Note, out: &mut String) -> Result<(), AllocError> {
     match &note.methods {
         Methods::Unasked => Ok(()),
@@ -169,7 +171,7 @@ fn push_methods(before: &str, note: &Note, out: &mut String) -> Result<(), Alloc
     }
 }
 
-/// Appends the methods that can run, so many at the most, if all receivers were asked for them. Want of memory is an error.
+/// Appends the methods that can run, so many at the most, if all receivers were asked for them.
 fn push_named_methods(
     alloc: Global,
     classes: &Classes,
@@ -199,7 +201,7 @@ pub(crate) fn open_class(classes: &Classes, row: &Row) -> Option<ClassId> {
     None
 }
 
-/// Appends what the invocation waits for. Want of memory is an error.
+/// Appends what the invocation waits for.
 fn push_waits(
     alloc: Global,
     classes: &Classes,
@@ -226,6 +228,7 @@ fn push_waits(
     }
 }
 
+/// Appends the nest host that is awaited.
 fn push_host(
     alloc: Global,
     classes: &Classes,
@@ -242,7 +245,7 @@ fn push_host(
     }
 }
 
-/// Appends what the invocation comes to, with so many of the methods of a megamorphic one at the most. Want of memory is an error.
+/// Appends what is found of the invocation, with so many of the methods of a megamorphic one at the most.
 pub(crate) fn push_finding(
     alloc: Global,
     classes: &Classes,

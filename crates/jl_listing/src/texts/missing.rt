@@ -20,7 +20,7 @@ struct Hanging {
     classes: u64,
 }
 
-/// The classes that aren't there: those that invocations name, and parents, where none of the files has them.
+/// The classes that aren't there: those that invocations name, and parents, if none of the files has them.
 pub(crate) struct MissingClasses {
     /// The parent that isn't there, of each class that is left out for that.
     parents: IndexMap<String, String>,
@@ -48,7 +48,7 @@ pub(crate) struct MissingClass<'a> {
     pub(crate) classes: u64,
 }
 
-/// A name as text. Want of memory is an error.
+/// A name as text.
 fn text_of(alloc: Global, name: &[u8]) -> Result<String, AllocError> {
     let mut text = String::new(alloc);
     push_name(alloc, name, &mut text)?;
@@ -65,7 +65,7 @@ impl MissingClasses {
         }
     }
 
-    /// Notes that the class of this name is left out, since this parent isn't there. Want of memory is an error.
+    /// Notes that the class of this name is left out, since this parent isn't there.
     pub(crate) fn add_parent(
         &mut self,
         alloc: Global,
@@ -82,7 +82,7 @@ impl MissingClasses {
         Ok(())
     }
 
-    /// The class that isn't there in any file, where the class of this name is left out for it; or the name itself. (Of classes that are each
+    /// The class that isn't there in any file, if the class of this name is left out for it; or the name itself. (Of classes that are each
     /// other's parents none comes first.)
     fn root_of<'a>(&'a self, name: &'a str) -> &'a str {
         let mut root = name;
@@ -95,7 +95,7 @@ impl MissingClasses {
         name
     }
 
-    /// Counts the classes that are left out, each at its root. Want of memory is an error.
+    /// Counts the classes that are left out, each at its root.
     pub(crate) fn count_classes(&mut self, alloc: Global) -> Result<(), AllocError> {
         let mut counts: IndexMap<String, u64> = IndexMap::new(alloc);
         for name in &self.reported {
@@ -118,7 +118,7 @@ impl MissingClasses {
         Ok(())
     }
 
-    /// Counts the invocation, where it waits for the class that it names. Want of memory is an error.
+    /// Counts the invocation, if it waits for the class that it names.
     pub(crate) fn add(
         &mut self,
         alloc: Global,
@@ -145,7 +145,7 @@ impl MissingClasses {
         Ok(())
     }
 
-    /// The classes that aren't there, those first on which most hangs. Want of memory is an error.
+    /// The classes that aren't there, those first on which most hangs.
     pub(crate) fn sorted(&self, alloc: Global) -> Result<Vec<MissingClass<'_>>, AllocError> {
         let mut sorted = Vec::with_capacity(alloc, self.hanging.len())?;
         for (name, hanging) in &self.hanging {
@@ -165,7 +165,7 @@ impl MissingClasses {
         Ok(sorted)
     }
 
-    /// The circles of classes that are each other's parents. Want of memory is an error.
+    /// The circles of classes that are each other's parents.
     pub(crate) fn circles(&self, alloc: Global) -> Result<Vec<String>, AllocError> {
         let mut circles = Vec::new(alloc);
         // The turn in which a class was met first.
@@ -178,8 +178,7 @@ impl MissingClasses {
         Ok(circles)
     }
 
-    /// The class that is met again in this turn, from the class of this name upward, where no earlier turn has met one. Want of memory is an
-    /// error.
+    /// The class that is met again in this turn, from the class of this name upward, if no earlier turn has met one.
     fn met_again<'a>(
         &'a self,
         met: &mut IndexMap<&'a str, usize>,
@@ -221,7 +220,7 @@ impl MissingClasses {
         least
     }
 
-    /// The circle on which this class is, from its least name on, each class before its parent. Want of memory is an error.
+    /// The circle on which this class is, from its least name on, each class before its parent.
     fn circle_at(&self, alloc: Global, met: &str) -> Result<String, AllocError> {
         let first = self.least_on_circle(met);
         let mut text = String::from_str(alloc, first)?;
@@ -239,7 +238,7 @@ impl MissingClasses {
         Ok(text)
     }
 
-    /// Appends the classes on which most hangs, and those that are each other's parents, if there are any. Want of memory is an error.
+    /// Appends the classes on which most hangs, and those that are each other's parents, if there are any.
     pub(crate) fn push(&self, alloc: Global, out: &mut String) -> Result<(), AllocError> {
         if !self.hanging.is_empty() {
             push_missing_classes(alloc, &self.sorted(alloc)?, out)?;
@@ -256,7 +255,6 @@ impl<'a> MissingClass<'a> {
 }
 
 /// Appends how many classes there are, and of the first of them how many invocations wait for each, and how many classes are left out below it.
-/// Want of memory is an error.
 fn push_missing_classes(
     alloc: Global,
     sorted: &[MissingClass<'_>],
@@ -282,7 +280,7 @@ fn push_missing_classes(
     Ok(())
 }
 
-/// Appends how many circles of parents there are, and the first of them. Want of memory is an error.
+/// Appends how many circles of parents there are, and the first of them.
 fn push_circles(alloc: Global, circles: &[String], out: &mut String) -> Result<(), AllocError> {
     let all = circles.len();
     if all == 0 {

@@ -6,7 +6,7 @@ use std::char::decode_utf16;
 use std::str::from_utf8;
 
 /// Appends a name in modified UTF-8 as text (JVMS SE 17 §4.4.7). Two surrogates are their character. A lone one is written as `\ud800`, and a
-/// backslash as `\u005c`, so two names never make one text. Want of memory is an error.
+/// backslash as `\u005c`, so two names never make one text.
 pub(crate) fn push_name(alloc: Global, name: &[u8], out: &mut String) -> Result<(), AllocError> {
     // What is UTF-8, too, is the same text in both.
     match from_utf8(name) {
@@ -15,7 +15,7 @@ pub(crate) fn push_name(alloc: Global, name: &[u8], out: &mut String) -> Result<
     }
 }
 
-/// The same, character after character.
+/// Appends a name in modified UTF-8 as text, character after character.
 fn push_units(alloc: Global, name: &[u8], out: &mut String) -> Result<(), AllocError> {
     let units = match decode_mutf8(alloc, name) {
         Ok(units) => units,
@@ -33,19 +33,20 @@ fn push_units(alloc: Global, name: &[u8], out: &mut String) -> Result<(), AllocE
     Ok(())
 }
 
-/// Appends the number of a character, or of half of one, as `\u001b`. Want of memory is an error.
+/// Appends the number of a character, or of half of one, as `\u001b`.
 fn push_code(code: u32, out: &mut String) -> Result<(), AllocError> {
     write!(out, "\\u{code:04x}")
 }
 
 /// Appends the text of a line, and ends the line. A character that would end it, drive a terminal or turn the direction of what stands beside
-/// it is written by its number. Want of memory is an error.
+/// it is written by its number.
 pub(crate) fn push_line(line: &str, out: &mut String) -> Result<(), AllocError> {
     push_shown(line, out)?;
     out.push('\n')
 }
 
-/// Appends the text of a line, or of a part of one, in the same way.
+/// Appends the text of a line, or of a part of one. A character that would end a line, drive a terminal or turn the direction of what
+/// stands beside it is written by its number.
 pub(crate) fn push_shown(text: &str, out: &mut String) -> Result<(), AllocError> {
     if is_plain(text) {
         return out.push_str(text);

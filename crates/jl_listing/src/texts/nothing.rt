@@ -6,7 +6,7 @@ use crate::texts::text::{Reason, count_reasons, push_advice, push_kind, text_in}
 use indexmap::IndexMap;
 use std::alloc::{AllocError, Global};
 
-/// The reason for which most of the files are left out whose classes would be reported, the first of several. Want of memory is an error.
+/// The reason for which most of the files are left out whose classes would be reported, the first of several.
 fn most_frequent(alloc: Global, left_out: &[LeftOut]) -> Result<Option<Reason<'_>>, AllocError> {
     let mut reasons = IndexMap::new(alloc);
     count_reasons(left_out, Whose::Reported, &mut reasons)?;
@@ -33,7 +33,7 @@ fn said_of(refused: &str, release: bool) -> &'static str {
     }
 }
 
-/// Appends why no class of the paths is there: the most frequent reason, and what to do. Want of memory is an error.
+/// Appends why no class of the paths is there: the most frequent reason, and what to do.
 pub(crate) fn push_nothing(
     alloc: Global,
     left_out: &[LeftOut],

@@ -13,7 +13,7 @@ use jl_types::ClassId;
 use serde_json::Value;
 use std::alloc::{AllocError, Global};
 
-/// Appends the class and the method. Want of memory is an error.
+/// Appends the class and the method.
 pub(crate) fn push_method_line(
     alloc: Global,
     file: &ClassFile,
@@ -26,14 +26,14 @@ pub(crate) fn push_method_line(
     push_line(line.as_str(), out)
 }
 
-/// Appends the method after its class. Want of memory is an error.
+/// Appends the method after its class.
 fn push_method_end(alloc: Global, method: &Method<'_>, out: &mut String) -> Result<(), AllocError> {
     out.push('.')?;
     push_name(alloc, method.name().as_slice(), out)?;
     push_name(alloc, method.ty().as_slice(), out)
 }
 
-/// Appends the invocation and what it comes to. Want of memory is an error.
+/// Appends the invocation and what is found of it.
 pub(crate) fn push_site_line(
     alloc: Global,
     classes: &Classes,
@@ -52,7 +52,7 @@ pub(crate) fn push_site_line(
     push_line(line.as_str(), out)
 }
 
-/// Appends the invocation, which stands in this method, and what it comes to once this class drops its link. Want of memory is an error.
+/// Appends the invocation, which stands in this method, and what is found of it once this class drops its link.
 pub(crate) fn push_dropped(
     alloc: Global,
     classes: &Classes,
@@ -84,7 +84,7 @@ const MOST_NAMED: usize = 8;
 /// What to do with an archive.
 const ADVICE: &str = ": its classes have to be unpacked first (unzip, or tools/classes.py)";
 
-/// Appends why a file is left out: the name of the refusal, what it is about, and what to do, if that is known. Want of memory is an error.
+/// Appends why a file is left out: the name of the refusal, what it is about, and what to do, if that is known.
 pub(crate) fn push_reason(answer: &Value, out: &mut String) -> Result<(), AllocError> {
     let name = text_in(answer, "refused").unwrap_or("");
     push_kind(name, answer, out)?;
@@ -97,8 +97,7 @@ pub(crate) fn push_reason(answer: &Value, out: &mut String) -> Result<(), AllocE
     push_advice(name, out)
 }
 
-/// Appends the name of the refusal, and of a version that isn't read the version, with the option that takes it, if one does. Want of memory
-/// is an error.
+/// Appends the name of the refusal, and of a version that isn't read the version, with the option that takes it, if one does.
 pub(crate) fn push_kind(name: &str, answer: &Value, out: &mut String) -> Result<(), AllocError> {
     out.push_str(name)?;
     let Some(version) = text_in(answer, "version") else {
@@ -112,7 +111,7 @@ pub(crate) fn push_kind(name: &str, answer: &Value, out: &mut String) -> Result<
     out.push_str(" takes it)")
 }
 
-/// Appends what to do with files that are refused so, if that is known. Want of memory is an error.
+/// Appends what to do with files that are refused so, if that is known.
 pub(crate) fn push_advice(name: &str, out: &mut String) -> Result<(), AllocError> {
     if name == "Archive" {
         out.push_str(ADVICE)?;
@@ -120,8 +119,8 @@ pub(crate) fn push_advice(name: &str, out: &mut String) -> Result<(), AllocError
     Ok(())
 }
 
-/// Appends how many files are left out: those of classes that would be reported, each or how many for each reason, and how many others,
-/// with how many of these are of which version that isn't read. Want of memory is an error.
+/// Appends how many files are left out. Those of classes that would be reported are told each, or by how many for each reason. Of the
+/// others it appends how many there are, and how many of them are of which version that isn't read.
 pub(crate) fn push_all_left_out(
     alloc: Global,
     left_out: &[LeftOut],
@@ -147,7 +146,7 @@ pub(crate) fn push_all_left_out(
     push_reasons(alloc, left_out, Whose::Beside, out)
 }
 
-/// Appends how many of the files that are left out are such, where there are any. Want of memory is an error.
+/// Appends how many of the files that are left out are such, if there are any.
 fn push_count(
     head: &str,
     left_out: &[LeftOut],
@@ -181,7 +180,7 @@ pub(crate) struct Reason<'a> {
     pub(crate) first: &'a LeftOut,
 }
 
-/// Counts the files that are left out and are such, for each reason. Want of memory is an error.
+/// Counts the files that are left out and are such, for each reason.
 pub(crate) fn count_reasons<'a>(
     left_out: &'a [LeftOut],
     whose: Whose,
@@ -205,7 +204,7 @@ pub(crate) fn count_reasons<'a>(
     Ok(())
 }
 
-/// Appends for which reasons such files are left out, each with its count and the first of its files. Want of memory is an error.
+/// Appends for which reasons such files are left out, each with its count and the first of its files.
 fn push_reasons(
     alloc: Global,
     left_out: &[LeftOut],
@@ -233,6 +232,7 @@ pub(crate) fn text_in<'a>(answer: &'a Value, key: &str) -> Option<&'a str> {
     answer.get(key)?.as_str()
 }
 
+/// Appends the number under the key after this text, if there is one.
 fn push_place(before: &str, answer: &Value, key: &str, out: &mut String) -> Result<(), AllocError> {
     let Some(value) = answer.get(key) else {
         return Ok(());

@@ -1,4 +1,4 @@
-//! How many invocations come to what, in words.
+//! How many invocations of each instruction have which shape, in words.
 
 use crate::texts::links::push_number;
 use crate::told::Note;
@@ -48,7 +48,7 @@ pub(crate) const SHAPES_BY_KEY: [(Shape, &str); 8] = [
     (Shape::Waits, "waits"),
 ];
 
-/// How many invocations of each instruction come to each shape, and in how many classes and methods.
+/// How many invocations of each instruction have each shape, and in how many classes and methods.
 pub(crate) struct Summary {
     pub(crate) totals: Totals,
     /// Those of tables and megamorphic links whose receivers all run one method.
@@ -131,7 +131,7 @@ impl Summary {
         sum
     }
 
-    /// Appends them, those that there are. Want of memory is an error.
+    /// Appends them, those that there are.
     pub(crate) fn push(&self, out: &mut String) -> Result<(), AllocError> {
         push_number(self.all(), out)?;
         out.push_str(" invocations in ")?;
@@ -145,8 +145,7 @@ impl Summary {
         self.push_later(out)
     }
 
-    /// Appends how many class files are of a version above those of SE 17, and how they are linked, if there are any. Want of memory is an
-    /// error.
+    /// Appends how many class files are of a version above those of SE 17, and how they are linked, if there are any.
     fn push_later(&self, out: &mut String) -> Result<(), AllocError> {
         if self.later == 0 {
             return Ok(());
@@ -156,6 +155,7 @@ impl Summary {
         write!(out, "{head:<28}{count:>12}  linked as SE 17 says\n")
     }
 
+    /// Appends how many invocations there are of this instruction, and of each shape.
     fn push_kind(&self, kind: Kind, out: &mut String) -> Result<(), AllocError> {
         let all = self.of_kind(kind);
         if all == 0 {
@@ -176,7 +176,7 @@ impl Summary {
     }
 }
 
-/// Appends the share, where it is any. Want of memory is an error.
+/// Appends the share, if it is any.
 fn push_share(name: &str, count: u64, all: u64, out: &mut String) -> Result<(), AllocError> {
     if count == 0 {
         return Ok(());

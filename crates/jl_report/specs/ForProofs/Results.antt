@@ -10,10 +10,10 @@ closes in_name b = not in_name && (b == byte ")")
 abbrev pub still_in_name : Bool → ℕ → Bool
 still_in_name in_name b = if in_name then not (b == byte ";") else b == byte "L"
 
--- what stands behind the parameters
-abbrev pub behind_parameters : Bool → List ℕ → List ℕ
-behind_parameters in_name [] = []
-behind_parameters in_name (b ∷ bs) = if closes in_name b then bs else behind_parameters (still_in_name in_name b) bs
+-- what stands after the parameters
+abbrev pub after_parameters : Bool → List ℕ → List ℕ
+after_parameters in_name [] = []
+after_parameters in_name (b ∷ bs) = if closes in_name b then bs else after_parameters (still_in_name in_name b) bs
 
 -- the name between L and the last byte, a semicolon
 abbrev pub class_named : List ℕ → Option (List ℕ)
@@ -21,4 +21,4 @@ class_named [] = None
 class_named (b ∷ bs) = if b == byte "L" then Some (take (length bs - 1) bs) else None
 
 abbrev pub result_class : List ℕ → Option (List ℕ)
-result_class text = class_named (behind_parameters false text)
+result_class text = class_named (after_parameters false text)

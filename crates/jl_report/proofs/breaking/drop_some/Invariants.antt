@@ -1,12 +1,10 @@
-use Rattle.std.proofs.Common.{◌≡◌, length}
-use Rattle.jl_report.specs.Reports.{IsBare}
+use Rattle.std.proofs.Common.{length}
 use Rattle.jl_report.proofs.DropLaws.{Parted}
 use Rattle.jl_report.proofs.breaking.drop_some.Given as goal
 
 abbrev pub invariant-loop-before : goal.invariant-loop-before
 invariant-loop-before l =
-    Parted l.fn.world.classes l.keys l.fn.rows.items l.rows.items l.left.items l.fn.dropped.items l.dropped.items
-    × (l.world.classes ≡ l.fn.world.classes) × IsBare l.world
+    Parted l.classes l.keys l.fn.rows.items l.rows.items l.left.items l.fn.dropped.items l.dropped.items
 
 abbrev pub decreases-loop-before : goal.decreases-loop-before
 decreases-loop-before l = length l.rows.items

@@ -1,7 +1,7 @@
 use Rattle.std.proofs.Common.{sym, subst}
 use Rattle.jl_report.specs.ForProofs.Waiting.{AreStuck}
 use Rattle.jl_report.proofs.GatherLaws.{AreToldOf, is_stuck, one_told}
-use Rattle.jl_report.proofs.defining.refusals.Goals as goal
+use Rattle.jl_report.proofs.defining.Rounds.refusals.Goals as goal
 
 pub refusal-requires : goal.refusal-requires
 refusal-requires c =
@@ -11,7 +11,7 @@ refusal-requires c =
 pub loop-one-preserved : goal.loop-one-preserved
 loop-one-preserved c =
     let cs = c.args.classes.now in
-    let before = c.args.waiting.items in
+    let before = c.args.self.waiting.items in
     let left = c.pop.new.self.items in
     let refused = c.loop-one.refused.items in
     subst (AreToldOf cs before left) (sym c.in_ok-push.ensures.items)
