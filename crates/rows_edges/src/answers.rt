@@ -22,7 +22,7 @@ use std::alloc::{AllocError, Global};
 enum Kind {
     Outcomes,
     Links,
-    /// Rows of links, and the same as they are prepared.
+    /// Rows of links, and these rows as a preparation gives them.
     Lists,
     Calls,
     /// Replies that drop the sites 1 and 4.

@@ -41,7 +41,7 @@ fn tells_its_status_and_its_line(rt: HostRuntime) {
     }
 }
 
-/// Whether the fault's text is what the line of this ending says behind the program's name.
+/// Whether the fault's text is what the line of this ending says after the program's name.
 fn is_said(alloc: Global, fault: impl Display + Drop, ending: Ending) -> bool {
     match format!(in alloc; "linkd: {fault}\n") {
         Ok(line) => line.as_str() == ending.line(),

@@ -293,7 +293,7 @@ fn other_plain(alloc: Global, names: &[&str]) -> Option<usize> {
     None
 }
 
-/// The same with no more than a number.
+/// The first of the names that isn't that of the event's refusal with no more than a number, if there is one.
 fn other_numbered(alloc: Global, names: &[&str]) -> Option<usize> {
     for (place, name) in names.iter().enumerate() {
         if !is_refused(alloc, &numbered(place), name) {
@@ -303,7 +303,7 @@ fn other_numbered(alloc: Global, names: &[&str]) -> Option<usize> {
     None
 }
 
-/// The same of a definition for what is above it.
+/// The first of the names that isn't that of a definition that is refused for what is above it, if there is one.
 fn other_parent(alloc: Global, names: &[&str]) -> Option<usize> {
     for (place, name) in names.iter().enumerate() {
         if !is_parent_fault(alloc, place, name) {
@@ -313,7 +313,7 @@ fn other_parent(alloc: Global, names: &[&str]) -> Option<usize> {
     None
 }
 
-/// A name is refused where it is part of something, and so by no answer of its own.
+/// A name is refused if it is part of something, and so by no answer of its own.
 const NAMES: &[(NameFault, &str)] = &[
     (NameFault::BadByte(3), "BadByte"),
     (NameFault::Truncated, "Truncated"),

@@ -4,7 +4,7 @@ use crate::devices::{Pieces, SlowWriter};
 use jl_cli::{Counted, FailAt, LineFault, Mode, run_lines};
 use std::alloc::Global;
 
-/// Lines with their answers, each answer ended by a newline, and how many bytes a read gives and a write takes where reads fail.
+/// Lines with their answers, each answer ended by a newline, and how many bytes a read gives and a write takes if reads fail.
 struct Script {
     mode: Mode,
     lines: &'static str,
@@ -61,7 +61,7 @@ struct Way {
     failing_write: u64,
 }
 
-/// A run by one byte a read and one a write, none of which fails.
+/// A run by one byte a read and one a write: no read or write fails.
 const BYTES: Way = Way {
     given: 1,
     taken: 1,

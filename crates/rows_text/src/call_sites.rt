@@ -79,7 +79,7 @@ fn tell(told: &mut Told, world: &mut World, words: &[&str]) {
     }
 }
 
-/// Obeys the command, where it changes the call sites and switch points.
+/// Obeys the command, if it changes the call sites and switch points.
 pub(crate) fn obey(told: &mut Told, world: &mut World, words: &[&str]) {
     match *words {
         ["switch-point"] => match world.sites.new_switch(65_536) {

@@ -113,7 +113,7 @@ fn tell(told: &mut Told, classes: &Classes, words: &[&str]) {
     }
 }
 
-/// Obeys the command, where it changes the loaders and classes.
+/// Obeys the command, if it changes the loaders and classes.
 pub(crate) fn obey(told: &mut Told, classes: &mut Classes, words: &[&str]) {
     match *words {
         ["loader"] => match classes.new_loader(told.alloc(), 1_024) {

@@ -62,8 +62,8 @@ fn up_to_part<'a, 'b>(words: &'b [&'a str]) -> &'b [&'a str] {
 /// The words of the part that the word of this number begins.
 fn part<'a, 'b>(words: &'b [&'a str], head: u8) -> &'b [&'a str] {
     let up_to_head = before(words, head, head).saturating_add(1);
-    let (_, behind) = words.split_at(up_to_head.min(words.len()));
-    up_to_part(behind)
+    let (_, later) = words.split_at(up_to_head.min(words.len()));
+    up_to_part(later)
 }
 
 /// The one name of a part, if it is there.
@@ -108,7 +108,7 @@ fn call(told: &mut Told, opcode: &str, itf: bool, word: &str) -> Option<Call> {
     }
 }
 
-/// The calls of a method, in order. Behind each instruction's name comes a call.
+/// The calls of a method, in order. After each instruction's name comes a call.
 fn calls(told: &mut Told, words: &[&str]) -> Seq<Call> {
     let mut calls = Vec::new(told.alloc());
     let mut opcode = "";
@@ -135,7 +135,7 @@ fn calls(told: &mut Told, words: &[&str]) -> Seq<Call> {
 /// The method of these words.
 fn method(told: &mut Told, words: &[&str]) -> Option<SketchMethod> {
     let (before, rest) = cut(words, SIGNATURE, SIGNATURE);
-    let Some((first, behind)) = rest.split_first() else {
+    let Some((first, later)) = rest.split_first() else {
         told.refuse();
         return None;
     };
@@ -144,7 +144,7 @@ fn method(told: &mut Told, words: &[&str]) -> Option<SketchMethod> {
         name,
         ty,
         flags: flags(told, before),
-        calls: calls(told, behind),
+        calls: calls(told, later),
     })
 }
 
@@ -182,19 +182,21 @@ fn sketch_of(told: &mut Told, name: &str, words: &[&str]) -> Option<Sketch> {
     })
 }
 
-/// What is read of the class file of the sketch.
-fn file_of(told: &mut Told, sketch: &Sketch) -> Option<ClassFile> {
-    if let Ok(bytes) = write_class(told.alloc(), sketch) {
-        if let Ok(file) = read_class(told.alloc(), &bytes) {
-            return Some(file);
+/// The bytes of the class file of the class of this name, by the words after it.
+pub(crate) fn bytes(told: &mut Told, name: &str, words: &[&str]) -> Vec<u8> {
+    if let Some(sketch) = sketch_of(told, name, words) {
+        if let Ok(bytes) = write_class(told.alloc(), &sketch) {
+            return bytes;
         }
     }
     told.refuse();
-    None
+    Vec::new(told.alloc())
 }
 
-/// The class file of the class of this name, by the words behind it.
+/// What is read of that class file.
 pub(crate) fn file(told: &mut Told, name: &str, words: &[&str]) -> Option<ClassFile> {
-    let sketch = sketch_of(told, name, words)?;
-    file_of(told, &sketch)
+    let bytes = bytes(told, name, words);
+    let file = read_class(told.alloc(), &bytes).ok();
+    told.refuse_unless(file.is_some());
+    file
 }

@@ -45,7 +45,7 @@ fn receiver(told: &mut Told, word: &str) -> Recv {
     }
 }
 
-/// Tells what the calls of the site on these receivers come to.
+/// Tells the answers to the calls of the site on these receivers.
 fn call_all(told: &mut Told, world: &World, site: &str, receivers: &[&str]) {
     let site = words::site(told, site);
     for word in receivers {

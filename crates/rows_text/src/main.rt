@@ -1,6 +1,6 @@
-//! Worked rows of classes, methods, call sites, links and what links rest on, as text. The words of the program name files in the folder
-//! that it runs in. For each it prints how many rows there are and how many of them differ, and before that each row that differs: the
-//! file, the line of the command, the command, the answer in the text and the one that came.
+//! Worked rows of classes, methods, call sites, links, what links rest on, and hosts, as text. The words of the program name files in the folder
+//! that it runs in. For each file it prints each row that differs: the file, the line of the command, the command, the answer in the text
+//! and the one that came. After these it prints how many rows there are and how many of them differ.
 //!
 //! docs/ROWS.md says what the lines and the commands are.
 #![tactic(auto)]
@@ -8,6 +8,7 @@
 mod call_sites;
 mod classes;
 mod definitions;
+mod host;
 mod links;
 mod methods;
 mod rows;

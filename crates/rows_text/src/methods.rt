@@ -38,7 +38,7 @@ fn tell_reference(
     }
 }
 
-/// The same of the reference of this word.
+/// Tells what is asked of a caller and the reference to a method that this word names.
 fn tell_caller(
     told: &mut Told,
     classes: &Classes,

@@ -1,5 +1,6 @@
 //! The rows of a file, one after another.
 
+use crate::host::{self, Host};
 use crate::links::answer;
 use crate::told::Told;
 use crate::words::number;
@@ -7,11 +8,13 @@ use jl_relink::World;
 use std::alloc::{AllocError, Global};
 use std::io;
 
-/// What has come of the lines so far: the world of this table; the row that is being read, by the number of its first line, the words of
-/// its command and those of its answer; and how many rows there were and how many of them differ.
+/// What has come of the lines so far: the world or the host of this table, the row that is being read, how many rows there were, and how many
+/// of them differ. The row is the number of its first line, the words of its command and those of its answer.
 pub(crate) struct Rows<'a> {
     file: &'a str,
     world: World,
+    host: Host,
+    is_host: bool,
     line: usize,
     command: Vec<&'a str>,
     want: Vec<&'a str>,
@@ -26,6 +29,8 @@ impl<'a> Drop for Rows<'a> {
         let Rows {
             file: _file,
             world: _world,
+            host: _host,
+            is_host: _is_host,
             line: _line,
             command: _command,
             want: _want,
@@ -36,7 +41,7 @@ impl<'a> Drop for Rows<'a> {
     }
 }
 
-/// Tells what the command is answered: the last answer where it is repeated.
+/// Tells what the command is answered: the last answer if it is repeated.
 fn answered(told: &mut Told, world: &mut World, command: &[&str]) {
     match *command {
         ["repeat", count, ref command @ ..] => {
@@ -65,6 +70,8 @@ impl<'a> Rows<'a> {
         Ok(Rows {
             file,
             world: World::new(alloc)?,
+            host: Host::new(alloc),
+            is_host: false,
             line: 0,
             command: Vec::new(alloc),
             want: Vec::new(alloc),
@@ -85,7 +92,7 @@ impl<'a> Rows<'a> {
         )
     }
 
-    /// Tells of the row where the text has another answer than came, or none.
+    /// Tells of the row if the text has another answer than came, or none.
     fn compare(&mut self, rt: &(impl Print + AllocGlobal), came: &str) -> io::Result<()> {
         let mut want = Told::new(rt.alloc());
         want.words(&self.want);
@@ -97,11 +104,15 @@ impl<'a> Rows<'a> {
         self.print_row(rt, want, came)
     }
 
-    /// Answers the command of the row that was read, and tells of it where it differs.
+    /// Answers the command of the row that was read, and tells of it if it differs.
     fn judge(&mut self, rt: &(impl Print + AllocGlobal)) -> io::Result<()> {
         self.rows = self.rows.saturating_add(1);
         let mut told = Told::new(rt.alloc());
-        answered(&mut told, &mut self.world, &self.command);
+        if self.is_host {
+            host::answer(&mut told, &mut self.host, &self.command);
+        } else {
+            answered(&mut told, &mut self.world, &self.command);
+        }
         self.compare(rt, told.answer()?)
     }
 
@@ -138,6 +149,8 @@ impl<'a> Rows<'a> {
             Some(b'=') => {
                 self.end_row(rt)?;
                 self.world = World::new(rt.alloc())?;
+                self.host = Host::new(rt.alloc());
+                self.is_host = text.starts_with("= host:");
                 Ok(())
             }
             Some(b'>') => {

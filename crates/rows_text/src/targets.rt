@@ -76,7 +76,7 @@ fn last(told: &mut Told, parts: &mut Vec<Target>) -> Option<Target> {
     part
 }
 
-/// The target that the word makes of the number and the parts behind it.
+/// The target that the word makes of the number and the parts after it.
 fn made(told: &mut Told, parts: &mut Vec<Target>, number: u32, word: &str) -> Option<Target> {
     match word {
         "guard" => {
@@ -100,19 +100,19 @@ fn made(told: &mut Told, parts: &mut Vec<Target>, number: u32, word: &str) -> Op
 
 /// Reads the words, from the last one on, and keeps the parts, of which the first one is the last.
 fn read_all(told: &mut Told, parts: &mut Vec<Target>, words: &[&str]) {
-    let mut behind = None;
+    let mut later = None;
     for word in words.iter().rev() {
-        if let Some(number) = behind.take() {
+        if let Some(number) = later.take() {
             let target = made(told, parts, number, word);
             keep(told, parts, target);
         } else if word.contains('.') {
             let method = method(told, word);
             keep(told, parts, Some(Target::method(method)));
         } else {
-            behind = Some(number(told, word));
+            later = Some(number(told, word));
         }
     }
-    told.refuse_unless(behind.is_none());
+    told.refuse_unless(later.is_none());
 }
 
 /// The target of these words.

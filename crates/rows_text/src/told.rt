@@ -9,8 +9,8 @@ use std::alloc::{AllocError, Global};
 use std::fmt::{Debug, Write};
 use std::str;
 
-/// The answer so far, a blank behind each part; whether there is no such command, or no such part of it; and whether memory was wanting.
-/// So what tells has no exits, and whoever reads a word that is none notes it here.
+/// The answer so far, with a blank after each part. It notes whether there is no such command, or no such part of it, and whether memory
+/// was wanting. So what tells has no exits, and whoever reads a word that is none notes it here.
 pub(crate) struct Told {
     alloc: Global,
     text: String,
@@ -51,7 +51,7 @@ impl Told {
         self.is_none = true;
     }
 
-    /// Notes the same unless this is so.
+    /// Notes that there is no such command, or no such part of it, unless this is so.
     pub(crate) fn refuse_unless(&mut self, is_so: bool) {
         self.is_none |= !is_so;
     }
@@ -64,6 +64,11 @@ impl Told {
     /// Forgets the answer so far.
     pub(crate) fn clear(&mut self) {
         self.text.clear();
+    }
+
+    /// Whether the answer so far is that a call of a host is done.
+    pub(crate) fn is_done(&self) -> bool {
+        self.text.starts_with("DONE")
     }
 
     /// The whole answer.
@@ -82,11 +87,16 @@ impl Told {
         self.lacks |= self.text.push_str(text).is_err();
     }
 
+    /// Tells a word, and a blank after it.
+    pub(crate) fn word(&mut self, word: &str) {
+        self.put(word);
+        self.put(" ");
+    }
+
     /// Tells words, in order.
     pub(crate) fn words(&mut self, words: &[&str]) {
         for word in words {
-            self.put(word);
-            self.put(" ");
+            self.word(word);
         }
     }
 
@@ -96,11 +106,11 @@ impl Told {
     }
 
     /// Tells a number as it is.
-    fn number(&mut self, number: u32) {
+    pub(crate) fn number(&mut self, number: u32) {
         self.lacks |= write!(self.text, "{number}").is_err();
     }
 
-    /// Tells a number behind a word.
+    /// Tells a number after a word.
     fn numbered(&mut self, word: &str, number: u32) {
         self.put(word);
         self.number(number);
@@ -212,7 +222,7 @@ impl Told {
         }
     }
 
-    /// Tells what a call comes to.
+    /// Tells the answer to a call.
     pub(crate) fn call(&mut self, answer: Answer) {
         match answer {
             Answer::Run(found) => self.method(found),
@@ -222,7 +232,7 @@ impl Told {
         }
     }
 
-    /// Tells a key, behind a comma where it isn't the first one.
+    /// Tells a key, after a comma if it isn't the first one.
     fn key(&mut self, kind: &str, number: u32) {
         if !self.text.is_empty() {
             self.put(", ");

@@ -55,8 +55,8 @@ pub(crate) fn switch_points(told: &mut Told, words: &[&str]) -> Vec<SwitchId> {
     points
 }
 
-/// What stands before the first such sign, and what behind it.
-fn cut<'a>(told: &mut Told, word: &'a str, sign: char) -> (&'a str, &'a str) {
+/// What stands before the first such sign, and what after it.
+pub(crate) fn cut<'a>(told: &mut Told, word: &'a str, sign: char) -> (&'a str, &'a str) {
     match word.split_once(sign) {
         Some(parts) => parts,
         None => {
@@ -117,6 +117,18 @@ pub(crate) fn three_names(told: &mut Told, word: &str) -> Option<(Name, Name, Na
     Some((owner, name, ty))
 }
 
+/// The flag of this name that a method alone has (JVMS SE 17 §4.6).
+fn method_flag(told: &mut Told, word: &str) -> u16 {
+    match word {
+        "varargs" => 0x0080,
+        "native" => 0x0100,
+        _ => {
+            told.refuse();
+            0
+        }
+    }
+}
+
 /// The flag of this name, without ACC_ (JVMS SE 17 §4.1, §4.6).
 fn flag(told: &mut Told, word: &str) -> u16 {
     match word {
@@ -128,10 +140,7 @@ fn flag(told: &mut Told, word: &str) -> u16 {
         "super" => 0x0020,
         "interface" => 0x0200,
         "abstract" => 0x0400,
-        _ => {
-            told.refuse();
-            0
-        }
+        _ => method_flag(told, word),
     }
 }
 
