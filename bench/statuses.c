@@ -120,7 +120,7 @@ static void closed(linkd_seat *seat) {
     MUST(linkd_method_name(at, 0, 0, (uint8_t *)sites, sizeof sites, &length) == LINKD_CLOSED);
     MUST(linkd_method_type(at, 0, 0, (uint8_t *)sites, sizeof sites, &length) == LINKD_CLOSED);
     MUST(linkd_invocations(at, 0, 0, invocations, 4, &length) == LINKD_CLOSED);
-    MUST(linkd_named(at, (uint8_t *)sites, sizeof sites, &length) == LINKD_CLOSED);
+    MUST(linkd_refused_name(at, (uint8_t *)sites, sizeof sites, &length) == LINKD_CLOSED);
     MUST(linkd_awaited(at, 0, (uint8_t *)sites, sizeof sites, &length) == LINKD_CLOSED);
     MUST(linkd_last_work(at, &(uint64_t){0}) == LINKD_CLOSED);
     MUST(linkd_catch_up(at) == LINKD_CLOSED);
@@ -591,7 +591,7 @@ int main(void) {
     MUST(linkd_link_of(at, 1, &link) == LINKD_DONE && link.kind == LINKD_DIRECT && row_is(&link.rows[0], 0, LINKD_RUN, 1, 0));
     MUST(linkd_link_of(at, 2, &link) == LINKD_DONE && link.kind == LINKD_PLAIN && row_is(&link.rows[0], 0, LINKD_RUN, 3, 0));
 
-    /* Calls, and a seat behind an invalidation. */
+    /* Calls, and a seat after an invalidation. */
     MUST(comes_to(linkd_call(at, 1, LINKD_NULL, &answer), LINKD_THROWS, 0, LINKD_NULL_POINTER_EXCEPTION));
     MUST(comes_to(linkd_call(at, 1, 1, &answer), LINKD_RUN, 1, 0));
     MUST(linkd_call(at, 1, 0, &answer) == LINKD_DONE && answer.kind == LINKD_BAD_RECEIVER);

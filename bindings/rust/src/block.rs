@@ -24,7 +24,7 @@ impl Block {
 
 impl Drop for Block {
     fn drop(&mut self) {
-        // SAFETY: it is of this layout, and nothing of it is used behind this.
+        // SAFETY: it is of this layout, and nothing of it is used after this.
         unsafe { dealloc(self.at.as_ptr().cast(), self.layout) }
     }
 }

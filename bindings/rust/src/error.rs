@@ -82,8 +82,8 @@ numbered! {
         TwoCodes = 9: "a method has two codes",
         /// A code isn't as it must be.
         Code = 10: "a code is bad",
-        /// It goes on behind its end.
-        TrailingBytes = 11: "it goes on behind its end",
+        /// It goes on after its end.
+        TrailingBytes = 11: "it goes on after its end",
         /// A field or a method isn't as it must be.
         BadMember = 12: "a field or a method is bad",
         /// A number names a wrong entry of the pool.

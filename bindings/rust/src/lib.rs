@@ -13,7 +13,7 @@
 //! ```
 //!
 //! What the header says that a host owes is kept by types: a linker, a seat, a memo, a view and a renewal lie in blocks that aren't moved and go with
-//! them, each call borrows its own alone (`&mut`), and ids are numbers that a linker may have given. Behind a `Mutex` a linker is shared by
+//! them, each call borrows its own alone (`&mut`), and ids are numbers that a linker may have given. After a `Mutex` a linker is shared by
 //! threads, of which each has a [`Seat`], a [`Memo`] for megamorphic links, and a [`View`] if it compiles. One thing is left to the
 //! program, since no type says it: it makes no call from a signal handler, or in a forked child of a process with threads.
 mod answer;

@@ -125,7 +125,7 @@ impl Linker {
     }
 
     /// Defines a class, after its parents: [`DefineFault::MissingParent`](crate::DefineFault::MissingParent) is no end, and
-    /// [`named_class`](Linker::named_class) names the parent. The major version of its file is 45 to [`NEWEST_OF_17`](crate::NEWEST_OF_17).
+    /// [`refused_name`](Linker::refused_name) names the parent. The major version of its file is 45 to [`NEWEST_OF_17`](crate::NEWEST_OF_17).
     pub fn define_in(&mut self, loader: LoaderId, file: &[u8]) -> Result<ClassId, Error> {
         let mut told = Told::default();
         let status = unsafe { raw::linkd_define(self.at(), loader.0, file.as_ptr(), file.len(), &mut told) };
@@ -429,9 +429,9 @@ impl Linker {
     /// [`DefineFault::MissingParent`](crate::DefineFault::MissingParent), [`NotAnInterface`](crate::DefineFault::NotAnInterface) or
     /// [`InaccessibleParent`](crate::DefineFault::InaccessibleParent). None where it told of none. [`Error::NoClassFile`] and
     /// [`Error::Malformed`] leave what the event before has told, and so does [`answer`](Linker::answer).
-    pub fn named_class(&mut self) -> Option<Vec<u8>> {
+    pub fn refused_name(&mut self) -> Option<Vec<u8>> {
         let at = self.at();
-        copied(|out, capacity, length| unsafe { raw::linkd_named(at, out, capacity, length) })
+        copied(|out, capacity, length| unsafe { raw::linkd_refused_name(at, out, capacity, length) })
     }
 
     /// The name, in modified UTF-8, of the class for which the site waits: where a call there is

@@ -1,6 +1,6 @@
 //! The calls of `include/linkd.h`, of this version. Nothing compares these declarations with the header but the crate's tests.
 
-pub const VERSION: u32 = 11;
+pub const VERSION: u32 = 12;
 
 /// A linker, a seat, a memo, a view or a renewal, in a block of a size that the library tells.
 #[repr(C)]
@@ -169,7 +169,7 @@ extern "C" {
         capacity: usize,
         length: *mut usize,
     ) -> u32;
-    pub fn linkd_named(at: *mut Opaque, out: *mut u8, capacity: usize, length: *mut usize) -> u32;
+    pub fn linkd_refused_name(at: *mut Opaque, out: *mut u8, capacity: usize, length: *mut usize) -> u32;
     pub fn linkd_awaited(at: *mut Opaque, site: u32, out: *mut u8, capacity: usize, length: *mut usize) -> u32;
     pub fn linkd_last_work(at: *mut Opaque, work: *mut u64) -> u32;
     pub fn linkd_catch_up(at: *mut Opaque) -> u32;

@@ -784,14 +784,14 @@ fn invocations_are_those_of_the_code() -> Result<(), Error> {
 #[test]
 fn what_is_missing_has_a_name() -> Result<(), Error> {
     let World { mut linker, m, site, .. } = world()?;
-    assert_eq!(linker.named_class(), None);
+    assert_eq!(linker.refused_name(), None);
     assert_eq!(linker.define(&with_f("D", "Above")), Err(Error::Define(DefineFault::MissingParent)));
-    assert_eq!(linker.named_class().as_deref(), Some(&b"Above"[..]));
+    assert_eq!(linker.refused_name().as_deref(), Some(&b"Above"[..]));
     // Bytes that are no class file are no event.
     assert!(linker.define(b"no class file").is_err());
-    assert_eq!(linker.named_class().as_deref(), Some(&b"Above"[..]));
+    assert_eq!(linker.refused_name().as_deref(), Some(&b"Above"[..]));
     let pending = linker.request(m, 0, 3)?;
-    assert_eq!(linker.named_class(), None);
+    assert_eq!(linker.refused_name(), None);
 
     assert_eq!(linker.install(&[pending]), Err(Error::NotReady(pending)));
     assert_eq!(linker.awaited_class(pending).as_deref(), Some(&b"Z"[..]));

@@ -10,6 +10,7 @@ use Rattle.std.proofs.lemmas.Bool.Decides.{Decides-eqb}
 use Rattle.std.proofs.lemmas.List.Folds.{list_any-append, list_any_at}
 use Rattle.std.proofs.lemmas.List.FromFn.{get_or-map-range_with_len, length-map-range_with_len}
 use Rattle.std.proofs.lemmas.Option.{none-some, same_Some}
+use Rattle.std.proofs.lemmas.Bool.{and_parts}
 use Rattle.jl_types.specs.declared.answer.Unlinked.{Unlinked}
 use Rattle.jl_types.specs.declared.limits.Limits.{Limits}
 use Rattle.jl_types.specs.declared.link.Link.{Link}
@@ -115,10 +116,6 @@ module _ (rows : List Class) (s : ℕ) where
   same_touch entry (Some x) is rest e =
       λ i. (sym (same_installs rows entry.event x s is) i || has s entry.reply.dropped) || list_any (touches s) rest
 
-  both_true : (a b : Bool) → (a && b) ≡ true → (a ≡ true) × (b ≡ true)
-  both_true true b e = (refl, e)
-  both_true false b e = cc
-
   one_dropped : (entry : Entry) (o : Option Event) → event_of rows entry.event ≡ o → (rest : List (Event × Reply)) (n : ℕ)
       → is_some {T = Event × Reply} (option_map (λ e. (e, entry.reply)) o) ≡ true
       → drop (suc n) (cons_option (option_map (λ e. (e, entry.reply)) o) rest) ≡ drop n rest
@@ -130,11 +127,11 @@ module _ (rows : List Class) (s : ℕ) where
   same_touches [] zero e = refl
   same_touches [] (suc n) e = refl
   same_touches (entry ∷ entries) zero e =
-      let parts = both_true (is_some (told rows entry)) (are_told rows entries) e in
+      let parts = and_parts (is_some (told rows entry)) (are_told rows entries) e in
       ap (λ b. touched_by s entry || b) (same_touches entries zero parts.1)
       ∙ sym (same_touch entry (event_of rows entry.event) refl (shown rows entries) parts.0)
   same_touches (entry ∷ entries) (suc n) e =
-      let parts = both_true (is_some (told rows entry)) (are_told rows entries) e in
+      let parts = and_parts (is_some (told rows entry)) (are_told rows entries) e in
       same_touches entries n parts.1
       ∙ sym (ap (list_any (touches s)) (one_dropped entry (event_of rows entry.event) refl (shown rows entries) n parts.0))
 
@@ -215,10 +212,10 @@ module _ (rows : List Class) where
   dropped_at [] n entry e at = cc
   dropped_at (first ∷ entries) zero entry e at =
       at_first (told rows first) (shown rows entries) first.reply (reply_of first (event_of rows first.event))
-      (both_true rows 0 (is_some (told rows first)) (are_told rows entries) e).0
+      (and_parts (is_some (told rows first)) (are_told rows entries) e).0
       ∙ ap (λ (x : Entry). x.reply.dropped) (same_Some first entry at)
   dropped_at (first ∷ entries) (suc n) entry e at =
-      let parts = both_true rows 0 (is_some (told rows first)) (are_told rows entries) e in
+      let parts = and_parts (is_some (told rows first)) (are_told rows entries) e in
       ap (λ o. option_map_or (λ e. e.1.dropped) o []) (at_later (told rows first) (shown rows entries) n parts.0)
       ∙ dropped_at entries n entry parts.1 at
 
@@ -229,7 +226,7 @@ module _ (rows : List Class) where
       ∙ ap (λ n. option_map_or (λ e. e.1.dropped) (slice_get (shown rows entries) (n - 1)) []) (length_told rows entries all_told)
       ∙ dropped_at entries (length entries - 1) entry all_told at
 
-  -- where there is none
+  -- if there is none
   pub none_is : (core : State) (entries : List Entry) → shown rows entries ≡ core.log → slice_get entries (length entries - 1) ≡ None
       → [] ≡ last_dropped core
   none_is core [] shown_is at = ap (λ log. option_map_or (λ e. e.1.dropped) (slice_get log (length log - 1)) []) shown_is

@@ -99,7 +99,7 @@ found_or_picked : (o : Option MethodId) (ms : List MethodId) → IfSome o IsDecl
 found_or_picked None ms one all = picked ms all
 found_or_picked (Some m) ms one all = one
 
--- ---- what a link runs, where each method that a class declares is declarable
+-- ---- what a link runs, if each method that a class declares is declarable
 
 module _ (cs : Classes) (each : (name ty : List ℕ) (c : ℕ) → IfSome (declared cs name ty c) IsDeclarable) where
   module _ (name ty : List ℕ) where
@@ -178,7 +178,7 @@ module _ (cs : Classes) (each : (name ty : List ℕ) (c : ℕ) → IfSome (decla
             )
         by_test false = all_instance (filter_map (declared cs name ty) (superclasses cs c)) (all_declared (superclasses cs c))
 
-  -- ---- what a choice comes to
+  -- ---- the outcome of a choice
 
   ending_declarable : (o : Chosen) → IsDeclarableChoice o → is_declarable (ending cs o) ≡ true
   ending_declarable (Picked m) is = by_test (is_abstract cs m)
@@ -349,7 +349,7 @@ module _ (cs : Classes) (each : (name ty : List ℕ) (c : ℕ) → IfSome (decla
   link_declarable (Calls m) is = one_declarable (Run m) is
   link_declarable (Selects i) is = selected_declarable i is i.selector
 
--- ---- what call sites run, where each method that a target names is declarable
+-- ---- what call sites run, if each method that a target names is declarable
 
 -- each method that the target names is declarable, be it on a side that isn't taken
 abbrev NamesDeclarable : Target → Type 0

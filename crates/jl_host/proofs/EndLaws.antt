@@ -9,7 +9,7 @@ use Rattle.jl_host.specs.Linkers.{Opened}
 use Rattle.jl_host.specs.Renewals.{Arrays, have_room, counts_of}
 use Rattle.jl_host.specs.Renewing.{Renewing, IsFinished, IsUnfinished, IsEnd}
 
--- where the renewal has begun, the linker is open, the other one isn't, and the arrays have room
+-- if the renewal has begun, the linker is open, the other one isn't, and the arrays have room
 module _ (old : Renewing) (opened : Opened) (before : Arrays) (status : ℕ) (told : Told) (new : Option Renewing) (new_fresh : Option Opened)
     (after : Arrays) where
   abbrev Ends : Option Renewing → Option Opened → Option Opened → Type 0

@@ -106,7 +106,7 @@ one_at_front g rows before now i row v few room at is so_far =
     more : take (i + 1) rows ≡ take i rows ++ row ∷ []
     more = take_more rows i row few ∙ ap (λ r. take i rows ++ r ∷ []) (sym at)
 
--- the last ones were written where there is no further one
+-- the last ones were written, if there is no further one
 pub all_at_front : {A B : Type 0} (g : A → B) (rows : List A) (before now : List B) (i : ℕ) → i ≤ length rows → slice_get rows i ≡ None
     → now ≡ map g (take i rows) ++ drop i before → now ≡ map g rows ++ drop (length rows) before
 all_at_front g rows before now i few none so_far =

@@ -215,7 +215,7 @@ targets : map target_of ((part 0 5 6 ∷ []) ∷ (part 0 5 65535 ∷ []) ∷ (pa
 unfolding targets_of
 targets = refl
 
--- none, one too many, one too few, a guard behind its parts, a kind that is none, and a method that is too large
+-- none, one too many, one too few, a guard after its parts, a kind that is none, and a method that is too large
 no_targets : map target_of ([] ∷ (part 0 5 6 ∷ part 2 8 0 ∷ []) ∷ (part 1 7 0 ∷ part 0 5 6 ∷ part 2 8 0 ∷ part 2 8 0 ∷ [])
     ∷ (part 1 7 0 ∷ []) ∷ (part 1 7 0 ∷ part 0 5 6 ∷ []) ∷ (part 0 5 6 ∷ part 2 8 0 ∷ part 1 7 0 ∷ [])
     ∷ (part 3 5 6 ∷ []) ∷ (part 1 7 0 ∷ part 0 5 6 ∷ part 3 5 6 ∷ []) ∷ (part 0 5 65536 ∷ []) ∷ [])

@@ -1,4 +1,4 @@
--- A seat that isn't refreshed, since memory lacks, and a call at a number that no site has.
+-- A seat that isn't refreshed, since there is no memory, and a call at a number that no site has.
 use Rattle.std.specs.Prelude.{◌≡◌, ℕ, List, Option, Some, None, get_or, slice_get, unwrap_or}
 use Rattle.std.proofs.Common.{refl, sym, ap, subst, ◌∙◌, inr}
 use Rattle.std.proofs.lemmas.Option.{unwrap_or-slice_get}

@@ -1,4 +1,4 @@
--- What a call of a method comes to stays on each object of a class that was there.
+-- The answer to a call of a method stays on each object of a class that was there.
 use Rattle.std.specs.Prelude.{◌≡◌, ℕ, ◌<◌, ◌&&◌, true, List, [], ◌++◌, length, slice_get, Option, Some, None, is_some, if◌then◌else◌}
 use Rattle.std.specs.Option.{option_map_or}
 use Rattle.std.proofs.Common.{refl, ap, sym, ◌∙◌}

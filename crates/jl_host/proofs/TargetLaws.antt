@@ -24,18 +24,18 @@ none_behind parts zero is = is
 none_behind [] (suc n) is = is
 none_behind (part ∷ parts) (suc n) is = ap (option_and_then (read_before part)) (none_behind parts n is)
 
-module _ (parts : List TargetPart) (n : ℕ) (d : TargetPart) (behind rest : List Target) (some : 0 < n) (few : n ≤ length parts)
-    (so_far : targets_of (drop n parts) ≡ Some behind) (target : Option Target)
-    (made : option_map (λ t. t ∷ rest) target ≡ read_before (get_or parts (n - 1) d) behind) where
+module _ (parts : List TargetPart) (n : ℕ) (d : TargetPart) (later rest : List Target) (some : 0 < n) (few : n ≤ length parts)
+    (so_far : targets_of (drop n parts) ≡ Some later) (target : Option Target)
+    (made : option_map (λ t. t ∷ rest) target ≡ read_before (get_or parts (n - 1) d) later) where
   next : targets_of (drop (n - 1) parts) ≡ option_map (λ t. t ∷ rest) target
   unfolding targets_of
   next =
       ap targets_of (rest_from parts (n - 1) d (omega (arith, some, few)))
       ∙ ap (option_and_then (read_before (get_or parts (n - 1) d)))
-      (subst (λ k. targets_of (drop k parts) ≡ Some behind) (omega (arith, some)) so_far)
+      (subst (λ k. targets_of (drop k parts) ≡ Some later) (omega (arith, some)) so_far)
       ∙ sym made
 
-  -- the part makes a target with what it takes of those behind it
+  -- the part makes a target with what it takes of those after it
   pub one_before : (t : Target) (read : List Target) → target ≡ Some t → rest ≡ reverse read
       → targets_of (drop (n - 1) parts) ≡ Some (reverse (read ++ t ∷ []))
   one_before t read is left =
@@ -53,19 +53,19 @@ known m few = grind (arith, nat_tests, few)
 fits : (t : Target) → nesting t ≤ max_depth → nat_le (nesting t) max_depth ≡ true
 fits t few = grind (arith, nat_tests, few)
 
-first_is : (t : Target) → IsTarget t → nesting t ≤ max_depth → (rest : List TargetPart) (behind : List Target)
-    → targets_of rest ≡ Some behind → targets_of (parts_of t ++ rest) ≡ Some (t ∷ behind)
+first_is : (t : Target) → IsTarget t → nesting t ≤ max_depth → (rest : List TargetPart) (later : List Target)
+    → targets_of rest ≡ Some later → targets_of (parts_of t ++ rest) ≡ Some (t ∷ later)
 unfolding targets_of
-first_is (Method m) is few rest behind so_far =
+first_is (Method m) is few rest later so_far =
     ap (option_and_then (read_before (part 0 m.class m.index))) so_far
-    ∙ ap (λ b. option_map (λ n. Method n ∷ behind) (if b then Some m else None)) (known m is.1)
-first_is (Guard p first fallback) is few rest behind so_far =
+    ∙ ap (λ b. option_map (λ n. Method n ∷ later) (if b then Some m else None)) (known m is.1)
+first_is (Guard p first fallback) is few rest later so_far =
     ap (λ parts. targets_of (part 1 p 0 ∷ parts)) (append_assoc (parts_of first) (parts_of fallback) rest)
     ∙ ap (option_and_then (read_before (part 1 p 0)))
-    (first_is first is.1 (omega (arith, few)) (parts_of fallback ++ rest) (fallback ∷ behind)
-    (first_is fallback is.2 (omega (arith, few)) rest behind so_far))
-    ∙ ap (λ b. option_map (λ guard. guard ∷ behind) (if b then Some (Guard p first fallback) else None)) (fits (Guard p first fallback) few)
-first_is (Invoker c) is few rest behind so_far = ap (option_and_then (read_before (part 2 c 0))) so_far
+    (first_is first is.1 (omega (arith, few)) (parts_of fallback ++ rest) (fallback ∷ later)
+    (first_is fallback is.2 (omega (arith, few)) rest later so_far))
+    ∙ ap (λ b. option_map (λ guard. guard ∷ later) (if b then Some (Guard p first fallback) else None)) (fits (Guard p first fallback) few)
+first_is (Invoker c) is few rest later so_far = ap (option_and_then (read_before (part 2 c 0))) so_far
 
 pub parts_are_read : (t : Target) → IsTarget t → nesting t ≤ max_depth → target_of (parts_of t) ≡ Some t
 unfolding targets_of

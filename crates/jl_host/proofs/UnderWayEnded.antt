@@ -70,7 +70,7 @@ untaken_is_not_done core old status (inr other) e = apart (ap (λ (n : ℕ). n =
 
 -- ---- all is carried over
 
--- A fill that is done leaves nothing that waits where the fresh core is there.
+-- A fill that is done leaves nothing that waits if the fresh core is there.
 none_waits : (old new : Renewing) (status : ℕ) (told : Told) (made : Fresh) → IsFilled old status told new → (status == done) ≡ true
     → new.fresh ≡ Some made → new.waiting ≡ []
 none_waits old new status told made (inl filled) e there = by_way filled.2

@@ -1,4 +1,4 @@
--- A renewal stays under way as entries are carried over, and where one isn't.
+-- A renewal stays under way as entries are carried over, and if one isn't.
 use Rattle.std.specs.Prelude.{◌≡◌, ◌⊎◌, ℕ, true, List, [], ◌∷◌, ◌++◌, length, Option, Some, None, MatchOption}
 use Rattle.std.proofs.Common.{refl, sym, ap, subst, ◌∙◌, arith, inl, inr, length-append, append_assoc}
 use Rattle.std.proofs.lemmas.List.{append-nil}
@@ -46,11 +46,11 @@ module _ (begun : State) (released : Released) (core : State) (renewing : Renewi
   abbrev rows : List Class
   rows = renewing.defined.classes.rows
 
-  -- with this fresh core, and where this waits
+  -- with this fresh core, and with these entries that wait
   abbrev with_fresh : Fresh → List Entry → Renewing
   with_fresh h left = record renewing { fresh = Some h; waiting = left }
 
-  -- ---- where nothing is noted
+  -- ---- if nothing is noted
 
   module _ (same : second.made.numbers ≡ second.numbers) (front left : List Entry) (g h : Fresh) (split : renewing.waiting ≡ front ++ left)
       (carried : AreCarried renewing.defined front second.made g) (core_same : h.core ≡ g.core)
@@ -98,7 +98,7 @@ module _ (begun : State) (released : Released) (core : State) (renewing : Renewi
       });
     }
 
-  -- ---- where it is noted that what the next entry made is gone
+  -- ---- if it is noted that what the next entry made is gone
 
   apart : (entry : Entry) (others : List Entry) → [] ≡ entry ∷ others → ⊥
   apart entry others e = cc

@@ -32,7 +32,7 @@ same_fronts (x ∷ xs) (y ∷ ys) more others e is =
     let rest = same_fronts xs ys more others (omega (arith, e)) later in
     (λ i. first i ∷ rest.0 i, rest.1)
 
--- nothing stands behind all of it
+-- nothing stands after all of it
 pub none_behind : {A : Type 0} (xs : List A) → length xs ≡ 0 → xs ≡ []
 none_behind [] e = refl
 none_behind (x ∷ xs) e = absurd (omega (arith, e))

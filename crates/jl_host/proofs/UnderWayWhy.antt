@@ -65,7 +65,7 @@ next_is w core entry others later old all grown =
 
 -- ---- why it isn't carried over to a fresh core beside the old one
 
--- it names what is gone, and is of a call site; or memory lacks
+-- it names what is gone, and is of a call site; or there is no memory
 abbrev IsFaultOn : Event → CarryFault → Type 0
 IsFaultOn e Gone = is_of_call_site e ≡ true
 IsFaultOn e (Refused r) = r ≡ Memory
@@ -132,7 +132,7 @@ module _ (k : Flags) (w : World) (core : State) (entry : Entry) (old : State) (n
       → IsFaultOn next.event fault
   why_beside fault = by_install fault (installs_of entry.event) refl
 
--- ---- where the fresh core is there
+-- ---- if the fresh core is there
 
 -- by what was told
 answer_of : (core : State) (new : Renewing) (fault : CarryFault) (status : ℕ) (told : Told) → IsToldOf new fault status told → (e : Event) (reply : Reply)
@@ -163,7 +163,7 @@ module _ (begun : State) (released : Released) (core : State) (old : Renewing) (
     left_told : are_told rows (stops.entry ∷ stops.others) ≡ true
     left_told = ap (are_told rows) (sym stops.next) ∙ (both_told rows front left (ap (are_told rows) (sym split) ∙ way.all_told)).1
 
-    -- where nothing is noted
+    -- if nothing is noted
     module _ (same : second.made.numbers ≡ second.numbers) where
       came : HaveComeOver flags old.defined core front left way.later second.old stops.before
       came = come_over begun released core old way second same front left stops.before stops.before split stops.carried.2 refl (inl refl)
@@ -191,7 +191,7 @@ module _ (begun : State) (released : Released) (core : State) (old : Renewing) (
           (ap (λ (n : ℕ). slice_get core.log n) came_place ∙ came_next.at)
           (why_beside flags old.defined core stops.entry came.new came_next stops.before came.beside fault stops.uncarried.why)
 
-    -- where it is noted that what the next entry made is gone
+    -- if it is noted that what the next entry made is gone
     module _ (held : IsHeldUp old second.numbers second.made.numbers) where
       none : (stops.before ≡ second.made) × (left ≡ old.waiting)
       none = held_front begun released core old way second held front left stops.before split stops.carried.2

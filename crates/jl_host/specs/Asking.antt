@@ -5,7 +5,7 @@ use Rattle.jl_class.specs.declared.site.Kind.{Kind}
 use Rattle.jl_class.specs.declared.site.Kind.TheVariants.{Virtual, Special, Static, Interface, Dynamic}
 use Rattle.jl_class.specs.Class.{Method}
 use Rattle.jl_class.specs.Site.{Site}
-use Rattle.jl_types.specs.Values.World.{World}
+use Rattle.jl_types.specs.Values.World.{World, Classes}
 use Rattle.jl_types.specs.Values.Members.{lookup, method_at}
 use Rattle.jl_core.specs.State.{events, world_of}
 use Rattle.jl_core.specs.WorkBounds.{most_of_last}
@@ -23,11 +23,15 @@ abbrev pub IsWrittenIf : {A : Type 0} → ℕ → Option A → A → ℕ → A �
 IsWrittenIf reason None before status after = (status ≡ reason) × (after ≡ before)
 IsWrittenIf reason (Some value) before status after = (status ≡ done) × (after ≡ value)
 
--- the linker isn't open, and nothing was written; or this is what the loader finds under the name (JVMS 5.3)
+-- the linker isn't open, and nothing was written; or this is so of what it has
+abbrev pub IsTold : {A : Type 0} → ℕ → (Classes → Option A) → Option Opened → A → ℕ → A → Option Opened → Type 0
+IsTold reason value None before status after new = (status ≡ closed) × (after ≡ before) × (new ≡ None)
+IsTold reason value (Some old) before status after new =
+    IsWrittenIf reason (value (world_of old.session.core).classes) before status after × (new ≡ Some old)
+
+-- what the loader finds under the name (JVMS 5.3)
 abbrev pub IsLookup : ℕ → List ℕ → Option Opened → ℕ → ℕ → ℕ → Option Opened → Type 0
-IsLookup loader name None before status after new = (status ≡ closed) × (after ≡ before) × (new ≡ None)
-IsLookup loader name (Some old) before status after new =
-    IsWrittenIf unknown_class (lookup (world_of old.session.core).classes loader name) before status after × (new ≡ Some old)
+IsLookup loader name = IsTold unknown_class (λ cs. lookup cs loader name)
 
 -- ---- lists of a class or a method
 
@@ -78,8 +82,8 @@ IsInvocations c place =
     IsListed no_such_place (λ old. option_map (λ m. map invocation_shown m.sites) (method_in c place (world_of old.session.core)))
 
 -- the class that the refusal of the last event told of by its name
-abbrev pub IsNamed : Option Opened → List ℕ → ℕ → ℕ → List ℕ → ℕ → Option Opened → Type 0
-IsNamed = IsListed unknown_class (λ old. old.named)
+abbrev pub IsRefusedName : Option Opened → List ℕ → ℕ → ℕ → List ℕ → ℕ → Option Opened → Type 0
+IsRefusedName = IsListed unknown_class (λ old. old.named)
 
 -- the class for which the site waits
 abbrev pub IsAwaited : ℕ → Option Opened → List ℕ → ℕ → ℕ → List ℕ → ℕ → Option Opened → Type 0
@@ -93,7 +97,7 @@ IsLastWork None before status after new = (status ≡ closed) × (after ≡ befo
 IsLastWork (Some old) before status after new =
     (status ≡ done) × (after ≤ most_of_last (events old.session.core)) × (new ≡ Some old)
 
--- the linker isn't open; or it is as before, also where memory lacked
+-- the linker isn't open; or it is as before, also if there was no memory
 abbrev pub IsCatchUp : Option Opened → ℕ → Option Opened → Type 0
 IsCatchUp None status new = (status ≡ closed) × (new ≡ None)
 IsCatchUp (Some old) status new = ((status ≡ done) ⊎ (status ≡ memory)) × (new ≡ Some old)

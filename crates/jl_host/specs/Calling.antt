@@ -1,5 +1,5 @@
 -- Calls of methods that no code invokes, as reflection, method handles and native code make them, and references that they resolve.
-use Rattle.std.specs.Prelude.{◌≡◌, ℕ, Bool, ◌&&◌, List, [], slice_get, if◌then◌else◌, Option, Some, None, is_some, Result, Ok, Err}
+use Rattle.std.specs.Prelude.{ℕ, Bool, ◌&&◌, List, [], slice_get, if◌then◌else◌, Option, Some, None, is_some, Result, Ok, Err}
 use Rattle.std.specs.Option.{option_and_then, option_map_or}
 use Rattle.jl_pool.specs.declared.reference.Reference.{Reference}
 use Rattle.jl_types.specs.declared.ids.MethodId.{MethodId}
@@ -20,14 +20,13 @@ use Rattle.jl_types.specs.Linkage.Access.{is_accessible_class}
 use Rattle.jl_types.specs.Linkage.Calls.{answered}
 use Rattle.jl_types.specs.Linkage.Resolution.{found, resolved_in}
 use Rattle.jl_types.specs.Linkage.Selection.{virtual_outcome, interface_outcome, is_init}
-use Rattle.jl_core.specs.State.{world_of}
 use Rattle.jl_host.specs.declared.shown.CallAnswer.{CallAnswer}
 use Rattle.jl_host.specs.declared.shown.ResolutionShown.{ResolutionShown}
-use Rattle.jl_host.specs.Numbers.{unknown_class, no_such_place, closed}
+use Rattle.jl_host.specs.Numbers.{unknown_class, no_such_place}
 use Rattle.jl_host.specs.Reading.{method_of}
 use Rattle.jl_host.specs.Showing.{recv_of, answer_shown, throwable_number, unlinked_number}
 use Rattle.jl_host.specs.Linkers.{Opened}
-use Rattle.jl_host.specs.Asking.{IsWrittenIf}
+use Rattle.jl_host.specs.Asking.{IsTold}
 
 -- ---- calls
 
@@ -39,7 +38,7 @@ may_receive cs r x = is_concrete cs x && is_ancestor cs r.class x
 abbrev pub is_initialization : Classes → MethodId → Bool
 is_initialization cs r = method_test (λ method. is_init method.name) cs r
 
--- On an object of class x: r itself, where it is an instance initialization method. Else what selection makes of it (JVMS 5.4.6), as at an
+-- On an object of class x: r itself, if it is an instance initialization method. Else what selection makes of it (JVMS 5.4.6), as at an
 -- invokeinterface that names r's interface, or at an invokevirtual (6.5).
 abbrev pub outcome_on : Classes → MethodId → ℕ → Outcome
 outcome_on cs r x =
@@ -50,7 +49,7 @@ abbrev pub called_on : Classes → MethodId → Recv → Answer
 called_on cs r Null = answer.Throws NullPointerException
 called_on cs r (Of x) = if may_receive cs r x then answered (outcome_on cs r x) else answer.BadReceiver
 
--- what a call of the resolved method r comes to: a static one runs, whatever the receiver is
+-- the answer to a call of the resolved method r: a static one runs, whatever the receiver is
 abbrev pub called : Classes → MethodId → Recv → Answer
 called cs r recv = if is_static cs r then answer.Run r else called_on cs r recv
 
@@ -59,13 +58,13 @@ called cs r recv = if is_static cs r then answer.Run r else called_on cs r recv
 abbrev pub name_in : Classes → ℕ → List ℕ
 name_in cs c = option_map_or (λ row. row.file.name) (slice_get cs.rows c) []
 
--- a reference to a method of this name and descriptor in the class, of an interface's method where that is an interface (JVMS 4.4.2)
+-- a reference to a method of this name and descriptor in the class, of an interface's method if that is an interface (JVMS 4.4.2)
 abbrev pub reference_in : Classes → ℕ → List ℕ → List ℕ → Reference (List ℕ)
 reference_in cs named name ty = record { itf = is_interface cs named; owner = name_in cs named; name = name; ty = ty }
 
 -- ---- as numbers
 
--- the method that was found, and 2^32 - 1 twice where none was
+-- the method that was found, and 2^32 - 1 twice if none was
 abbrev pub with_method : ℕ → ℕ → Option MethodId → ResolutionShown
 with_method kind value None = record { kind = kind; value = value; class_number = 4294967295; method = 4294967295 }
 with_method kind value (Some m) = record { kind = kind; value = value; class_number = m.class; method = m.index }
@@ -76,18 +75,13 @@ resolution_shown m (Ok resolved) = with_method 0 0 m
 resolution_shown m (Err (Fault throwable)) = with_method 1 (throwable_number throwable) m
 resolution_shown m (Err (NotReady missing)) = with_method 3 (unlinked_number (unlinked.NotReady missing)) m
 
--- what a reference to the method of this name and descriptor in the class `named` comes to for the class `from` (JVMS 5.4.3.3, 5.4.3.4, 5.4.4)
+-- what a reference to the method of this name and descriptor in the class `named` resolves to for the class `from` (JVMS 5.4.3.3, 5.4.3.4,
+-- 5.4.4)
 abbrev pub resolution_in : Classes → ℕ → ℕ → List ℕ → List ℕ → ResolutionShown
 resolution_in cs from named name ty =
     resolution_shown (found cs (reference_in cs named name ty) named) (resolved_in cs from (reference_in cs named name ty) named)
 
 -- ---- what the calls leave
-
--- the linker isn't open, and nothing was written; or this is so of what it has
-abbrev pub IsTold : {A : Type 0} → ℕ → (Classes → Option A) → Option Opened → A → ℕ → A → Option Opened → Type 0
-IsTold reason value None before status after new = (status ≡ closed) × (after ≡ before) × (new ≡ None)
-IsTold reason value (Some old) before status after new =
-    IsWrittenIf reason (value (world_of old.session.core).classes) before status after × (new ≡ Some old)
 
 -- the method at this place among those of a class that is present
 abbrev pub if_there : Classes → MethodId → Option MethodId

@@ -1,5 +1,5 @@
--- `Numbers`, `Telling`, `Showing`, `Copies`, `Linkers`, `Seats`, `Memos`, `Reading`, `Targets`, `Views`, `Awaiting`, `Asking`, `Calling`, `Linking`,
--- `Renewals`, `Renewing` and `UnderWay` are what contracts cite; what stands in `ForProofs` is a means of proof.
+-- Contracts cite `Numbers`, `Telling`, `Showing`, `Copies`, `Linkers`, `Seats`, `Memos`, `Reading`, `Targets`, `Views`, `Awaiting`,
+-- `Asking`, `Calling`, `Linking`, `Renewals`, `Renewing` and `UnderWay`. What stands in `ForProofs` is a means of proof.
 pub mod Numbers
 pub mod Telling
 pub mod Showing

@@ -1,4 +1,4 @@
--- What stands behind a linker that is open, and what each call on a linker leaves, by the status that it answers.
+-- What an open linker holds, and what each call on a linker leaves, by the status that it answers.
 use Rattle.std.specs.Prelude.{◌^◌, ◌≡◌, ◌⊎◌, ◌-◌, ◌<◌, ◌≤◌, ℕ, nat_le, nat_lt, ◌==◌, List, [], length, slice_get}
 use Rattle.std.specs.Prelude.{Option, Some, None, option_map, Result, Ok, Err}
 use Rattle.std.specs.Prelude.{if◌then◌else◌, Bool, ◌&&◌, MatchBool}
@@ -89,7 +89,7 @@ abbrev pub limits_asked : Limits → Limits
 limits_asked asked =
     limits_of asked.sites (limit_asked asked.loaders) (limit_asked asked.classes) (limit_asked asked.call_sites) (limit_asked asked.switches)
 
--- open already; or open with these limits, and with nothing in it, or memory lacked; or these limits may not be
+-- open already; or open with these limits, and with nothing in it, or there was no memory; or these limits may not be
 abbrev pub IsOpenWith : Limits → Option Opened → ℕ → Option Opened → Type 0
 IsOpenWith asked (Some old) status new = (status ≡ open_already) × (new ≡ Some old)
 IsOpenWith asked None status new =
@@ -113,24 +113,24 @@ pub record IsAsked (e : Event) (old : Opened) (status : ℕ) (told : Told) (new 
 abbrev pub IsUnasked : ℕ → Opened → ℕ → Told → Opened → Type 0
 IsUnasked reason old status told new = (status ≡ reason) × (told ≡ nothing) × (new ≡ old)
 
--- the event, where it is one
+-- the event, if it is one
 abbrev pub IsAskedIf : Option Event → Opened → ℕ → Told → Opened → Type 0
 IsAskedIf None old status told new = IsUnasked malformed old status told new
 IsAskedIf (Some e) old status told new = IsAsked e old status told new
 
--- the linker isn't open, or is and comes to be so
+-- the linker isn't open; or it is, and this holds of the call
 abbrev pub IfOpen : (Opened → ℕ → Told → Opened → Type 0) → Option Opened → ℕ → Told → Option Opened → Type 0
 IfOpen IsSo None status told new = (status ≡ closed) × (told ≡ nothing) × (new ≡ None)
 IfOpen IsSo (Some old) status told new = (next : Opened) × (new ≡ Some next) × IsSo old status told next
 
--- or memory lacked for what the event is to have
+-- the linker isn't open; or this holds of the call; or there was no memory for what the event is to have
 abbrev pub IfOpenWithMemory : (Opened → ℕ → Told → Opened → Type 0) → Option Opened → ℕ → Told → Option Opened → Type 0
 IfOpenWithMemory IsSo = IfOpen (λ old status told new. IsSo old status told new ⊎ IsUnasked memory old status told new)
 
 abbrev pub IsNewLoader : Option Opened → ℕ → Told → Option Opened → Type 0
 IsNewLoader = IfOpen (IsAsked event.NewLoader)
 
--- the bytes aren't a class file of a version up to the newest one, or memory lacked to read them
+-- the bytes aren't a class file of a version up to the newest one, or there was no memory to read them
 abbrev pub IsUnreadUpTo : ℕ → List ℕ → Opened → ℕ → Told → Opened → Type 0
 IsUnreadUpTo newest bytes old status told new =
     ((f : ClassFault) × IsFaultUpTo newest bytes f × (status ≡ no_class_file) × (told ≡ told_of_file f) × (new ≡ old))
@@ -145,7 +145,7 @@ IsDefinedUpTo newest loader bytes old status told new =
 abbrev pub IsDefineUpTo : ℕ → ℕ → List ℕ → Option Opened → ℕ → Told → Option Opened → Type 0
 IsDefineUpTo newest loader bytes = IfOpen (IsDefinedUpTo newest loader bytes)
 
--- of SE 17
+-- the definition by a class file of a version up to that of SE 17
 abbrev pub IsDefine : ℕ → List ℕ → Option Opened → ℕ → Told → Option Opened → Type 0
 IsDefine loader bytes = IsDefineUpTo newest_of_17 loader bytes
 
@@ -204,7 +204,7 @@ IsRetireAll loaders = IfOpenWithMemory (IsAsked (event.RetireAll loaders))
 abbrev pub IsRelease : List ℕ → List ℕ → Option Opened → ℕ → Told → Option Opened → Type 0
 IsRelease call_sites points = IfOpenWithMemory (IsAsked (event.Release call_sites points))
 
--- by what the preparation of the sites came to
+-- by the outcome of the preparation of the sites
 abbrev pub IsInstallOf : Result Prepared PrepareFault → Opened → ℕ → Told → Opened → Type 0
 IsInstallOf (Ok prepared) old status told new = IsAsked (event.Install prepared.rows) old status told new
 IsInstallOf (Err f) old status told new = (status ≡ status_of_unprepared f) × (told ≡ told_of_unprepared f) × (new ≡ old)
@@ -253,8 +253,8 @@ IsLinkOf site = IsWritten (λ old. link_shown (installed (events old.session.cor
 
 -- ---- commands as text
 
--- The answer is kept, and its length told; or memory lacked for it, and the command was obeyed or the session stays. What an event named
--- stays.
+-- The answer is kept, and its length told; or there was no memory for it, and the command was obeyed or the session stays. In both cases
+-- what an event named stays.
 abbrev pub IsAnswered : List ℕ → Opened → ℕ → ℕ → ℕ → Opened → Type 0
 IsAnswered line old before status count new =
     ((status ≡ done) × IsTextOf (λ answer. IsSessionAnswer old.session line answer new.session) new.said × (count ≡ length new.said)

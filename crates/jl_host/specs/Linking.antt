@@ -15,7 +15,7 @@ use Rattle.jl_host.specs.Telling.{nothing}
 use Rattle.jl_host.specs.Showing.{link_shown}
 use Rattle.jl_host.specs.Linkers.{Opened, IsAsked, IsUnasked, IsInstalled, request_at}
 
--- the link that the site has stays; where it has none, it is prepared and installed
+-- a link that the site has stays; if it has none, its link is prepared and installed
 abbrev pub IsInstalledOnce : ℕ → Option Link → Opened → ℕ → Told → Opened → Type 0
 IsInstalledOnce s (Some link) old status told new = IsUnasked done old status told new
 IsInstalledOnce s None old status told new = IsInstalled (s ∷ []) old status told new
@@ -36,7 +36,7 @@ pub record IsLinked (request : Event) (old : Opened) (before : LinkShown) (statu
   pub rest : MatchBool (first == done) (IsLinkedAt said.number between status told link new)
       ((status ≡ first) × (told ≡ said) × (link ≡ before) × (new ≡ between))
 
--- the event, where it is one
+-- the request, if it is one
 abbrev pub IsLinkedIf : Option Event → Opened → LinkShown → ℕ → Told → LinkShown → Opened → Type 0
 IsLinkedIf None old before status told link new = IsUnasked malformed old status told new × (link ≡ before)
 IsLinkedIf (Some request) old before status told link new = IsLinked request old before status told link new
@@ -48,7 +48,7 @@ IsLink class method pc (Some old) before status told link new =
 
 -- ---- those of several sites that have a link
 
--- the site, where it has a link from scratch
+-- the site, if it has a link from scratch
 abbrev pub if_linked : ℕ → Result Link Unlinked → Option ℕ
 if_linked s (Ok link) = Some s
 if_linked s (Err reason) = None
@@ -57,7 +57,7 @@ if_linked s (Err reason) = None
 abbrev pub ready_among : World → List ℕ → List ℕ
 ready_among w sites = filter_map (λ s. if_linked s (scratch w s)) sites
 
--- where there are none nothing is installed
+-- if there are none, nothing is installed
 abbrev pub IsInstalledIfAny : List ℕ → Opened → ℕ → Told → Opened → Type 0
 IsInstalledIfAny [] old status told new = IsUnasked done old status told new
 IsInstalledIfAny (s ∷ sites) old status told new = IsInstalled (s ∷ sites) old status told new
@@ -66,7 +66,7 @@ IsInstalledIfAny (s ∷ sites) old status told new = IsInstalled (s ∷ sites) o
 abbrev pub links_at : State → List ℕ → List LinkShown → List LinkShown
 links_at core sites before = map (λ s. link_shown (installed (events core) s)) sites ++ drop (length sites) before
 
--- those of the sites are installed, and where that was done it is written what each of the sites has
+-- the links of those of the sites that have one are installed; if that was done, what each of the sites has is written
 pub record IsReadied (sites : List ℕ) (old : Opened) (before : List LinkShown) (status : ℕ) (told : Told) (after : List LinkShown) (new : Opened) : Type 0
   where
     pub installed : IsInstalledIfAny (ready_among (world_of old.session.core) sites) old status told new
@@ -76,7 +76,7 @@ pub record IsReadied (sites : List ℕ) (old : Opened) (before : List LinkShown)
 abbrev pub IsNotReadied : ℕ → Opened → List LinkShown → ℕ → Told → List LinkShown → Opened → Type 0
 IsNotReadied reason old before status told after new = IsUnasked reason old status told new × (after ≡ before)
 
--- the links have room for fewer sites; or memory lacked for their lists; or this is so
+-- the links have room for fewer sites; or there was no memory for their lists; or this is so
 abbrev pub IsReadyIn : List ℕ → Opened → List LinkShown → ℕ → Told → List LinkShown → Opened → Type 0
 IsReadyIn sites old before status told after new =
     MatchBool (nat_lt (length before) (length sites)) (IsNotReadied too_short old before status told after new)

@@ -39,11 +39,11 @@ outcome_of row =
     else if row.kind == 1 then option_map Throws (throwable_of row.value)
     else None
 
--- the class of the receiver, with what a call on its objects comes to
+-- the class of the receiver, with the outcome of a call on its objects
 abbrev pub entry_of : Row → Option (ℕ × Outcome)
 entry_of row = option_map (λ o. (row.receiver, o)) (outcome_of row)
 
--- what each item is, in order; none where one is none
+-- what each item is, in order; none if one is none
 abbrev pub with_first : {B : Type 0} → Option B → Option (List B) → Option (List B)
 with_first None rest = None
 with_first (Some x) None = None
@@ -97,7 +97,7 @@ rows_of rows = all_of row_of rows
 
 -- ---- links that are read again
 
--- what the link's calls come to, by receivers
+-- the outcomes of the link's calls, by receivers
 abbrev pub outcomes : Link → List Outcome
 outcomes (Fault t) = Throws t ∷ []
 outcomes (Plain m) = Run m ∷ []

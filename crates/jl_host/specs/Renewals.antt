@@ -44,7 +44,7 @@ abbrev pub IsCounts : Option Opened → ℕ → Counts → Option Opened → Typ
 IsCounts None status counts new = (status ≡ closed) × (counts ≡ no_counts) × (new ≡ None)
 IsCounts (Some old) status counts new = (status ≡ done) × (counts ≡ counts_of (world_of old.session.core)) × (new ≡ Some old)
 
--- how many of each are present: those that a renewal takes over where the host lets none go
+-- how many of each are present: those that a renewal takes over if the host lets none go
 abbrev pub present_of : World → Counts
 present_of w = record {
   loaders = (counts_present w).loaders;
@@ -54,7 +54,7 @@ present_of w = record {
   switches = (counts_present w).switches;
 }
 
--- the linker isn't open, or memory lacked, and all counts are 0; or these are its present ones
+-- the linker isn't open, or there was no memory, and all counts are 0; or these are its present ones
 abbrev pub IsCountsPresent : Option Opened → ℕ → Counts → Option Opened → Type 0
 IsCountsPresent None status counts new = (status ≡ closed) × (counts ≡ no_counts) × (new ≡ None)
 IsCountsPresent (Some old) status counts new =
@@ -106,7 +106,7 @@ may_be max_sites = nat_le 1 max_sites && nat_le max_sites most_sites
 abbrev pub limits_for : State → ℕ → Limits
 limits_for core max_sites = record core.limits { sites = max_sites }
 
--- why a core is not renewed with its limits but for so many sites: more sites stay, or memory lacked
+-- why a core is not renewed with its limits but for so many sites: more sites stay, or there was no memory
 abbrev pub IsShort : ℕ → State → Refusal → Type 0
 IsShort max_sites core r =
     ((r ≡ SitesFull) × (max_sites < how_many (staying_sites (world_of core).classes (world_of core).places))) ⊎ (r ≡ Memory)
@@ -125,7 +125,7 @@ IsRenewed released max_sites old before status new after =
     (made : State × Numbers) × IsRenewal old released (limits_for old max_sites) made × (status ≡ done) × (new ≡ Some (opened_over made.0))
     × (after ≡ with_numbers made.1 before)
 
--- that; or more sites stay than may be requested; or memory lacked
+-- it is open over the renewed core; or more sites stay than may be requested; or there was no memory
 abbrev pub IsTried : Released → ℕ → State → Arrays → ℕ → Option Opened → Arrays → Type 0
 IsTried released max_sites old before status new after =
     IsRenewed released max_sites old before status new after

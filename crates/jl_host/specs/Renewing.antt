@@ -90,7 +90,7 @@ abbrev pub IsBegunOf : Option Opened → Released → ℕ → Option Renewing �
 IsBegunOf None gone max_sites begun = begun ≡ None
 IsBegunOf (Some opened) gone max_sites begun = (renewing : Renewing) × HasBegun opened gone max_sites renewing × (begun ≡ Some renewing)
 
--- The linker isn't open; or the renewal has begun; or no such number may be; or it begins, or memory lacked. The linker stays.
+-- The linker isn't open; or the renewal has begun; or no such number may be; or it begins, or there was no memory. The linker stays.
 abbrev pub IsBegin : Released → ℕ → Option Renewing → Option Opened → ℕ → Option Renewing → Option Opened → Type 0
 IsBegin gone max_sites before None status after new = (status ≡ closed) × (after ≡ before) × (new ≡ None)
 IsBegin gone max_sites (Some begun) (Some old) status after new = (status ≡ open_already) × (after ≡ Some begun) × (new ≡ Some old)
@@ -120,8 +120,8 @@ abbrev pub IsTakenFrom : ℕ → State → Renewing → Renewing → Type 0
 IsTakenFrom most core old new =
     (entries : List Entry) × AreEntries core entries × AreTaken core (take most (drop old.taken entries)) old new × (old.taken ≤ length core.log)
 
--- The core shows to be another one than that of the begin, which forgets none of what is left: it has accepted fewer events than were taken;
--- or it has forgotten the next one, so that is not the last.
+-- The core shows to be another one than that of the begin, which forgets none of what is left. It has accepted fewer events than were
+-- taken, or it has forgotten the next one, which isn't the last then.
 abbrev pub IsOther : State → Renewing → Type 0
 IsOther core renewing = (length core.log < renewing.taken) ⊎ (renewing.taken + 1 < length core.log)
 
@@ -153,7 +153,7 @@ pub record IsMade (start : Start) (limits : Limits) (made : Fresh) : Type 0 wher
   pub refilled : IsFilledFrom start.seen.world start.past start.released made.numbers (empty_core limits) between
   pub linked : Installs (fresh_rows (world_of between) made.numbers (listed start.links start.sites)) between made.core
 
--- none is made: more stays than it may have; or memory lacked; or an event was refused
+-- none is made: more stays than it may have; or there was no memory; or an event was refused
 abbrev pub IsUnmade : Start → Limits → Refusal → Type 0
 IsUnmade start limits r =
     ((after : State) × IsPartlyFilled start.seen.world start.past start.released limits (empty_core limits) after r)
@@ -167,7 +167,7 @@ abbrev pub installs_of : Accepted → Option (List (ℕ × Link))
 installs_of (event.Install rows) = Some rows
 installs_of _ = None
 
--- links are installed: of these sites under their new numbers, each from scratch, where they have one
+-- links are installed: of those of these sites that have one, each from scratch, under the sites' new numbers
 abbrev pub IsLinked : List (ℕ × Link) → Fresh → Fresh → Type 0
 IsLinked [] old new = new ≡ old
 IsLinked (row ∷ rows) old new =
@@ -203,7 +203,7 @@ gone_of n (event.SetTarget c target) = option_map_or (λ d. gone_in n target) (n
 gone_of n (event.Bind s c) = Some c
 gone_of n _ = None
 
--- the links of an install aren't installed: the core refuses them, or memory lacked
+-- the links of an install aren't installed: the core refuses them, or there was no memory
 abbrev pub AreUnlinked : List (ℕ × Link) → State → Refusal → Type 0
 AreUnlinked rows core r = (r ≡ Memory) ⊎ IsRefused (verdict core.limits (world_of core) (event.Install rows)) r
 
@@ -243,7 +243,7 @@ abbrev pub AreAllCarried : Renewing → Renewing → Type 0
 AreAllCarried old new = MatchOption old.fresh (new ≡ old)
     (λ fresh. (after : Fresh) × AreCarried old.defined old.waiting fresh after × (new ≡ record old { fresh = Some after; waiting = [] }))
 
--- Those before one that isn't carried over were; or all were, and memory lacked for the pages of links.
+-- Those before one that isn't carried over were; or all were, and there was no memory for the pages of links.
 abbrev pub HasStopped : Renewing → CarryFault → Renewing → Type 0
 HasStopped old fault new = (fresh after : Fresh) × (left : List Entry) × (old.fresh ≡ Some fresh)
     × (StopsBefore old.defined old.waiting left fresh fault after

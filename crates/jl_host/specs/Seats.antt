@@ -25,13 +25,13 @@ seen_of core = record {
   classes = length (world_of core).classes.rows;
 }
 
--- The linker isn't open; or the seat has its links as they are now, or what it had before where memory lacked. The linker stays.
+-- The linker isn't open; or the seat has its links as they are now, or what it had before if there was no memory. The linker stays.
 abbrev pub IsRefresh : Option SeatView → Option Opened → ℕ → Option SeatView → Option Opened → Type 0
 IsRefresh had None status has new = (status ≡ closed) × (has ≡ had) × (new ≡ None)
 IsRefresh had (Some old) status has new =
     (new ≡ Some old) × (((status ≡ done) × (has ≡ Some (seen_of old.session.core))) ⊎ ((status ≡ memory) × (has ≡ had)))
 
--- The seat was never refreshed, and nothing was written; or the answer at once of what was seen then is.
+-- The seat was never refreshed, and nothing was written; or the answer at once of what was seen then was written.
 abbrev pub IsSeatCall : ℕ → ℕ → Option SeatView → CallAnswer → ℕ → CallAnswer → Option SeatView → Type 0
 IsSeatCall site receiver None before status after new = (status ≡ closed) × (after ≡ before) × (new ≡ None)
 IsSeatCall site receiver (Some seen) before status after new =

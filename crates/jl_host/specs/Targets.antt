@@ -21,7 +21,7 @@ nesting (Invoker c) = 1
 abbrev pub guard_of : ℕ → Target → Target → Option Target
 guard_of point first fallback = if nat_le (nesting (Guard point first fallback)) max_depth then Some (Guard point first fallback) else None
 
--- ---- a part, before the targets that were read behind it
+-- ---- a part, before the targets that were read after it
 
 -- the guard of the next two
 abbrev pub guard_before : ℕ → List Target → Option (List Target)
@@ -31,10 +31,10 @@ guard_before point (first ∷ fallback ∷ rest) = option_map (λ guard. guard �
 
 -- A number that says nothing by the kind isn't looked at.
 abbrev pub read_before : TargetPart → List Target → Option (List Target)
-read_before part behind =
-    if part.kind == 0 then option_map (λ m. Method m ∷ behind) (method_of part.number part.value)
-    else if part.kind == 1 then guard_before part.number behind
-    else if part.kind == 2 then Some (Invoker part.number ∷ behind)
+read_before part later =
+    if part.kind == 0 then option_map (λ m. Method m ∷ later) (method_of part.number part.value)
+    else if part.kind == 1 then guard_before part.number later
+    else if part.kind == 2 then Some (Invoker part.number ∷ later)
     else None
 
 -- ---- whole targets

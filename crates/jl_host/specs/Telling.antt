@@ -86,7 +86,7 @@ told_of_refusal (refusal.Retire fault) = told_of_retirement fault
 told_of_refusal (refusal.RetireAll loader fault) = record (told_of_retirement fault) { number = loader }
 told_of_refusal (refusal.Release fault) = told_of_release fault
 
--- by what the event came to
+-- by the outcome of the event
 abbrev pub status_of : Result Reply Refusal → ℕ
 status_of (Ok reply) = done
 status_of (Err r) = status_of_refusal r
@@ -95,7 +95,7 @@ abbrev pub told_of : Result Reply Refusal → Told
 told_of (Ok reply) = told_of_reply reply
 told_of (Err r) = told_of_refusal r
 
--- a parent that is missing, that is no interface where it has to be one, or that isn't accessible, by its name (JVMS 5.3.5)
+-- a parent that is missing, that is no interface though it has to be one, or that isn't accessible, by its name (JVMS 5.3.5)
 abbrev pub parent_named : DefineFault → Option (List ℕ)
 parent_named (MissingParent name) = Some name
 parent_named (NotAnInterface name) = Some name

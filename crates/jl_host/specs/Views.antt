@@ -23,8 +23,8 @@ use Rattle.jl_host.specs.Linkers.{Opened, IsAsked, IsUnasked}
 
 -- ---- views
 
--- The linker isn't open; or the view has its world as it is now, with the count of its events, or what it had before where memory
--- lacked. The linker stays.
+-- The linker isn't open; or the view has its world as it is now, with the count of its events, or what it had before if there was no
+-- memory. The linker stays.
 abbrev pub IsViewTake : Option Snapshot → Option Opened → ℕ → Option Snapshot → Option Opened → Type 0
 IsViewTake had None status has new = (status ≡ closed) × (has ≡ had) × (new ≡ None)
 IsViewTake had (Some old) status has new =
@@ -49,7 +49,7 @@ IsViewSerial = IsSeen (λ seen. seen.serial)
 abbrev pub links_in : List (ℕ × Link) → List LinkShown → List LinkShown
 links_in rows before = map (λ row. shown row.1) rows ++ drop (length rows) before
 
--- by what the preparation came to: its links, in the order of the sites, or why there is none
+-- by the outcome of the preparation: its links, in the order of the sites, or why there is none
 abbrev pub IsPrepareOf : Result Prepared PrepareFault → List LinkShown → ℕ → List LinkShown → Told → Type 0
 IsPrepareOf (Ok prepared) before status after told = (status ≡ done) × (after ≡ links_in prepared.rows before) × (told ≡ nothing)
 IsPrepareOf (Err f) before status after told = (status ≡ status_of_unprepared f) × (after ≡ before) × (told ≡ told_of_unprepared f)
@@ -58,7 +58,7 @@ IsPrepareOf (Err f) before status after told = (status ≡ status_of_unprepared 
 abbrev pub IsUnprepared : ℕ → List LinkShown → ℕ → List LinkShown → Told → Type 0
 IsUnprepared reason before status after told = (status ≡ reason) × (after ≡ before) × (told ≡ nothing)
 
--- the sites are prepared in what was seen; or memory lacked for their list
+-- the sites are prepared in what was seen; or there was no memory for their list
 abbrev pub IsPreparedIn : Snapshot → List ℕ → List LinkShown → ℕ → List LinkShown → Told → Type 0
 IsPreparedIn seen sites before status after told =
     ((outcome : Result Prepared PrepareFault) × IsPreparation seen sites outcome × IsPrepareOf outcome before status after told)
@@ -78,7 +78,7 @@ IsViewPrepare sites (Some seen) before status after told new =
 abbrev pub given : List ℕ → List LinkShown → List LinkRow
 given sites links = map (λ both. record { site = both.0; link = both.1 }) (zip sites links)
 
--- where a link is stale: the one that is
+-- if a link is stale: the site's present one
 abbrev pub present_of : Result Reply Refusal → LinkShown → LinkShown
 present_of (Err (Stale s link)) before = shown link
 present_of _ before = before
@@ -92,7 +92,7 @@ IsGiven links old before status told after new =
 abbrev pub IsNotGiven : ℕ → Opened → LinkShown → ℕ → Told → LinkShown → Opened → Type 0
 IsNotGiven reason old before status told after new = IsUnasked reason old status told new × (after ≡ before)
 
--- the rows are links, and these are installed, or one is none; or memory lacked for their list
+-- the rows are links, and these are installed, or one is none; or there was no memory for their list
 abbrev pub IsInstalledLinks : List LinkRow → Opened → LinkShown → ℕ → Told → LinkShown → Opened → Type 0
 IsInstalledLinks rows old before status told after new =
     MatchOption (rows_of rows) (IsNotGiven malformed old before status told after new)

@@ -7,8 +7,8 @@ use crate::told::{DONE, TOO_SHORT};
 use jl_types::{CallSiteId, LoaderId, SiteNo, SwitchId};
 use std::alloc::{AllocError, Global};
 
-/// The sites of these numbers. Want of memory is an error.
-pub(crate) fn sites_of(alloc: Global, numbers: &[u32]) -> Result<Vec<SiteNo>, AllocError>
+/// The sites of these numbers.
+pub(crate) fn sites_from(alloc: Global, numbers: &[u32]) -> Result<Vec<SiteNo>, AllocError>
     ensures { IfOk result (λ sites. sites.items ≡ numbers.now) }
 {
     let mut sites = Vec::with_capacity(alloc, numbers.len())?;
@@ -18,8 +18,8 @@ pub(crate) fn sites_of(alloc: Global, numbers: &[u32]) -> Result<Vec<SiteNo>, Al
     Ok(sites)
 }
 
-/// The loaders of these numbers. Want of memory is an error.
-pub(crate) fn loaders_of(alloc: Global, numbers: &[u32]) -> Result<Vec<LoaderId>, AllocError>
+/// The loaders of these numbers.
+pub(crate) fn loaders_from(alloc: Global, numbers: &[u32]) -> Result<Vec<LoaderId>, AllocError>
     ensures { IfOk result (λ loaders. loaders.items ≡ numbers.now) }
 {
     let mut loaders = Vec::with_capacity(alloc, numbers.len())?;
@@ -29,8 +29,8 @@ pub(crate) fn loaders_of(alloc: Global, numbers: &[u32]) -> Result<Vec<LoaderId>
     Ok(loaders)
 }
 
-/// The call sites of these numbers. Want of memory is an error.
-pub(crate) fn call_sites_of(alloc: Global, numbers: &[u32]) -> Result<Vec<CallSiteId>, AllocError>
+/// The call sites of these numbers.
+pub(crate) fn call_sites_from(alloc: Global, numbers: &[u32]) -> Result<Vec<CallSiteId>, AllocError>
     ensures { IfOk result (λ call_sites. call_sites.items ≡ numbers.now) }
 {
     let mut call_sites = Vec::with_capacity(alloc, numbers.len())?;
@@ -40,8 +40,8 @@ pub(crate) fn call_sites_of(alloc: Global, numbers: &[u32]) -> Result<Vec<CallSi
     Ok(call_sites)
 }
 
-/// The switch points of these numbers. Want of memory is an error.
-pub(crate) fn switches_of(alloc: Global, numbers: &[u32]) -> Result<Vec<SwitchId>, AllocError>
+/// The switch points of these numbers.
+pub(crate) fn switches_from(alloc: Global, numbers: &[u32]) -> Result<Vec<SwitchId>, AllocError>
     ensures { IfOk result (λ switches. switches.items ≡ numbers.now) }
 {
     let mut switches = Vec::with_capacity(alloc, numbers.len())?;
@@ -63,7 +63,7 @@ pub(crate) fn copy_sites(sites: &[SiteNo], out: &mut [u32], count: &mut usize) -
     DONE
 }
 
-/// Writes the numbers of the sites to the front of the array, where they fit.
+/// Writes the numbers of the sites to the front of the array, which has room for them.
 fn write_sites(sites: &[SiteNo], out: &mut [u32])
     requires { length sites.now ≤ length out.old }
     ensures { out.new ≡ sites.now ++ drop (length sites.now) out.old }

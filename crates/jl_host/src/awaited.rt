@@ -24,7 +24,7 @@ pub(crate) fn awaited(world: &World, site: SiteNo) -> Option<&[u8]>
     awaited_by(&world.classes, place.class, invocation.operand())
 }
 
-/// The same of what an invocation in the caller's class names.
+/// The name of the class for which an invocation in the caller's class waits that names this, if it waits for one.
 fn awaited_by<'a>(
     classes: &'a Classes,
     caller: ClassId,
@@ -38,7 +38,7 @@ fn awaited_by<'a>(
     }
 }
 
-/// The same of a reference.
+/// The name of the class for which this reference in the caller's class waits, if it waits for one.
 fn awaited_by_reference<'a>(
     classes: &'a Classes,
     caller: ClassId,

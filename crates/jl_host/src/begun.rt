@@ -40,7 +40,7 @@ pub(crate) struct Begun {
     carried: usize,
     /// The classes as they were when entries were taken, and nothing else.
     defined: World,
-    /// Those that were there before, which go where no lock is held.
+    /// Those that were there before. They are let go while no lock is held.
     past: Vec<World>,
 }
 
@@ -85,7 +85,7 @@ impl Model for Begun {
 }
 
 impl Begun {
-    /// A renewal that begins, of which the fresh core is to have these limits. Want of memory is an error.
+    /// A renewal that begins, of which the fresh core is to have these limits.
     pub(crate) fn new(
         alloc: Global,
         claim: Arc<Claim>,
@@ -117,8 +117,8 @@ impl Begun {
         self.taken
     }
 
-    /// Takes the next entries of the core's log, at most so many, with its classes. Else nothing was taken, and the status tells why: memory
-    /// lacks, or the core shows to be another one than that of the begin.
+    /// Takes the next entries of the core's log, at most so many, with its classes. Else nothing was taken, and the status tells why: there
+    /// was no memory, or the core shows to be another one than that of the begin.
     pub(crate) fn take(&mut self, alloc: Global, core: &Core, most: usize) -> Result<(), u32>
         ensures taken { OnOk result (IsTakenFrom most core.now self.old self.new) }
         ensures untaken { IfErr result (IsUntaken core.now self.old) }

@@ -10,18 +10,15 @@ ghost use Rattle.jl_host.specs.ForProofs.Behind.{IsNow, IsBehind, installs_at, t
 
 use jl_cache::{KeptLink, KeptSlot};
 use jl_core::{Accepted, Core, Entry};
-use jl_slots::Slots;
+use jl_slots::{PAGE, Slots};
 use jl_types::SiteNo;
 use std::alloc::{AllocError, Global};
 use std::sync::Arc;
 
-/// How many places a page has.
-const PAGE: usize = 256;
-
 /// The site's link or none, by the number of the site. Its table is the one that the core has.
 pub(crate) type Links = Slots<KeptSlot>;
 
-/// No links, with a place for each of so many sites. Want of memory is an error.
+/// No links, with a place for each of so many sites.
 pub(crate) fn no_links(alloc: Global, max_sites: u32) -> Result<Arc<Links>, AllocError>
     ensures few { max_sites < 2 ^ 32 }
     ensures blank { IfOk result (λ links. links.value ≡ replicate (room_for max_sites) None) }
@@ -156,7 +153,7 @@ fn write_entries(links: &mut Arc<Links>, core: &Core, entries: &[Entry]) -> Resu
     Ok(())
 }
 
-/// All links as they are now, in pages of their own. No page is made where no site has a link. Want of memory is an error.
+/// All links as they are now, in pages of their own. No page is made of sites that all have no link.
 fn all_links(alloc: Global, core: &Core) -> Result<Arc<Links>, AllocError>
     ensures all { IfOk result (λ links. length links.value ≡ room_for core.now.limits.sites) }
     ensures now { IfOk result (λ links. (s : ℕ) → s < room_for core.now.limits.sites → IsNow core.now links.value s) }
@@ -167,7 +164,7 @@ fn all_links(alloc: Global, core: &Core) -> Result<Arc<Links>, AllocError>
     Ok(links)
 }
 
-/// Brings the links up to date, which were so up to the `reached`-th event, and tells how many events there are. Where some of the later
+/// Brings the links up to date, which were so up to the `reached`-th event, and tells how many events there are. If some of the later
 /// entries are past, all links are written anew.
 ///
 /// # Errors

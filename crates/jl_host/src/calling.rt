@@ -1,4 +1,4 @@
-//! What calls of methods come to that no code invokes, and what references to methods resolve to.
+//! The answers to calls of methods that no code invokes, and what references to methods resolve to.
 
 ghost use Rattle.std.specs.Prelude.{◌≡◌, ◌<◌, length, if◌then◌else◌};
 ghost use Rattle.jl_types.specs.Linkage.Access as access;
@@ -16,7 +16,7 @@ use jl_resolve::{found_in, if_accessible, is_accessible_class};
 use jl_select::{select, select_interface};
 use jl_types::{Answer, ClassId, MethodId, Outcome, Recv, ResolveAnswer, Throwable};
 
-/// Writes what a call of the method at the place of the class comes to on the receiver, if there is one. Takes no memory.
+/// Writes the answer to a call of the method at the place of the class on the receiver, if there is such a method. Takes no memory.
 pub(crate) fn tell_call(
     classes: &Classes,
     class: u32,
@@ -35,8 +35,8 @@ pub(crate) fn tell_call(
     }
 }
 
-/// Writes what a reference to the method of this name and descriptor in the class `named` comes to for the class `from`, if both are present.
-/// Takes no memory.
+/// Writes what a reference to the method of this name and descriptor in the class `named` resolves to for the class `from`, if both are
+/// present. Takes no memory.
 pub(crate) fn tell_resolution(
     classes: &Classes,
     from: ClassId,
@@ -91,7 +91,7 @@ fn present_method(classes: &Classes, class: u32, method: u32) -> Option<MethodId
     }
 }
 
-/// What a call of the resolved method comes to.
+/// The answer to a call of the resolved method.
 fn called(classes: &Classes, method: &MethodId, recv: Recv) -> Answer
     ensures { result ≡ calling.called classes.now method.now recv }
 {
@@ -117,7 +117,7 @@ fn may_receive(classes: &Classes, method: &MethodId, class: ClassId) -> bool
     classes.is_concrete(class) && classes.is_ancestor(method.class, class)
 }
 
-/// What the call comes to on an object of the class.
+/// The outcome of the call on an object of the class.
 fn outcome_on(classes: &Classes, method: &MethodId, receiver: ClassId) -> Outcome
     requires { receiver < length classes.now.rows }
     ensures { result ≡ calling.outcome_on classes.now method.now receiver }

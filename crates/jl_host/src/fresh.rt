@@ -98,8 +98,9 @@ impl Start {
     ///
     /// # Errors
     ///
-    /// `SitesFull` where more sites stay than may be requested there, and so for each kind; want of memory; the refusal of an event, where
-    /// the log is another one than that of what there was.
+    /// - `SitesFull` if more sites stay than may be requested there, and so for each kind.
+    /// - Want of memory.
+    /// - The refusal of an event, if the log is another one than that of what there was.
     pub(crate) fn fresh(&self, alloc: Global, limits: Limits) -> Result<Fresh, Refusal>
         requires { AreAllowed limits }
         ensures made { IfOk result (IsMade self.now limits) }
@@ -121,7 +122,7 @@ impl Start {
     }
 }
 
-/// Of the first so many sites each that has a link, with it. Want of memory is an error.
+/// Of the first so many sites each that has a link, with it.
 fn listed(alloc: Global, links: &Links, sites: u32) -> Result<Vec<(SiteNo, Link)>, AllocError>
     ensures { IfOk result (λ rows. rows.items ≡ renewing.listed links.now sites) }
 {
@@ -141,7 +142,7 @@ fn row_at(links: &Links, site: SiteNo) -> Option<(SiteNo, Link)>
     }
 }
 
-/// Adds the item, if there is one. Want of memory is an error.
+/// Adds the item, if there is one.
 fn push_if_any<T: Drop>(items: &mut Vec<T>, item: Option<T>) -> Result<(), AllocError>
     ensures { OnOk result (items.new.items ≡ items.old.items ++ option_to_list item) }
 {
@@ -198,7 +199,7 @@ impl Fresh {
         &self.numbers
     }
 
-    /// What stands behind a linker that is opened over the fresh core. Takes no memory.
+    /// What a linker holds that is opened over the fresh core. Takes no memory.
     pub(crate) fn into_opened(self, alloc: Global) -> Opened
         ensures { result ≡ opened_over self.core }
     {
@@ -241,7 +242,7 @@ impl Fresh {
     ///
     /// # Errors
     ///
-    /// The entry names what is gone; or the fresh core refuses its event; or memory lacks.
+    /// The entry names what is gone; or the fresh core refuses its event; or there is no memory.
     fn carry(&mut self, alloc: Global, defined: &World, entry: &Entry) -> Result<(), CarryFault>
         ensures carried { OnOk result (IsCarriedOn defined.now entry.now self.old self.new) }
         ensures uncarried { IfErr result (λ fault. IsUncarriedOn defined.now entry.now self.old fault self.new) }
@@ -256,7 +257,7 @@ impl Fresh {
         }
     }
 
-    /// Installs the links of these sites under their new numbers, each from scratch, where they have one.
+    /// Installs the links of those of these sites that have one, each from scratch, under the sites' new numbers.
     ///
     /// # Errors
     ///
@@ -317,7 +318,7 @@ fn installs_of(event: &Accepted) -> Option<&[(SiteNo, KeptLink)]>
     }
 }
 
-/// The links of the rows. Want of memory is an error.
+/// The links of the rows.
 fn given(alloc: Global, rows: &[(SiteNo, KeptLink)]) -> Result<Vec<(SiteNo, Link)>, AllocError>
     ensures { IfOk result (λ given. given.items ≡ rows.now) }
 {

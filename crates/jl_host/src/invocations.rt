@@ -53,7 +53,7 @@ pub(crate) fn copy_invocations(sites: &Sites<'_>, out: &mut [Invocation], count:
     DONE
 }
 
-/// Writes the invocations to the front of the array, where they fit.
+/// Writes the invocations to the front of the array, which has room for them.
 fn write_invocations(sites: &Sites<'_>, out: &mut [Invocation])
     requires { length sites.now ≤ length out.old }
     ensures { out.new ≡ map invocation_shown sites.now ++ drop (length sites.now) out.old }

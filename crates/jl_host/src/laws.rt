@@ -42,21 +42,21 @@ ghost use Rattle.jl_host.specs.Renewals.{Arrays, with_numbers};
 ghost use Rattle.jl_host.specs.Renewing.{Renewing, HasBegun, IsTakenFrom, IsUnready, IsFilled, IsFinished};
 ghost use Rattle.jl_host.specs.UnderWay.{IsUnderWay, IsFillOrUnready};
 
-/// What is shown of a link is read as that link, where it has at most eight rows and each method that it runs is among the first 2^16
+/// What is shown of a link is read as that link. The link has at most eight rows, and each method that it runs is among the first 2^16
 /// of its class, as those of a class file are (JVMS SE 17 §4.1).
 pub fn shown_links_are_read_again()
     ensures { (link : Link) → is_shown_whole link ≡ true → link_of (shown link) ≡ Some link }
 {}
 
-/// The 64 bits that a seat answers are those of what a call at it writes, and of a miss where that is closed.
+/// The 64 bits that a seat answers are those of what a call at it writes, and of a miss if the seat was never refreshed.
 pub fn seats_answer_what_calls_write()
     ensures { (site receiver status bits : ℕ) (had called answered : Option SeatView) (before after : CallAnswer)
         → IsSeatCall site receiver had before status after called → IsSeatAnswer site receiver had bits answered
         → HasBits (if status == done then after else otherwise 4 0) bits }
 {}
 
-/// What a call of a method comes to that no code makes stays on each object of a class that was there, whatever events come, as long as objects
-/// may be of that class: a host may keep it.
+/// The answer to a call of a method that no code makes stays on each object of a class that was there, whatever events come, as long as
+/// objects may be of that class. So a host may keep it.
 pub fn selections_stay()
     ensures { (h more : List Event) (m : MethodId) (x : ℕ) → is_some (method_at (world_after h).classes m) ≡ true
         → x < length (world_after h).classes.rows → is_concrete (world_after (h ++ more)).classes x ≡ true
@@ -68,7 +68,7 @@ pub fn targets_are_read_from_parts()
     ensures { (t : Target) → IsTarget t → nesting t ≤ max_depth → target_of (parts_of t) ≡ Some t }
 {}
 
-/// What a view prepared is installed while the world is the one that was seen, unless memory lacks; and whenever links are installed that
+/// What a view prepared is installed while the world is the one that was seen, unless there is no memory. Whenever links are installed that
 /// are given, each of them is its site's link from scratch then. After accepted events of files that were read, as those of each core are,
 /// each link from scratch runs methods that a class file may have (JVMS SE 17 §4.1).
 pub fn given_links_are_from_scratch()
@@ -90,13 +90,13 @@ pub fn awaited_classes_are_named()
         → (name : List ℕ) × (awaited s w ≡ Some name) }
 {}
 
-/// A renewal in steps is under way from its begin on: whatever the linker accepts meanwhile, as entries are taken and carried over, whatever a
-/// fill answers, and where nothing is handed over. The linker that is handed over stands beside the old one as that is then, under the numbers
-/// that were written, and has its links. So by [`linking_commutes_beside`](jl_renewal::linking_commutes_beside) links from scratch and calls of
-/// sites that aren't gone are the same there. A site whose call site is released isn't bound there any more.
+/// A renewal in steps is under way from its begin on: whatever the linker accepts meanwhile, as entries are taken and carried over,
+/// whatever a fill answers, and if nothing is handed over. The linker that is handed over stands beside the old one as that is then, under
+/// the numbers that were written, and has its links. So by [`linking_commutes_beside`](jl_renewal::linking_commutes_beside) links from
+/// scratch and calls of sites that aren't gone are the same there. A site whose call site is released isn't bound there any more.
 ///
-/// The fresh linker may have as many of each kind as the old one, so a fill is never refused for want of room: what it answers is want of
-/// memory, or that the next event is one of a call site and names what was released.
+/// The fresh linker may have as many of each kind as the old one, so a fill is never refused for want of room. If it isn't done, it answers
+/// want of memory, or that the next event is one of a call site and names what was released.
 pub fn renewals_in_steps_stay_beside()
     ensures begun { (opened : Opened) (released : Released) (max_sites : ℕ) (renewing : Renewing)
         → AreAccepted opened.session.core.limits (events opened.session.core) → opened.session.core.limits.sites ≤ max_sites

@@ -1,6 +1,11 @@
-//! A linker as a host holds it: one core, its events by plain numbers, bytes and arrays, seats, at which threads read its links without a
-//! lock, views, in which compilers prepare links without one, and renewals, which make a fresh linker while the old one goes on. Everything
-//! that a call answers is a status and plain numbers.
+//! A linker as a host holds it, and what the host reads and renews it by:
+//!
+//! - a linker: one core, with its events by plain numbers, bytes and arrays;
+//! - seats, at which threads read its links without a lock;
+//! - views, in which compilers prepare links without a lock;
+//! - renewals, which make a fresh linker while the old one goes on.
+//!
+//! Everything that a call answers is a status and plain numbers.
 //!
 //! What each call leaves, by its status, stands in `specs/`, in reading order: `Numbers`, `Telling`, `Showing`, `Copies`, `Linkers`,
 //! `Seats`, `Memos`, `Reading`, `Targets`, `Views`, `Awaiting`, `Asking`, `Calling`, `Linking`, `Renewals`, `Renewing`, `UnderWay`.
@@ -12,7 +17,6 @@ mod told;
 
 // Arrays, and links and targets that are given.
 mod arrays;
-mod fill;
 mod invocations;
 mod reading;
 mod targets;
@@ -22,7 +26,7 @@ mod asked;
 mod awaited;
 mod calling;
 
-// What stands behind a linker, and the linker.
+// What an open linker holds, and the linker.
 mod begun;
 mod behind;
 mod fresh;
@@ -55,7 +59,7 @@ pub use reading::LinkRow;
 pub use renew::{Counts, GONE};
 pub use renewal::Renewal;
 pub use seat::Seat;
-pub use shown::{CallAnswer, LinkShown, MOST_ROWS, NO_METHOD, NULL, ResolutionShown, Row};
+pub use shown::{CallAnswer, LinkShown, NO_METHOD, NULL, ResolutionShown, Row};
 pub use targets::TargetPart;
 pub use told::{
     CLOSED, DONE, MALFORMED, MEMORY, NO_CLASS_FILE, NO_SUCH_PLACE, OPEN_ALREADY, RELEASED,

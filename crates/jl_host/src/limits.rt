@@ -35,14 +35,14 @@ pub(crate) fn may_be_asked(asked: &Limits) -> bool
         && asked.switches <= MOST_OF_A_KIND
 }
 
-/// The limit that was asked for, where 0 stands for as many as there may be.
+/// The limit that was asked for: 0 stands for as many as there may be.
 fn limit_asked(number: u32) -> u32
     ensures { result ≡ limit_asked number }
 {
     if number == 0 { MOST_OF_A_KIND } else { number }
 }
 
-/// The limits that were asked for, where 0 stands for as many as there may be, but for the sites.
+/// The limits that were asked for: 0 stands for as many as there may be, except for sites.
 pub(crate) fn limits_asked(asked: &Limits) -> Limits
     requires { may_be_asked asked.now ≡ true }
     ensures limits { result ≡ limits_asked asked.now }
@@ -57,7 +57,7 @@ pub(crate) fn limits_asked(asked: &Limits) -> Limits
     }
 }
 
-/// Those of the core, but for so many sites.
+/// The limits of the core, but for so many sites.
 pub(crate) fn limits_for(core: &Core, max_sites: u32) -> Limits
     requires { 1 ≤ max_sites }
     ensures limits { result ≡ limits_for core.now max_sites }

@@ -22,7 +22,7 @@ impl Opened {
     ) -> u32
         ensures { IsLinked (event.Request place) self.old link.old result told.new link.new self.new }
     {
-        let status = self.ask(alloc, Event::Request(place), told);
+        let status = self.submit(alloc, Event::Request(place), told);
         if status != DONE {
             return status;
         }

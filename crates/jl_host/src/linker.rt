@@ -12,14 +12,16 @@ ghost use Rattle.jl_host.specs.Linkers.{IsBind, IsRetire, IsRetireAll, IsRelease
 ghost use Rattle.jl_session.specs.Sessions.{snapshot_of};
 ghost use Rattle.jl_host.specs.Targets.{IsNewCallSiteOf, IsSetTargetOf};
 ghost use Rattle.jl_host.specs.Views.{IsInstallLinks};
-ghost use Rattle.jl_host.specs.Asking.{IsLookup, IsClassName, IsMethodName, IsMethodType, IsInvocations, IsNamed, IsAwaited, IsLastWork, IsCatchUp};
+ghost use Rattle.jl_host.specs.Asking.{IsLookup, IsClassName, IsMethodName, IsMethodType, IsInvocations, IsRefusedName, IsAwaited, IsLastWork, IsCatchUp};
 ghost use Rattle.jl_host.specs.Renewals.{IsCounts, IsCountsPresent, IsRenew, arrays_of, released_of};
 ghost use Rattle.jl_host.specs.Renewing.{IsBegunOf};
 ghost use Rattle.jl_host.specs.Linkers.{Opened as OpenedValue};
 
 mod calls;
 
-use crate::arrays::{call_sites_of, copy_sites, copy_text, loaders_of, sites_of, switches_of};
+use crate::arrays::{
+    call_sites_from, copy_sites, copy_text, loaders_from, sites_from, switches_from,
+};
 use crate::asked::{
     copy_awaited, copy_class_name, copy_invocations_of, copy_method_name, copy_method_type,
     copy_name, find_class,
@@ -47,7 +49,7 @@ use jl_types::{
 use std::alloc::{AllocError, Global};
 use std::marker::Model;
 
-/// A linker that is open, or isn't. A clause sees what stands behind it.
+/// A linker that is open, or isn't. A clause sees what it holds.
 pub struct Linker {
     opened: Option<Opened>,
 }
@@ -81,7 +83,7 @@ impl Linker {
     }
 
     /// Opens it, without classes; so many places may be requested, 1 to 1,048,576, and there may be 1,048,576 loaders, classes, call sites
-    /// and switch points. The status tells whether it was open already, no such number may be, or memory lacks.
+    /// and switch points. The status tells whether it was open already, no such number may be, or there was no memory.
     pub fn open(&mut self, alloc: Global, max_sites: u32) -> u32
         ensures { IsOpen max_sites self.old result self.new }
     {
@@ -100,8 +102,8 @@ impl Linker {
         }
     }
 
-    /// Opens it, without classes; of each kind so many numbers are ever given: 1 to 1,048,576 sites, and at most 1,048,576 of each other
-    /// kind, which 0 stands for. The status tells whether it was open already, there may not be so many, or memory lacks.
+    /// Opens it, without classes. Of each kind so many numbers are ever given: 1 to 1,048,576 sites, and at most 1,048,576 of each other
+    /// kind, which 0 stands for. The status tells whether it was open already, there may not be so many, or there was no memory.
     pub fn open_with(
         &mut self,
         alloc: Global,
@@ -146,7 +148,7 @@ impl Linker {
     pub fn new_loader(&mut self, alloc: Global, told: &mut Told) -> u32
         ensures { IsNewLoader self.old result told.new self.new }
     {
-        self.ask(alloc, Event::NewLoader, told)
+        self.submit(alloc, Event::NewLoader, told)
     }
 
     /// The loader defines the class of a class file (JVMS SE 17 §4, §5.3.5) whose major version is at most 61, that of SE 17.
@@ -193,7 +195,7 @@ impl Linker {
             return unasked(MEMORY, told);
         };
         let event = Event::Delegate(LoaderId::new(loader), name, LoaderId::new(to));
-        opened.ask(alloc, event, told)
+        opened.submit(alloc, event, told)
     }
 
     /// The invocation at the pc of a method is to be linked: the method's place is that among those that the class declares.
@@ -214,7 +216,7 @@ impl Linker {
             return unasked(MALFORMED, told);
         };
         let class = ClassId::new(class);
-        opened.ask(alloc, Event::Request(Place { class, method, pc }), told)
+        opened.submit(alloc, Event::Request(Place { class, method, pc }), told)
     }
 
     /// One call site more: of this kind (1: constant, 2: mutable, 3: volatile), of this type, a method descriptor (§4.3.3), and with
@@ -278,7 +280,7 @@ impl Linker {
             return unasked(MALFORMED, told);
         };
         let event = Event::SetTarget(CallSiteId::new(call_site), target);
-        opened.ask(alloc, event, told)
+        opened.submit(alloc, event, told)
     }
 
     /// The call site gets another target, which the parts are.
@@ -300,7 +302,7 @@ impl Linker {
         let Some(target) = target else {
             return unasked(MALFORMED, told);
         };
-        opened.ask(
+        opened.submit(
             alloc,
             Event::SetTarget(CallSiteId::new(call_site), target),
             told,
@@ -311,7 +313,7 @@ impl Linker {
     pub fn new_switch(&mut self, alloc: Global, told: &mut Told) -> u32
         ensures { IsNewSwitch self.old result told.new self.new }
     {
-        self.ask(alloc, Event::NewSwitch, told)
+        self.submit(alloc, Event::NewSwitch, told)
     }
 
     /// The switch points become invalid for good.
@@ -321,10 +323,10 @@ impl Linker {
         let Some(opened) = &mut self.opened else {
             return unasked(CLOSED, told);
         };
-        let Ok(switches) = switches_of(alloc, switches) else {
+        let Ok(switches) = switches_from(alloc, switches) else {
             return unasked(MEMORY, told);
         };
-        opened.ask(alloc, Event::Invalidate(Seq::of(switches)), told)
+        opened.submit(alloc, Event::Invalidate(Seq::of(switches)), told)
     }
 
     /// The invokedynamic's bootstrap method gave this call site (§6.5).
@@ -332,32 +334,32 @@ impl Linker {
         ensures { IsBind site call_site self.old result told.new self.new }
     {
         let event = Event::Bind(SiteNo::new(site), CallSiteId::new(call_site));
-        self.ask(alloc, event, told)
+        self.submit(alloc, event, told)
     }
 
     /// The loader goes, with the classes that it has defined and the sites in them (JLS SE 17 §12.7).
     pub fn retire(&mut self, alloc: Global, loader: u32, told: &mut Told) -> u32
         ensures { IsRetire loader self.old result told.new self.new }
     {
-        self.ask(alloc, Event::Retire(LoaderId::new(loader)), told)
+        self.submit(alloc, Event::Retire(LoaderId::new(loader)), told)
     }
 
     /// The loaders go at once, with the classes that they have defined and the sites in them: all or none. The first one that can't go is
-    /// told. What only one of them needs of another holds none back. Where there are none nothing changes.
+    /// told. What only one of them needs of another holds none back. If there are none, nothing changes.
     pub fn retire_all(&mut self, alloc: Global, loaders: &[u32], told: &mut Told) -> u32
         ensures { IsRetireAll loaders.now self.old result told.new self.new }
     {
         let Some(opened) = &mut self.opened else {
             return unasked(CLOSED, told);
         };
-        let Ok(loaders) = loaders_of(alloc, loaders) else {
+        let Ok(loaders) = loaders_from(alloc, loaders) else {
             return unasked(MEMORY, told);
         };
-        opened.ask(alloc, Event::RetireAll(Seq::of(loaders)), told)
+        opened.submit(alloc, Event::RetireAll(Seq::of(loaders)), told)
     }
 
     /// The call sites and the switch points go at once: all or none. The first one that isn't there is told, or the least call site that
-    /// stays and whose target names one of them. A site that is bound to one of these call sites is gone. Where there are none nothing
+    /// stays and whose target names one of them. A site that is bound to one of these call sites is gone. If there are none, nothing
     /// changes.
     pub fn release(
         &mut self,
@@ -371,14 +373,14 @@ impl Linker {
         let Some(opened) = &mut self.opened else {
             return unasked(CLOSED, told);
         };
-        let Ok(call_sites) = call_sites_of(alloc, call_sites) else {
+        let Ok(call_sites) = call_sites_from(alloc, call_sites) else {
             return unasked(MEMORY, told);
         };
-        let Ok(points) = switches_of(alloc, points) else {
+        let Ok(points) = switches_from(alloc, points) else {
             return unasked(MEMORY, told);
         };
         let event = Event::Release(Seq::of(call_sites), Seq::of(points));
-        opened.ask(alloc, event, told)
+        opened.submit(alloc, event, told)
     }
 
     /// The sites are linked from scratch, 1 to 256 of them, and their links installed: all or none.
@@ -388,14 +390,14 @@ impl Linker {
         let Some(opened) = &mut self.opened else {
             return unasked(CLOSED, told);
         };
-        let Ok(sites) = sites_of(alloc, sites) else {
+        let Ok(sites) = sites_from(alloc, sites) else {
             return unasked(MEMORY, told);
         };
         opened.install(alloc, sites.as_slice(), told)
     }
 
-    /// The links are installed, of 1 to 256 sites, each of which is its site's link from scratch now, wherever it was looked up: all or
-    /// none. The first site whose link is another one is told, and its present link written.
+    /// The links of 1 to 256 sites are installed, wherever they were looked up: all or none. Each has to be its site's link from scratch
+    /// now. The first site whose link is another one is told, and its present link written.
     pub fn install_links(
         &mut self,
         alloc: Global,
@@ -427,7 +429,7 @@ impl Linker {
         }
     }
 
-    /// What a call comes to now, linked or not. Takes no memory.
+    /// The answer to a call now, linked or not. Takes no memory.
     pub fn call(&mut self, site: u32, receiver: u32, answer: &mut CallAnswer) -> u32
         ensures { IsCall site receiver self.old answer.old result answer.new self.new }
     {
@@ -439,7 +441,7 @@ impl Linker {
         DONE
     }
 
-    /// What a call comes to now, and the link that is installed at its site, where it is open. Takes no memory.
+    /// The answer to a call now, and the link that is installed at its site, if the linker is open. Takes no memory.
     pub(crate) fn asked(&self, site: u32, receiver: u32) -> Option<(Answer, Option<Link>)>
         ensures { result ≡ option_map (λ opened. (
           dispatch (world_of opened.session.core) site (recv_of receiver),
@@ -521,11 +523,11 @@ impl Linker {
 
     /// Copies the name of the class that the refusal of the last event told of, a parent that is missing, no interface or not accessible
     /// (§5.3.5), and tells its length. Commands as text leave it. Takes no memory.
-    pub fn named(&mut self, out: &mut [u8], count: &mut usize) -> u32
-        ensures { IsNamed self.old out.old count.old result out.new count.new self.new }
+    pub fn refused_name(&mut self, out: &mut [u8], count: &mut usize) -> u32
+        ensures { IsRefusedName self.old out.old count.old result out.new count.new self.new }
     {
         match &self.opened {
-            Some(opened) => copy_name(opened.named(), out, count),
+            Some(opened) => copy_name(opened.refused_name(), out, count),
             None => CLOSED,
         }
     }
@@ -552,7 +554,7 @@ impl Linker {
         DONE
     }
 
-    /// Does the last event in the second instance of all that the linker keeps, where it isn't done there, so that the next event doesn't pay
+    /// Does the last event in the second instance of all that the linker keeps, if it isn't done there, so that the next event doesn't pay
     /// for it. Want of memory loses that instance, and the next event copies the first one.
     pub fn catch_up(&mut self, alloc: Global) -> u32
         ensures { IsCatchUp self.old result self.new }
@@ -616,9 +618,9 @@ impl Linker {
     }
 
     /// Opens the other linker over a fresh core that has what stays of this one's, but for the call sites and switch points that are
-    /// released; so many places may be requested there, 1 to 1,048,576, and its other limits are this one's. Of each loader, class, site,
-    /// call site and switch point the new number is written, or `GONE`, to the front of its array. The status tells whether one of the two
-    /// isn't as it has to be, no such number may be, an array is too short, more sites stay, or memory lacks.
+    /// released. So many places may be requested there, 1 to 1,048,576; its other limits are this one's. Of each loader, class, site,
+    /// call site and switch point the new number is written, or `GONE`, to the front of its array. The status tells whether this linker
+    /// isn't open or the other one is, no such number may be, an array is too short, more sites stay, or there was no memory.
     pub fn renew(
         &mut self,
         alloc: Global,
@@ -666,7 +668,7 @@ impl Linker {
         self.opened.is_some()
     }
 
-    /// What stands behind it, where it is open.
+    /// What it holds, if it is open.
     pub(crate) fn opened(&self) -> Option<&Opened>
         ensures { option_copied result ≡ self.now }
     {
@@ -680,8 +682,7 @@ impl Linker {
         self.opened = Some(opened);
     }
 
-    /// A renewal that begins, where it is open, of which the host has released these; so many places may be requested in the fresh linker.
-    /// Want of memory is an error.
+    /// A renewal that begins, if it is open. The host has released these, and so many places may be requested in the fresh linker.
     pub(crate) fn begun(
         &mut self,
         alloc: Global,
@@ -700,7 +701,7 @@ impl Linker {
         Ok(Some(begun))
     }
 
-    /// Its links as they are now, and how many classes there are, where it is open. Want of memory is an error.
+    /// Its links as they are now, and how many classes there are, if it is open.
     pub(crate) fn seen(&mut self, alloc: Global) -> Result<Option<SeatView>, AllocError>
         ensures same { self.new ≡ self.old }
         ensures seen { IfOk result (λ seen. seen ≡ option_map (λ opened. seen_of opened.session.core) self.old) }
@@ -713,7 +714,7 @@ impl Linker {
         Ok(Some(seen))
     }
 
-    /// What there is to link now, with the count of its events, where it is open. Want of memory is an error.
+    /// What there is to link now, with the count of its events, if it is open.
     pub(crate) fn snapshot(&self, alloc: Global) -> Result<Option<Snapshot>, AllocError>
         ensures seen { IfOk result (λ seen. seen ≡ option_map (λ opened. snapshot_of opened.session) self.now) }
         ensures open { OnErr result ((opened : OpenedValue) × (self.now ≡ Some opened)) }
@@ -725,12 +726,12 @@ impl Linker {
         Ok(Some(seen))
     }
 
-    /// Asks for the event, where it is open.
-    fn ask(&mut self, alloc: Global, event: Event, told: &mut Told) -> u32
+    /// Asks for the event, if it is open.
+    fn submit(&mut self, alloc: Global, event: Event, told: &mut Told) -> u32
         ensures { IfOpen (IsAsked event) self.old result told.new self.new }
     {
         match &mut self.opened {
-            Some(opened) => opened.ask(alloc, event, told),
+            Some(opened) => opened.submit(alloc, event, told),
             None => unasked(CLOSED, told),
         }
     }

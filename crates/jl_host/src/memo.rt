@@ -42,7 +42,7 @@ impl Memo {
         Memo { rows: None }
     }
 
-    /// Opens it, with room for two calls a set. The status tells whether it was open already, or memory lacks.
+    /// Opens it, with room for two calls a set. The status tells whether it was open already, or there was no memory.
     pub fn open(&mut self, alloc: Global, sets: u32) -> u32
         ensures { IsMemoOpen sets self.old result self.new }
     {
@@ -65,7 +65,7 @@ impl Memo {
         self.rows = None;
     }
 
-    /// What a call comes to now, linked or not; remembered where the site's link is megamorphic and the call has an outcome for its
+    /// The answer to a call now, linked or not. It is remembered if the site's link is megamorphic and the call has an outcome for its
     /// receiver's class. A site of a retired loader is gone, and an object of a class of one is no receiver. Takes no memory.
     pub fn ask(
         &mut self,
@@ -87,7 +87,7 @@ impl Memo {
         DONE
     }
 
-    /// What it remembers that a call comes to, by itself, be the site or the class retired or not. Takes no lock and no memory.
+    /// The answer to a call that it remembers, by itself, be the site or the class retired or not. Takes no lock and no memory.
     pub fn call(&mut self, site: u32, receiver: u32, answer: &mut CallAnswer) -> u32
         ensures { IsMemoCall site receiver self.old answer.old result answer.new self.new }
     {
@@ -98,7 +98,7 @@ impl Memo {
         DONE
     }
 
-    /// What it remembers, where it is open.
+    /// What it remembers, if it is open.
     pub(crate) fn rows(&self) -> Option<&jl_memo::Memo>
         ensures { option_copied result ≡ self.now }
     {
@@ -106,7 +106,7 @@ impl Memo {
     }
 }
 
-/// Remembers what a call came to, where its site's link was this.
+/// Remembers the answer to a call whose site had this link, if the link is megamorphic.
 fn tell(rows: &mut jl_memo::Memo, link: &Option<Link>, site: u32, receiver: u32, found: &Answer)
     ensures { rows.new ≡ told rows.old link.now site (recv_of receiver) found.now }
 {

@@ -1,4 +1,4 @@
-//! What stands behind a linker that is open.
+//! What an open linker holds.
 
 ghost use Rattle.std.specs.Prelude.{◌≡◌, ◌≤◌, ◌⊎◌, option_copied, IfOk, IfErr};
 ghost use Rattle.jl_types.specs.Linkage.Calls.{dispatch};
@@ -41,8 +41,8 @@ use std::sync::Arc;
 /// How many events are kept before all but the last one are forgotten.
 const KEPT_EVENTS: u64 = 1024;
 
-/// A session, the text of its last answer, the class that the refusal of the last event named, and its links in pages that seats share,
-/// which are brought up to date when a seat asks. A clause sees the session, the text and the class.
+/// A session, the text of its last answer, the class that the refusal of the last event named, and its links in pages that seats share.
+/// The links are brought up to date when a seat asks. A clause sees the session, the text and the class.
 ///
 /// The session forgets its past events, whenever it has many of them and no renewal in steps is under way.
 pub(crate) struct Opened {
@@ -86,7 +86,7 @@ impl Model for Opened {
 }
 
 impl Opened {
-    /// One without classes, which may have so many of each kind. Want of memory is an error.
+    /// One without classes, which may have so many of each kind.
     pub(crate) fn new(alloc: Global, limits: Limits) -> Result<Opened, AllocError>
         requires { AreAllowed limits }
         ensures { IfOk result (λ opened. opened ≡ newly_opened limits) }
@@ -94,7 +94,7 @@ impl Opened {
         Opened::of(alloc, Core::with_limits(alloc, limits)?, limits.sites)
     }
 
-    /// One over this core, where so many places may be requested: seats take all its links. Want of memory is an error.
+    /// One over this core, in which so many places may be requested. Its pages have no link yet.
     fn of(alloc: Global, core: Core, max_sites: u32) -> Result<Opened, AllocError>
         requires { core.limits.sites ≡ max_sites }
         ensures { IfOk result (λ opened. opened ≡ opened_over core) }
@@ -126,8 +126,7 @@ impl Opened {
         }
     }
 
-    /// A renewal of this core that begins, of which the host has released these; so many places may be requested in the fresh one. Want
-    /// of memory is an error.
+    /// A renewal of this core that begins. The host has released these, and so many places may be requested in the fresh core.
     pub(crate) fn begun(
         &mut self,
         alloc: Global,
@@ -149,11 +148,11 @@ impl Opened {
         Begun::new(alloc, claim, start, limits)
     }
 
-    /// One over a fresh core that has what stays of this one's, where so many places may be requested, and the numbers of what stays.
+    /// One over a fresh core that has what stays of this one's, and the numbers of what stays. So many places may be requested there.
     ///
     /// # Errors
     ///
-    /// `SitesFull` where more sites stay; want of memory.
+    /// `SitesFull` if more sites stay; want of memory.
     pub(crate) fn renewed(
         &self,
         alloc: Global,
@@ -189,7 +188,7 @@ impl Opened {
         self.session.core()
     }
 
-    /// What a call comes to now, and the link that is installed at its site. Takes no memory.
+    /// The answer to a call now, and the link that is installed at its site. Takes no memory.
     pub(crate) fn asked(&self, site: SiteNo, recv: Recv) -> (Answer, Option<Link>)
         ensures answer { result.0 ≡ dispatch (world_of self.now.session.core) site recv }
         ensures link { result.1 ≡ installed (events self.now.session.core) site }
@@ -206,14 +205,14 @@ impl Opened {
     }
 
     /// The class that the refusal of the last event told of by its name.
-    pub(crate) fn named(&self) -> Option<&Name>
+    pub(crate) fn refused_name(&self) -> Option<&Name>
         ensures { option_copied result ≡ self.now.named }
     {
         self.named.as_ref()
     }
 
     /// Asks the core for the event.
-    pub(crate) fn ask(&mut self, alloc: Global, event: Event, told: &mut Told) -> u32
+    pub(crate) fn submit(&mut self, alloc: Global, event: Event, told: &mut Told) -> u32
         ensures { IsAsked event self.old result told.new self.new }
     {
         let outcome = self.session.submit(alloc, event);
@@ -235,7 +234,7 @@ impl Opened {
         ensures { IsDefinedUpTo newest loader bytes.now self.old result told.new self.new }
     {
         match read_class_up_to(alloc, newest, bytes) {
-            Ok(file) => self.ask(alloc, Event::Define(loader, file), told),
+            Ok(file) => self.submit(alloc, Event::Define(loader, file), told),
             Err(fault) => tell_file(fault, told),
         }
     }
@@ -279,7 +278,7 @@ impl Opened {
         let Ok(ty) = Name::copied(alloc, ty) else {
             return unasked(MEMORY, told);
         };
-        self.ask(alloc, Event::NewCallSite(kind, ty, target), told)
+        self.submit(alloc, Event::NewCallSite(kind, ty, target), told)
     }
 
     /// Prepares the sites in the core as it is, and installs their links. Each is looked up once.
@@ -298,7 +297,7 @@ impl Opened {
         }
     }
 
-    /// Asks for the install of these links, and shows the present one where a link is stale.
+    /// Asks for the install of these links, and shows the present one if a link is stale.
     pub(crate) fn install_links(
         &mut self,
         alloc: Global,
@@ -352,7 +351,7 @@ impl Opened {
         }
     }
 
-    /// The links as they are now, and how many classes there are. Want of memory is an error.
+    /// The links as they are now, and how many classes there are.
     pub(crate) fn seen(&mut self, alloc: Global) -> Result<SeatView, AllocError>
         ensures same { self.new ≡ self.old }
         ensures seen { IfOk result (λ seen. seen ≡ seen_of self.old.session.core) }
@@ -361,7 +360,7 @@ impl Opened {
         Ok(SeatView::new(links, self.session.core().class_count()))
     }
 
-    /// The links as they are now, in pages that are shared. Want of memory is an error.
+    /// The links as they are now, in pages that are shared.
     fn links_now(&mut self, alloc: Global) -> Result<Arc<Links>, AllocError>
         ensures same { self.new ≡ self.old }
         ensures links { IfOk result (λ links. links.value ≡ (seen_of self.old.session.core).links) }
@@ -373,7 +372,7 @@ impl Opened {
     }
 
     /// Lets the session forget the past events, if many of them are kept and no renewal in steps is under way. Links that seats share are
-    /// brought up to date before, unless memory lacks: they are written anew then when a seat asks.
+    /// brought up to date before. If there is no memory for that, they are written anew when a seat asks.
     fn forget_past(&mut self, alloc: Global)
         ensures { self.new ≡ self.old }
     {
@@ -386,7 +385,7 @@ impl Opened {
         self.session.forget();
     }
 
-    /// Brings the links up to date, unless memory lacks.
+    /// Brings the links up to date, unless there is no memory.
     fn bring_links(&mut self, alloc: Global)
         ensures { self.new ≡ self.old }
     {
@@ -413,7 +412,7 @@ fn is_unclaimed(claim: &mut Option<Arc<Claim>>) -> bool {
     }
 }
 
-/// A share of the claim, which is made where there is none yet. Want of memory is an error.
+/// A share of the claim, which is made if there is none yet.
 fn claim_on(claim: &mut Option<Arc<Claim>>, alloc: Global) -> Result<Arc<Claim>, AllocError> {
     if let Some(claim) = claim {
         let share = Arc::try_clone(claim)?;
@@ -438,7 +437,7 @@ fn show_present(outcome: &Result<Reply, Refusal>, present: &mut LinkShown)
 ///
 /// # Errors
 ///
-/// `SitesFull` where more sites stay; want of memory.
+/// `SitesFull` if more sites stay; want of memory.
 fn renewed_core(
     alloc: Global,
     core: &Core,

@@ -3,9 +3,9 @@
 ghost use Rattle.std.specs.Prelude.{◌≡◌, ◌≤◌, length, Some, None, option_map, IfOk, OnErr};
 ghost use Rattle.jl_host.specs.Reading as reading;
 
-use crate::fill::fill;
-use crate::shown::{LinkShown, MOST_ROWS, Row};
-use jl_types::{ClassId, Link, MethodId, Outcome, SiteNo, Table, TableKind, Throwable};
+use crate::shown::{LinkShown, Row};
+use jl_relink::fill;
+use jl_types::{ClassId, Link, MOST_ROWS, MethodId, Outcome, SiteNo, Table, TableKind, Throwable};
 use std::alloc::{AllocError, Global};
 
 /// A site with the link that it is to have.
@@ -30,7 +30,7 @@ fn throwable_of(number: u32) -> Option<Throwable>
     }
 }
 
-/// The method of these numbers, where a class can have so many.
+/// The method of these numbers, if a class can have so many.
 pub(crate) fn method_of(class: u32, value: u32) -> Option<MethodId>
     ensures { result ≡ reading.method_of class value }
 {
@@ -41,7 +41,7 @@ pub(crate) fn method_of(class: u32, value: u32) -> Option<MethodId>
     Some(MethodId { class, index })
 }
 
-/// What the row comes to.
+/// The outcome that the row shows, if it shows one.
 fn outcome_of(row: &Row) -> Option<Outcome>
     ensures { result ≡ reading.outcome_of row.now }
 {
@@ -122,7 +122,7 @@ fn link_of(shown: &LinkShown) -> Option<Link>
     }
 }
 
-/// The site with its link. It is an error where that is none.
+/// The site with its link. It is an error if that is none.
 fn row_of(row: &LinkRow) -> Result<(SiteNo, Link), ()>
     ensures ok { IfOk result (λ read. reading.row_of row.now ≡ Some read) }
     ensures err { OnErr result (reading.row_of row.now ≡ None) }
@@ -133,7 +133,7 @@ fn row_of(row: &LinkRow) -> Result<(SiteNo, Link), ()>
     }
 }
 
-/// The sites with their links, if each is one. Want of memory is an error.
+/// The sites with their links, if each is one.
 pub(crate) fn rows_of(
     alloc: Global,
     rows: &[LinkRow],

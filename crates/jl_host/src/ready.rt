@@ -6,7 +6,7 @@ ghost use Rattle.jl_host.specs.Numbers.{memory};
 ghost use Rattle.jl_host.specs.Linking as linking;
 ghost use Rattle.jl_host.specs.Linking.{IsInstalledIfAny, IsNotReadied, IsReadied, IsReadyIn, links_at, ready_among};
 
-use crate::arrays::sites_of;
+use crate::arrays::sites_from;
 use crate::opened::Opened;
 use crate::shown::{LinkShown, link_shown};
 use crate::told::{DONE, MEMORY, TOO_SHORT, Told, unasked};
@@ -29,13 +29,13 @@ impl Opened {
         if links.len() < sites.len() {
             return unasked(TOO_SHORT, told);
         }
-        let Ok(sites) = sites_of(alloc, sites) else {
+        let Ok(sites) = sites_from(alloc, sites) else {
             return unasked(MEMORY, told);
         };
         self.install_ready_in(alloc, sites.as_slice(), links, told)
     }
 
-    /// The same, where the links have room for the sites.
+    /// Installs the links of those of the sites that have one now, and shows what each of the sites has then. The links have room for them.
     fn install_ready_in(
         &mut self,
         alloc: Global,
@@ -68,7 +68,7 @@ impl Opened {
     }
 }
 
-/// Those of the sites that have a link now. Want of memory is an error.
+/// Those of the sites that have a link now.
 fn ready_of(alloc: Global, world: &World, sites: &[SiteNo]) -> Result<Vec<SiteNo>, AllocError>
     ensures { IfOk result (λ ready. ready.items ≡ ready_among world.now sites.now) }
 {
@@ -88,7 +88,7 @@ fn if_linked(world: &World, site: SiteNo) -> Option<SiteNo>
     }
 }
 
-/// Writes what is installed at each of the sites to the front of the array, where they fit.
+/// Writes what is installed at each of the sites to the front of the array, which has room for them.
 fn show_links(core: &Core, sites: &[SiteNo], links: &mut [LinkShown])
     requires { length sites.now ≤ length links.old }
     ensures { links.new ≡ links_at core.now sites.now links.old }

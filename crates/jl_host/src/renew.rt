@@ -5,7 +5,7 @@ ghost use Rattle.jl_core.specs.State.{world_of};
 ghost use Rattle.jl_host.specs.Renewals as renewals;
 ghost use Rattle.jl_host.specs.Renewals.{counts_of, present_of, no_counts, arrays_of, at_front, with_numbers};
 
-use crate::arrays::{call_sites_of, switches_of};
+use crate::arrays::{call_sites_from, switches_from};
 use jl_core::Core;
 use jl_names::Seq;
 use jl_renewal::{Released, Renumbering, counts_present};
@@ -54,7 +54,7 @@ impl Counts {
         }
     }
 
-    /// How many of the core's are present. Want of memory is an error.
+    /// How many of the core's are present.
     pub(crate) fn present(alloc: Global, core: &Core) -> Result<Counts, AllocError>
         ensures { IfOk result (λ counts. counts ≡ present_of (world_of core.now)) }
     {
@@ -94,7 +94,7 @@ fn has_places(array: &[u32], count: u32) -> bool
     count as usize <= array.len()
 }
 
-/// What the host has let go. Want of memory is an error.
+/// What the host has let go.
 pub(crate) fn released_of(
     alloc: Global,
     call_sites: &[u32],
@@ -102,8 +102,8 @@ pub(crate) fn released_of(
 ) -> Result<Released, AllocError>
     ensures { IfOk result (λ released. released ≡ renewals.released_of call_sites.now switches.now) }
 {
-    let call_sites = Seq::of(call_sites_of(alloc, call_sites)?);
-    let switches = Seq::of(switches_of(alloc, switches)?);
+    let call_sites = Seq::of(call_sites_from(alloc, call_sites)?);
+    let switches = Seq::of(switches_from(alloc, switches)?);
     Ok(Released {
         call_sites,
         switches,
@@ -145,7 +145,7 @@ pub(crate) fn have_places(
         && has_place(numbers.switches(), switches)
 }
 
-/// Writes the new numbers to the front of the array, where they fit.
+/// Writes the new numbers to the front of the array, which has room for them.
 fn write_kind(numbers: &[Option<u32>], out: &mut [u32])
     requires { length numbers.now ≤ length out.old }
     ensures { out.new ≡ at_front numbers.now out.old }
@@ -155,7 +155,7 @@ fn write_kind(numbers: &[Option<u32>], out: &mut [u32])
     }
 }
 
-/// Writes the new numbers to the fronts of the arrays, where they fit.
+/// Writes the new numbers to the fronts of the arrays, which have room for them.
 pub(crate) fn write_numbers(
     numbers: &Renumbering,
     loaders: &mut [u32],

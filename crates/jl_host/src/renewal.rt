@@ -17,7 +17,7 @@ use std::marker::Model;
 /// A renewal of a linker that goes on meanwhile, or none. A clause sees what it has.
 pub struct Renewal {
     begun: Option<Begun>,
-    /// What is left of one that has ended, which goes where no lock is held.
+    /// What is left of one that has ended. It is let go while no lock is held.
     ended: Option<Begun>,
 }
 
@@ -55,10 +55,10 @@ impl Renewal {
         }
     }
 
-    /// Begins a renewal of the linker as it is now, of which the call sites and switch points that are released go unless they are still
-    /// needed; so many places may be requested in the fresh linker, 1 to 1,048,576, and its other limits are the linker's. What there is is
-    /// shared and not copied. The linker forgets no event until the renewal has ended. The status tells whether the linker isn't open, the
-    /// renewal has begun already, no such number may be, or memory lacks.
+    /// Begins a renewal of the linker as it is now. The call sites and switch points that are released go unless they are still needed. So
+    /// many places may be requested in the fresh linker, 1 to 1,048,576; its other limits are the linker's. What there is is shared and
+    /// not copied. The linker forgets no event until the renewal has ended. The status tells whether the linker isn't open, the renewal
+    /// has begun already, no such number may be, or there was no memory.
     pub fn begin(
         &mut self,
         alloc: Global,
@@ -89,9 +89,9 @@ impl Renewal {
     }
 
     /// Takes the next of the events that the linker has accepted since the begin, at most so many, and tells how many are left. None is
-    /// copied. The status tells whether the renewal hasn't begun, the linker isn't open, or memory lacks, and is malformed where the linker
-    /// shows to be another one than that of the begin: it has accepted fewer events than were taken, or has forgotten the next of them.
-    /// Nothing was taken then.
+    /// copied. The status tells whether the renewal hasn't begun, the linker isn't open, or there was no memory. It is malformed if the
+    /// linker shows to be another one than that of the begin: it has accepted fewer events than were taken, or has forgotten the next of
+    /// them. In each of these cases nothing was taken.
     pub fn take(&mut self, alloc: Global, from: &mut Linker, most: usize, left: &mut usize) -> u32
         ensures { IsTake most self.old from.old left.old result left.new self.new from.new }
     {
@@ -113,10 +113,10 @@ impl Renewal {
         }
     }
 
-    /// Makes the fresh linker of what there was at the begin, its links with it, if that isn't made yet, and carries the events over that
-    /// were taken since, under their new numbers. The linker may be asked anything meanwhile. The status tells whether the renewal hasn't
-    /// begun, more sites stay or are requested than may be, an event names what was released, or memory lacks; what was carried over stays
-    /// so.
+    /// Makes the fresh linker of what there was at the begin, its links with it, if that isn't made yet. Carries the events over that were
+    /// taken since, under their new numbers. The linker may be asked anything meanwhile. The status tells whether the renewal hasn't
+    /// begun, more sites stay or are requested than may be, an event names what was released, or there was no memory. What was carried
+    /// over stays so.
     pub fn fill(&mut self, alloc: Global, told: &mut Told) -> u32
         ensures { IsFill self.old result told.new self.new }
     {
@@ -127,10 +127,10 @@ impl Renewal {
         begun.fill(alloc, told)
     }
 
-    /// Takes what is left, carries it over, opens the linker `fresh`, which isn't open, over what was made, and writes the new numbers to
-    /// the fronts of the arrays, as [`Linker::renew`] does. The renewal has ended then. The status tells whether the renewal hasn't begun,
-    /// the linker isn't open, `fresh` is open, or an array is too short, and then as [`take`](Renewal::take) and [`fill`](Renewal::fill);
-    /// `fresh` and the arrays are as before then, and the renewal goes on.
+    /// Takes what is left and carries it over. Opens the linker `fresh`, which isn't open, over what was made, and writes the new numbers
+    /// to the fronts of the arrays, as [`Linker::renew`] does. The renewal has ended then. The status tells whether it hasn't begun,
+    /// the linker isn't open, `fresh` is open, or an array is too short; else it tells what [`take`](Renewal::take) and
+    /// [`fill`](Renewal::fill) tell. In each of these cases `fresh` and the arrays are as before, and the renewal goes on.
     pub fn finish(
         &mut self,
         alloc: Global,

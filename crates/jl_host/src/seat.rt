@@ -43,8 +43,8 @@ impl Seat {
     }
 
     /// Gives the seat the linker's links and its count of classes as they are now. After events it costs the list of pages up to the last
-    /// one that ever had a link, and a page for each in which a link changed; then the next seats share what was made. Want of memory
-    /// leaves what the seat has.
+    /// one that ever had a link, and a page for each in which a link changed. The next seats share what was made. Want of memory leaves
+    /// what the seat has.
     pub fn refresh(&mut self, alloc: Global, linker: &mut Linker) -> u32
         ensures { IsRefresh self.old linker.old result self.new linker.new }
     {
@@ -65,7 +65,7 @@ impl Seat {
         self.seen = None;
     }
 
-    /// What a call comes to by what was seen, at once. Takes no lock and no memory.
+    /// The answer at once to a call, by what was seen. Takes no lock and no memory.
     pub fn call(&mut self, site: u32, receiver: u32, answer: &mut CallAnswer) -> u32
         ensures { IsSeatCall site receiver self.old answer.old result answer.new self.new }
     {
@@ -76,7 +76,7 @@ impl Seat {
         DONE
     }
 
-    /// The same in 64 bits; where nothing was seen it is a miss. Takes no lock and no memory.
+    /// The answer at once to a call, in 64 bits: a miss if nothing was seen. Takes no lock and no memory.
     pub fn answer(&mut self, site: u32, receiver: u32) -> u64
         ensures { IsSeatAnswer site receiver self.old result self.new }
     {
@@ -86,8 +86,8 @@ impl Seat {
         }
     }
 
-    /// What a call comes to by what was seen, and at a megamorphic link by what the memo remembers. Takes no lock and no memory. A site of a
-    /// retired loader is a miss once the seat was refreshed; there is no object of a retired class, which gets what is remembered.
+    /// The answer at once to a call by what was seen, and at a megamorphic link by what the memo remembers. Takes no lock and no memory. A
+    /// site of a retired loader is a miss once the seat was refreshed. There is no object of a retired class: one gets what is remembered.
     pub fn call_with(
         &mut self,
         memo: &mut Memo,

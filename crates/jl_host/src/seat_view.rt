@@ -45,7 +45,7 @@ impl SeatView {
         SeatView { links, classes }
     }
 
-    /// What a call is answered at once. Takes no memory.
+    /// The answer at once to a call. Takes no memory.
     #[inline(always)]
     pub(crate) fn answer(&self, site: SiteNo, recv: Recv) -> Fast
         ensures { result ≡ fast_of.fast_answer (get_or self.now.links site None) self.now.classes recv }
@@ -56,7 +56,7 @@ impl SeatView {
         }
     }
 
-    /// The same, at a megamorphic link by what is remembered. Takes no memory.
+    /// The answer at once to a call, at a megamorphic link by what is remembered. Takes no memory.
     pub(crate) fn answer_with(&self, rows: &Memo, site: SiteNo, recv: Recv) -> Fast
         ensures { result ≡ by_memo.answer_with rows.now (get_or self.now.links site None) self.now.classes site recv }
     {

@@ -6,8 +6,8 @@ ghost use Rattle.jl_host.specs.Showing.{HasBits};
 ghost use Rattle.jl_host.specs.Calling as calling;
 
 use jl_types::{
-    Answer, ClassId, Fast, Link, MethodId, Missing, Outcome, Recv, ResolveAnswer, Table, TableKind,
-    Throwable, Unlinked,
+    Answer, ClassId, Fast, Link, MOST_ROWS, MethodId, Missing, Outcome, Recv, ResolveAnswer, Table,
+    TableKind, Throwable, Unlinked,
 };
 
 /// The number that stands for the null reference.
@@ -16,15 +16,15 @@ pub const NULL: u32 = 0xffff_ffff;
 /// The number that stands for no method, as its class and as its place.
 pub const NO_METHOD: u32 = 0xffff_ffff;
 
-/// The most rows that a link shows.
-pub const MOST_ROWS: usize = 8;
-
-/// What a call comes to.
+/// The answer to a call.
 #[repr(C)]
 #[derive(Clone, Copy, Debug, PartialEq, Eq)]
 pub struct CallAnswer {
-    /// 0: a method runs; 1: something is thrown; 2: no object can be such a receiver; 3: the site can't be linked; 4: it isn't known
-    /// at once.
+    /// - 0: a method runs.
+    /// - 1: something is thrown.
+    /// - 2: no object can be such a receiver.
+    /// - 3: the site can't be linked.
+    /// - 4: it isn't known at once.
     pub kind: u32,
     /// The class of the method that runs, else 0.
     pub class_number: u32,
@@ -40,13 +40,13 @@ pub struct ResolutionShown {
     pub kind: u32,
     /// The number of what is thrown, or of what isn't known, as in a [`CallAnswer`]; else 0.
     pub value: u32,
-    /// The class of the method that was found, accessible or not. Where none was, this and the place are [`NO_METHOD`].
+    /// The class of the method that was found, accessible or not. If none was, this and the place are [`NO_METHOD`].
     pub class_number: u32,
     /// The place of that method among those of its class.
     pub method: u32,
 }
 
-/// A row of a link: what a call comes to on an object of this class.
+/// A row of a link: the outcome of a call on an object of this class.
 #[repr(C)]
 #[derive(Clone, Copy, Debug, PartialEq, Eq)]
 pub struct Row {
@@ -64,8 +64,12 @@ pub struct Row {
 #[repr(C)]
 #[derive(Clone, Copy, Debug)]
 pub struct LinkShown {
-    /// 0: none; 1: each call throws; 2: each call runs a method; 3: each call on an object comes to one outcome; 4 and 5: a table of
-    /// invokevirtual and of invokeinterface; 6: megamorphic.
+    /// - 0: there is none.
+    /// - 1: each call throws.
+    /// - 2: each call runs a method.
+    /// - 3: each call on an object has one outcome.
+    /// - 4 and 5: a table of invokevirtual and of invokeinterface.
+    /// - 6: megamorphic.
     pub kind: u32,
     /// How many rows say something. The others are 0.
     pub count: u32,
@@ -121,7 +125,7 @@ fn runs(method: MethodId) -> CallAnswer
     }
 }
 
-/// A call that comes to something else.
+/// A call that runs no method.
 fn otherwise(kind: u32, value: u32) -> CallAnswer
     ensures { result ≡ showing.otherwise kind value }
 {
@@ -191,7 +195,7 @@ fn run_bits(method: MethodId) -> u64
     u64::from(method.class.number()) + u64::from(method.index) * 0x1_0000_0000
 }
 
-/// A call that comes to something else, in 64 bits.
+/// A call that runs no method, in 64 bits.
 fn other_bits(kind: u8, value: u32) -> u64
     requires { value < 2 ^ 24 }
     ensures { HasBits (showing.otherwise kind value) result }

@@ -7,9 +7,11 @@ use crate::reading::method_of;
 use jl_types::{CallSiteId, Part, SwitchId, Target};
 use std::alloc::{AllocError, Global};
 
-/// A part of a target (java.lang.invoke): by its kind, 0 the method `value` of the class `number`; 1 a guard on the switch point `number`,
-/// behind which its first part stands and then its fallback, each with all that belongs to it; 2 the dynamicInvoker of the call site
-/// `number`.
+/// A part of a target (java.lang.invoke), by its kind:
+///
+/// - 0: the method `value` of the class `number`;
+/// - 1: a guard on the switch point `number`: its first part and then its fallback come after it, each with all that belongs to it;
+/// - 2: the dynamicInvoker of the call site `number`.
 #[repr(C)]
 #[derive(Clone, Copy, Debug)]
 pub struct TargetPart {
@@ -38,7 +40,7 @@ fn nests_within(target: &Target, levels: u32) -> bool
     }
 }
 
-/// The guard of the two targets, if JSON may nest so deep. Want of memory is an error.
+/// The guard of the two targets, if JSON may nest so deep.
 fn guard_of(
     alloc: Global,
     point: SwitchId,
@@ -56,7 +58,7 @@ fn guard_of(
     Ok(Some(guard))
 }
 
-/// The guard of the two targets that were read last, which are taken. Want of memory is an error.
+/// The guard of the two targets that were read last, which are taken.
 fn guard_before(
     alloc: Global,
     point: SwitchId,
@@ -74,7 +76,7 @@ fn guard_before(
     guard_of(alloc, point, first, fallback)
 }
 
-/// The target of the part, which takes of those that were read behind it what belongs to it. Want of memory is an error.
+/// The target of the part, which takes what belongs to it of those that were read after it.
 fn target_before(
     alloc: Global,
     part: &TargetPart,
@@ -108,7 +110,7 @@ fn only(read: Vec<Target>) -> Option<Target>
     Some(target)
 }
 
-/// The target that the parts are, if they are one and no more. Want of memory is an error.
+/// The target that the parts are, if they are one and no more.
 pub(crate) fn target_of(alloc: Global, parts: &[TargetPart]) -> Result<Option<Target>, AllocError>
     ensures { IfOk result (λ target. target ≡ targets.target_of parts.now) }
 {

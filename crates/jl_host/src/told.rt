@@ -257,7 +257,7 @@ fn told_of_refusal(refusal: &Refusal) -> Told
     }
 }
 
-/// The status of an event that came to this, and what is told of it.
+/// The status of an event with this outcome, and what is told of it.
 pub(crate) fn tell(outcome: &Result<Reply, Refusal>, told: &mut Told) -> u32
     ensures status { result ≡ telling.status_of outcome.now }
     ensures told { told.new ≡ telling.told_of outcome.now }

@@ -3,7 +3,7 @@
 ghost use Rattle.std.specs.Prelude.{◌≡◌, ◌≤◌, None, length};
 ghost use Rattle.jl_host.specs.Views.{IsViewTake, IsViewCall, IsViewSerial, IsViewPrepare, IsPreparedIn, links_in};
 
-use crate::arrays::sites_of;
+use crate::arrays::sites_from;
 use crate::linker::Linker;
 use crate::shown::{CallAnswer, LinkShown, answer_shown, link_shown, recv_of};
 use crate::told::{CLOSED, DONE, MEMORY, TOO_SHORT, Told, tell_unprepared, unasked};
@@ -78,7 +78,7 @@ impl View {
         DONE
     }
 
-    /// What a call came to when the view was taken, linked or not. Takes no lock and no memory.
+    /// The answer to a call as it was when the view was taken, linked or not. Takes no lock and no memory.
     pub fn call(&mut self, site: u32, receiver: u32, answer: &mut CallAnswer) -> u32
         ensures { IsViewCall site receiver self.old answer.old result answer.new self.new }
     {
@@ -110,7 +110,7 @@ impl View {
     }
 }
 
-/// The same in what was seen, where the links have room for the sites.
+/// Writes the links of these sites from scratch in what was seen, in the order of the sites, for which there is room.
 fn prepare_in(
     alloc: Global,
     seen: &Snapshot,
@@ -121,7 +121,7 @@ fn prepare_in(
     requires { length sites.now ≤ length links.old }
     ensures { IsPreparedIn seen.now sites.now links.old result links.new told.new }
 {
-    let Ok(sites) = sites_of(alloc, sites) else {
+    let Ok(sites) = sites_from(alloc, sites) else {
         return unasked(MEMORY, told);
     };
     match prepare(alloc, seen, sites.as_slice()) {
@@ -133,7 +133,7 @@ fn prepare_in(
     }
 }
 
-/// Writes the links of the rows to the front of the array, where they fit.
+/// Writes the links of the rows to the front of the array, which has room for them.
 fn write_links(rows: &[(SiteNo, Link)], links: &mut [LinkShown])
     requires { length rows.now ≤ length links.old }
     ensures { links.new ≡ links_in rows.now links.old }

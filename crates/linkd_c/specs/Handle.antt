@@ -1,4 +1,4 @@
--- What stands behind a handle.
+-- What lies at a handle.
 use base.Fml.{Fml, ftrue, fsep, fex}
 use prog.Memory.{size, align}
 use denote.Memory.{lone}

@@ -11,7 +11,7 @@ use crate::handles::Linkd;
 use jl_host::{CallAnswer, LinkShown, Linker, ResolutionShown, Told};
 use std::alloc::Global;
 
-/// What a call of the method comes to on the receiver, as reflection, method handles and native code make it (JVMS SE 17 §5.4.6). Takes no
+/// The answer to a call of the method on the receiver, as reflection, method handles and native code make it (JVMS SE 17 §5.4.6). Takes no
 /// memory.
 #[unsafe(no_mangle)]
 pub unsafe extern "C" fn linkd_select(
@@ -28,7 +28,7 @@ pub unsafe extern "C" fn linkd_select(
     (*(at as *mut Linker)).select(class_number, method, receiver, answer)
 }
 
-/// What a reference to the method of this name and descriptor in the class `named` comes to for the class `from` (JVMS SE 17 §5.4.3.3,
+/// What a reference to the method of this name and descriptor in the class `named` resolves to for the class `from` (JVMS SE 17 §5.4.3.3,
 /// §5.4.3.4, §5.4.4). Takes no memory.
 #[unsafe(no_mangle)]
 pub unsafe extern "C" fn linkd_resolve(

@@ -5,7 +5,7 @@ use jl_host::{Linker, Memo, Renewal, Seat, View};
 /// Shows that a value of the type may go from one thread to another.
 fn crosses<T: Send>() {}
 
-/// Linkers, seats, memos, views and renewals may: this is refused where one of them may not.
+/// Linkers, seats, memos, views and renewals may: this is refused if one of them may not.
 fn all_cross() {
     crosses::<Linker>();
     crosses::<Seat>();

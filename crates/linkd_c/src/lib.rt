@@ -1,7 +1,7 @@
 //! The C interface: `include/linkd.h` declares these functions, and says what a caller owes.
 //!
 //! What linkers, seats, memos, views and renewals are, and how a caller makes one of a block of memory, the header says. Each function is one call of
-//! jl_host, and says of what lies behind the handle what that call says of its value; `specs/Handle` says what lies there.
+//! jl_host, and says of what lies at the handle what that call says of its value; `specs/Handle` says what lies there.
 #![tactic(auto)]
 
 ghost use Rattle.std.specs.Prelude.{◌≡◌, List, Option, None};
@@ -10,7 +10,7 @@ ghost use Rattle.jl_host.specs.Linkers.{Opened, IsOpen, IsOpenWith, limits_of, I
 ghost use Rattle.jl_host.specs.Linkers.{IsSetTarget, IsNewSwitch, IsInvalidate, IsBind, IsInstall, IsDropped, IsCall, IsLinkOf, IsAnswer, IsTake};
 ghost use Rattle.jl_host.specs.Seats.{SeatView, IsRefresh, IsSeatCall, IsSeatAnswer};
 ghost use Rattle.jl_host.specs.Memos.{IsMemoOpen, IsMemoAsk, IsMemoCall, IsSeatCallWith};
-ghost use Rattle.jl_host.specs.Asking.{IsLookup, IsClassName, IsMethodName, IsMethodType, IsInvocations, IsNamed, IsAwaited};
+ghost use Rattle.jl_host.specs.Asking.{IsLookup, IsClassName, IsMethodName, IsMethodType, IsInvocations, IsRefusedName, IsAwaited};
 ghost use Rattle.jl_host.specs.Targets.{IsNewCallSiteOf, IsSetTargetOf};
 ghost use Rattle.jl_host.specs.Views.{IsViewTake, IsViewCall, IsViewSerial, IsViewPrepare, IsInstallLinks};
 ghost use Rattle.jl_host.specs.Renewals.{IsCounts, IsCountsPresent, IsRenew, arrays_of, released_of};
@@ -36,9 +36,9 @@ use std::alloc::Global;
 /// Which header the library is of: LINKD_VERSION there.
 #[unsafe(no_mangle)]
 pub extern "C" fn linkd_version() -> u32
-    ensures { result ≡ 11 }
+    ensures { result ≡ 12 }
 {
-    11
+    12
 }
 
 /// The bytes of a linker.
@@ -329,7 +329,7 @@ pub unsafe extern "C" fn linkd_dropped(at: *mut Linkd, out: &mut [u32], length: 
     (*(at as *mut Linker)).dropped(out, length)
 }
 
-/// What a call comes to now, linked or not. Takes no memory.
+/// The answer to a call now, linked or not. Takes no memory.
 #[unsafe(no_mangle)]
 pub unsafe extern "C" fn linkd_call(
     at: *mut Linkd,
@@ -434,12 +434,16 @@ pub unsafe extern "C" fn linkd_invocations(
 
 /// Copies the name of the class that the refusal of the last event told of. Takes no memory.
 #[unsafe(no_mangle)]
-pub unsafe extern "C" fn linkd_named(at: *mut Linkd, out: &mut [u8], length: &mut usize) -> u32
+pub unsafe extern "C" fn linkd_refused_name(
+    at: *mut Linkd,
+    out: &mut [u8],
+    length: &mut usize,
+) -> u32
     ghost old: { Option Opened }
     requires* { sem 𝓛 (linker_at at old) }
-    ensures* { sem 𝓛 (linker_left at (λ new. IsNamed old out.old length.old result out.new length.new new)) }
+    ensures* { sem 𝓛 (linker_left at (λ new. IsRefusedName old out.old length.old result out.new length.new new)) }
 {
-    (*(at as *mut Linker)).named(out, length)
+    (*(at as *mut Linker)).refused_name(out, length)
 }
 
 /// Copies the name of the class for which a site waits. Takes no memory.
@@ -582,7 +586,7 @@ pub unsafe extern "C" fn linkd_seat_refresh(
     (*(at as *mut Seat)).refresh(alloc, &mut *(from as *mut Linker))
 }
 
-/// What a call comes to by the links of the last refresh, at once. Takes no lock and no memory.
+/// The answer at once to a call, by the links of the last refresh. Takes no lock and no memory.
 #[unsafe(no_mangle)]
 pub unsafe extern "C" fn linkd_seat_call(
     at: *mut LinkdSeat,
@@ -597,7 +601,7 @@ pub unsafe extern "C" fn linkd_seat_call(
     (*(at as *mut Seat)).call(site, receiver, answer)
 }
 
-/// The same in 64 bits; a miss where the seat was never refreshed. Takes no lock and no memory.
+/// The answer at once to a call, in 64 bits: a miss if the seat was never refreshed. Takes no lock and no memory.
 #[unsafe(no_mangle)]
 pub unsafe extern "C" fn linkd_seat_answer(at: *mut LinkdSeat, site: u32, receiver: u32) -> u64
     ghost old: { Option SeatView }
@@ -617,7 +621,7 @@ pub unsafe extern "C" fn linkd_seat_leave(at: *mut LinkdSeat)
     (*(at as *mut Seat)).leave();
 }
 
-/// What a call comes to by the links of the last refresh, at once, and at a megamorphic link by what the memo remembers. No lock, no memory.
+/// The answer at once to a call by the links of the last refresh, and at a megamorphic link by what the memo remembers. No lock, no memory.
 #[unsafe(no_mangle)]
 pub unsafe extern "C" fn linkd_seat_call_with(
     at: *mut LinkdSeat,
@@ -669,7 +673,7 @@ pub unsafe extern "C" fn linkd_memo_open(alloc: Global, at: *mut LinkdMemo, sets
     (*(at as *mut Memo)).open(alloc, sets)
 }
 
-/// What a call comes to now, linked or not; remembered where the site's link is megamorphic. Takes no memory.
+/// The answer to a call now, linked or not; remembered if the site's link is megamorphic. Takes no memory.
 #[unsafe(no_mangle)]
 pub unsafe extern "C" fn linkd_memo_ask(
     at: *mut LinkdMemo,
@@ -686,7 +690,7 @@ pub unsafe extern "C" fn linkd_memo_ask(
     (*(at as *mut Memo)).ask(&mut *(from as *mut Linker), site, receiver, answer)
 }
 
-/// What the memo remembers that a call comes to, by itself. Takes no lock and no memory.
+/// The answer to a call that the memo remembers, by itself. Takes no lock and no memory.
 #[unsafe(no_mangle)]
 pub unsafe extern "C" fn linkd_memo_call(
     at: *mut LinkdMemo,
@@ -757,7 +761,7 @@ pub unsafe extern "C" fn linkd_view_serial(at: *mut LinkdView, serial: &mut u64)
     (*(at as *mut View)).serial(serial)
 }
 
-/// What a call came to when the view was taken, linked or not. Takes no lock and no memory.
+/// The answer to a call as it was when the view was taken, linked or not. Takes no lock and no memory.
 #[unsafe(no_mangle)]
 pub unsafe extern "C" fn linkd_view_call(
     at: *mut LinkdView,

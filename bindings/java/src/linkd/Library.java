@@ -15,7 +15,7 @@ import java.nio.file.Path;
 /** Where the shared library is, and that it is one that this jar can call. */
 final class Library {
     /** LINKD_VERSION of the header that this is written for. */
-    private static final int VERSION = 11;
+    private static final int VERSION = 12;
 
     private static final String WORDS = "linkd.library or LINKD_LIBRARY says where it is";
 

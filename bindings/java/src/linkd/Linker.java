@@ -138,7 +138,7 @@ public final class Linker implements AutoCloseable {
     }
 
     /**
-     * Defines a class, after its parents: {@link Refusal.DefineFault#MISSING_PARENT} is no end, and {@link #namedClass} names the parent. The
+     * Defines a class, after its parents: {@link Refusal.DefineFault#MISSING_PARENT} is no end, and {@link #refusedName} names the parent. The
      * major version of its file is 45 to {@link #NEWEST_OF_17}.
      */
     public synchronized ClassId define(LoaderId loader, byte[] file) {
@@ -497,7 +497,7 @@ public final class Linker implements AutoCloseable {
      * {@link Refusal.DefineFault#NOT_AN_INTERFACE} or {@link Refusal.DefineFault#INACCESSIBLE_PARENT}. None where it told of none.
      * {@link Refusal.NoClassFile} and {@link Refusal.Plain#MALFORMED} leave what the event before has told, and so does {@link #answer}.
      */
-    public synchronized Optional<String> namedClass() {
+    public synchronized Optional<String> refusedName() {
         MemorySegment open = at();
         return name(out -> Native.named(open, out, length));
     }

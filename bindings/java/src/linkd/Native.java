@@ -96,7 +96,7 @@ final class Native {
     private static final MethodHandle METHOD_NAME = status("linkd_method_name", JAVA_INT, JAVA_INT, ADDRESS, JAVA_LONG, ADDRESS);
     private static final MethodHandle METHOD_TYPE = status("linkd_method_type", JAVA_INT, JAVA_INT, ADDRESS, JAVA_LONG, ADDRESS);
     private static final MethodHandle INVOCATIONS = status("linkd_invocations", JAVA_INT, JAVA_INT, ADDRESS, JAVA_LONG, ADDRESS);
-    private static final MethodHandle NAMED = status("linkd_named", ADDRESS, JAVA_LONG, ADDRESS);
+    private static final MethodHandle NAMED = status("linkd_refused_name", ADDRESS, JAVA_LONG, ADDRESS);
     private static final MethodHandle AWAITED = status("linkd_awaited", JAVA_INT, ADDRESS, JAVA_LONG, ADDRESS);
     private static final MethodHandle LAST_WORK = status("linkd_last_work", ADDRESS);
     private static final MethodHandle CATCH_UP = status("linkd_catch_up");

@@ -64,7 +64,7 @@ public final class Renewing implements AutoCloseable {
     }
 
     /**
-     * Takes the next events that the linker has accepted since the begin. An event is shared, and not copied. Where memory lacks none was
+     * Takes the next events that the linker has accepted since the begin. An event is shared, and not copied. If there is no memory, none was
      * taken, and it may be tried again.
      *
      * @param most how many of them at most; for less than 0 this is {@link Refusal.Plain#MALFORMED}
@@ -83,7 +83,7 @@ public final class Renewing implements AutoCloseable {
 
     /**
      * Makes the fresh linker: at first of what there was at the begin, which takes the most time, and then of each event that was taken. It
-     * doesn't hold the linker's monitor. Where memory lacks it may be tried again.
+     * doesn't hold the linker's monitor. If there is no memory, it may be tried again.
      *
      * <p>Refused with {@link Refusal.Plain#SITES_FULL}, where more sites stay than may be requested there, or are requested later, and with
      * {@link Refusal.NamesReleased}. After either it can only be closed.
@@ -94,8 +94,8 @@ public final class Renewing implements AutoCloseable {
 
     /**
      * Takes what is left and carries it over; then the fresh linker is there, with the ids of what stays. What the old linker accepts from
-     * now on the fresh one never has: so hold the old one's monitor until all threads ask the fresh one. Refused as {@link #fill}, and where
-     * memory lacks; then it hasn't ended. Once it is done it refuses all with {@link Refusal.Plain#CLOSED}.
+     * now on the fresh one never has: so hold the old one's monitor until all threads ask the fresh one. Refused as {@link #fill}, and if
+     * there is no memory; then it hasn't ended. Once it is done it refuses all with {@link Refusal.Plain#CLOSED}.
      */
     public Renewal finish() {
         MemorySegment own = at();

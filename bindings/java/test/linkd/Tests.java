@@ -782,14 +782,14 @@ final class Tests {
     private static void whatIsMissingHasAName() throws Exception {
         try (World world = World.open()) {
             Linker linker = world.linker;
-            same(Optional.empty(), linker.namedClass());
+            same(Optional.empty(), linker.refusedName());
             refused(new Refusal.Define(DefineFault.MISSING_PARENT), () -> linker.define(withF("D", "Above")));
-            same(Optional.of("Above"), linker.namedClass());
+            same(Optional.of("Above"), linker.refusedName());
             // Bytes that are no class file are no event.
             refused(new Refusal.NoClassFile(Refusal.ClassFault.TRUNCATED, 0, 0, 0), () -> linker.define(new byte[0]));
-            same(Optional.of("Above"), linker.namedClass());
+            same(Optional.of("Above"), linker.refusedName());
             SiteId pending = linker.request(world.m, 0, 3);
-            same(Optional.empty(), linker.namedClass());
+            same(Optional.empty(), linker.refusedName());
             same(Optional.of("Z"), linker.awaitedClass(pending));
             same(Optional.empty(), linker.awaitedClass(world.site));
             linker.define(withF("Z", OBJECT));
@@ -1179,7 +1179,7 @@ final class Tests {
         refused(Refusal.Plain.CLOSED, () -> linker.methodDescriptor(world.a, 0));
         refused(Refusal.Plain.CLOSED, () -> linker.invocations(world.a));
         refused(Refusal.Plain.CLOSED, () -> linker.invocations(world.a, 0));
-        refused(Refusal.Plain.CLOSED, linker::namedClass);
+        refused(Refusal.Plain.CLOSED, linker::refusedName);
         refused(Refusal.Plain.CLOSED, () -> linker.awaitedClass(world.site));
         refused(Refusal.Plain.CLOSED, () -> linker.select(world.a, 0));
         refused(Refusal.Plain.CLOSED, () -> linker.resolve(world.a, world.a, "f", "()V"));

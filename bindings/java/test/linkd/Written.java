@@ -61,7 +61,7 @@ final class Written {
         }
     }
 
-    /** Each call takes three bytes; behind them is a return. */
+    /** Each call takes three bytes; after them is a return. */
     private void writeCode(DataOutputStream to, Method method) throws IOException {
         ByteArrayOutputStream code = new ByteArrayOutputStream();
         DataOutputStream at = new DataOutputStream(code);

@@ -1,4 +1,4 @@
--- Links that are brought up to date only where events have touched them. A means of proof.
+-- Links that are brought up to date only at the sites that events have touched. A means of proof.
 use Rattle.std.specs.Prelude.{◌≡◌, ◌==◌, ◌||◌, ◌<◌, ◌≤◌, ◌^◌, ℕ, Bool, false, List, drop, length, get_or, Option, None}
 use Rattle.std.specs.List.{list_any}
 use Rattle.jl_types.specs.declared.link.Link.{Link}
@@ -16,7 +16,7 @@ use Rattle.jl_host.specs.Seats.{room_for}
 abbrev pub touches : ℕ → Event × Reply → Bool
 touches s entry = installs s entry.0 || has s entry.1.dropped
 
--- the same of what a log keeps
+-- the event that a log keeps installs the site
 abbrev pub installs_at : ℕ → Accepted → Bool
 installs_at s (event.Install rows) = list_any (λ row. row.0 == s) rows
 installs_at s _ = false

@@ -8,7 +8,7 @@ use Rattle.jl_types.specs.Values.World.{Classes}
 use Rattle.jl_types.specs.Linkage.Access.{is_accessible_class}
 use Rattle.jl_types.specs.Linkage.Resolution.{if_accessible}
 
--- where the class is accessible, what was found, if it is accessible, too
+-- if the class is accessible, what was found, if that is accessible, too
 abbrev pub resolved_by : Classes → ℕ → ℕ → Option MethodId → Result MethodId ResolveAnswer
 resolved_by cs from named m =
     if is_accessible_class cs from named then if_accessible cs from named m else Err (Fault IllegalAccessError)

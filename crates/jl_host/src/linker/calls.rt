@@ -12,8 +12,8 @@ use jl_types::{ClassId, Place};
 use std::alloc::Global;
 
 impl Linker {
-    /// What a call of the method at the place of the class comes to, as reflection, method handles and native code make it: a static method or
-    /// an instance initialization method is called itself, of others one is selected by the receiver (§5.4.6). Takes no memory.
+    /// The answer to a call of the method at the place of the class, as reflection, method handles and native code make it. A static method
+    /// or an instance initialization method is called itself; of others one is selected by the receiver (§5.4.6). Takes no memory.
     pub fn select(&mut self, class: u32, method: u32, receiver: u32, answer: &mut CallAnswer) -> u32
         ensures { IsSelect class method receiver self.old answer.old result answer.new self.new }
     {
@@ -29,8 +29,8 @@ impl Linker {
         }
     }
 
-    /// What a reference to the method of this name and descriptor in the class `named` comes to for the class `from` (§5.4.3.3, §5.4.3.4,
-    /// §5.4.4), with the method that is found, accessible or not. Takes no memory.
+    /// What a reference to the method of this name and descriptor in the class `named` resolves to for the class `from` (§5.4.3.3,
+    /// §5.4.3.4, §5.4.4). The method that is found is told, too, accessible or not. Takes no memory.
     pub fn resolve(
         &mut self,
         from: u32,
@@ -71,8 +71,8 @@ impl Linker {
         }
     }
 
-    /// The invocation at the pc of a method is requested, its link looked up and installed unless there is one, and the link written. What is
-    /// told names its site, also where that has no link now.
+    /// Requests the invocation at the pc of a method, looks its link up and installs it unless there is one, and writes the link. What is
+    /// told names the site, also if that has no link now.
     pub fn link(
         &mut self,
         alloc: Global,
@@ -94,8 +94,8 @@ impl Linker {
         opened.link(alloc, Place { class, method, pc }, told, link)
     }
 
-    /// The links of those of the sites that have one from scratch now are installed, 1 to 256 of them: all of these or none. What is installed
-    /// at each of the sites then is written to the front of the array.
+    /// Installs the links of those of the sites that have one from scratch now, 1 to 256 of them: all of these or none. Writes what is
+    /// installed at each of the sites then to the front of the array.
     pub fn install_ready(
         &mut self,
         alloc: Global,

@@ -1,5 +1,5 @@
 use Rattle.jl_host.proofs.CaughtUp.{applied_behind}
-use Rattle.jl_host.proofs.opened.Opened.ask.Goals as goal
+use Rattle.jl_host.proofs.opened.Opened.submit.Goals as goal
 
 pub invariant_of-self : goal.invariant_of-self
 invariant_of-self c =
