@@ -2,6 +2,7 @@
 """Writes the walks (proofs/EXPORT/Proof.antt, or proofs/MODULE/EXPORT/Proof.antt) of a static library's exports, as src/ declares them.
 
     walks.py [EXPORT ..]        from anywhere; with names, only these exports' walks
+    walks.py --held             writes none, and ends with status 1 unless the walks are those that it writes, as rt fmt leaves them
 
 An export takes an opaque handle, `at: *mut H`, and its body is a call of one method of the type R that lies there:
 
@@ -36,7 +37,10 @@ are passed on in one piece, whatever they are. The lemmas for it are in proofs/L
 """
 
 import re
+import shutil
+import subprocess
 import sys
+import tempfile
 from dataclasses import dataclass
 from pathlib import Path
 
@@ -522,24 +526,44 @@ def narrow(line, most=160):
     return [line[:at], *narrow(' ' * (margin + 4) + line[at + 1 :], most)]
 
 
-def write(source, export):
+def write(source, export, crate):
     body = blank_walk(export) if export.is_blank else Walk(export).text()
     body += ')' * (body.count('(') - body.count(')'))
     what = 'A new value is written into the room.' if export.is_blank else 'What lies at the handle is lent for the time of the call, and lies there again after it.'
     text = [f'-- {what}', *imports(source, export, body), '', f'pub {export.name}_spec : {{M : Type 1}} → statement M', f'{export.name}_spec 𝓤 𝓛 𝓜 𝓡 wired =', body]
-    path = CRATE.joinpath('proofs', *export.path, 'Proof.antt')
+    path = crate.joinpath('proofs', *export.path, 'Proof.antt')
     path.parent.mkdir(parents=True, exist_ok=True)
     lines = '\n'.join(text).split('\n')
     path.write_text('\n'.join(short for line in lines for short in narrow(line)) + '\n')
 
 
-def main(names):
-    for file in sorted(CRATE.glob('src/*.rt')):
+def write_walks(names, crate=CRATE):
+    for file in sorted(crate.glob('src/*.rt')):
         source = file.read_text()
         for export in read_exports('' if file.stem == 'lib' else file.stem, source):
             if not names or export.name in names:
-                write(source, export)
+                write(source, export, crate)
+
+
+def held():
+    """Tells the walks that aren't what is written now, and gives whether there are any."""
+    with tempfile.TemporaryDirectory() as folder:
+        copy = Path(folder) / CRATE.name
+        shutil.copytree(CRATE, copy, ignore=shutil.ignore_patterns('out'))
+        for walk in copy.glob('proofs/**/Proof.antt'):
+            walk.unlink()
+        write_walks([], copy)
+        subprocess.run(['rt', 'fmt'], cwd=copy, check=True, stdout=subprocess.DEVNULL)
+        written = {file.relative_to(copy): file.read_bytes() for file in copy.glob('proofs/**/Proof.antt')}
+    there = {file.relative_to(CRATE): file.read_bytes() for file in CRATE.glob('proofs/**/Proof.antt')}
+    others = sorted(walk for walk in written.keys() | there.keys() if written.get(walk) != there.get(walk))
+    for walk in others:
+        print(f'{CRATE.name}/{walk} is not what bench/walks.py and rt fmt write')
+    print('run bench/walks.py, and rt fmt in its crate' if others else f'{len(written)} walks of exports are as bench/walks.py writes them')
+    return bool(others)
 
 
 if __name__ == '__main__':
-    main(sys.argv[1:])
+    if sys.argv[1:] == ['--held']:
+        sys.exit(held())
+    write_walks(sys.argv[1:])
