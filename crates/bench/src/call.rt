@@ -1,12 +1,29 @@
-//! Does calls and events in threads, to be timed from outside, at sites that are installed before. The words behind `call` are how many
-//! threads there are, which calls, the calls of each thread, the sets of each one's memo, the most sites, how often the last site is
-//! installed again before, and whether the first thread does that until all others are done.
+//! Does calls and events in threads, to be timed from outside, at sites that are installed before. The words after `call` are, in order:
 //!
-//! The calls are `null`, on null at the sites in a scattered order; `together`, the same in entries of 64; on objects of 64 classes, or of
-//! eight, from the fourth class on, `drawn`, only the drawing of the site and class; `table`, of eight; `memo`, by a memo; `got`, by the memo
-//! alone; `asked`, under the server's lock. What a memo doesn't remember is asked under the lock. Sites and classes are drawn low ones more
-//! often than high ones: a site below a number that was drawn, and a class below one that was drawn so. It prints how many calls were
-//! answered without the lock, or under it where that was asked for, and how many events that thread applied.
+//! - how many threads there are;
+//! - which calls;
+//! - the calls of each thread;
+//! - the sets of each one's memo;
+//! - the most sites;
+//! - how often the last site is installed again before;
+//! - whether the first thread does that until all others are done.
+//!
+//! The calls on null, at the sites in a scattered order, are:
+//!
+//! - `null`: one by one;
+//! - `together`: in entries of 64.
+//!
+//! The calls on objects of 64 classes, or of eight, from the fourth class on, are:
+//!
+//! - `drawn`: only the drawing of the site and class;
+//! - `table`: on objects of eight;
+//! - `memo`: by a memo;
+//! - `got`: by the memo alone;
+//! - `asked`: under the server's lock.
+//!
+//! What a memo doesn't remember is asked under the lock. Sites and classes are drawn low ones more often than high ones: a site below a
+//! number that was drawn, and a class below one that was drawn so. It prints how many calls were answered without the lock, or under it if
+//! that was asked for, and how many events that thread applied.
 
 use crate::serve::Desk;
 use crate::told::{number_or, tell};
@@ -22,7 +39,7 @@ use std::sync::atomic::{AtomicU64, Ordering};
 use std::thread::Threads;
 use std::time::Instant;
 
-/// How many calls an entry has, where it has several.
+/// How many calls an entry has, if it has several.
 const TOGETHER: usize = 64;
 
 /// How far the next call's site is, which shares no divisor with 1,000.
@@ -303,7 +320,7 @@ fn link_each<K: Name, S: Wait + Drop>(alloc: Global, desk: &mut Desk<K, S>, site
     }
 }
 
-/// Each caller with a memo of so many sets. The first one applies events, where one is to.
+/// Each caller with a memo of so many sets. The first one applies events, if one is to.
 fn jobs<K: Name>(
     alloc: Global,
     callers: Vec<Caller<K>>,

@@ -25,7 +25,7 @@ pub(crate) enum Way {
 pub(crate) struct OnCore {
     core: Core,
     way: Way,
-    /// The world before the last event, where snapshots are held.
+    /// The world before the last event, if snapshots are held.
     held: Option<Snapshot>,
 }
 
@@ -41,7 +41,7 @@ impl Drop for OnCore {
 }
 
 impl OnCore {
-    /// A core of no events. Want of memory is an error.
+    /// A core of no events.
     pub(crate) fn new(rt: &HostRuntime, way: Way) -> Result<OnCore, AllocError> {
         Ok(OnCore {
             core: Core::new(rt.alloc(), SITES)?,
@@ -64,7 +64,7 @@ pub(crate) fn told_reply(rt: &HostRuntime, called: Called, reply: &Reply) -> io:
     told(rt, called, &(reply.made, reply.dropped.as_slice()))
 }
 
-/// Prints the refusal where it isn't want of memory, and gives whether it is. Of a stale link it prints the site and its present link.
+/// Prints the refusal if it isn't want of memory, and gives whether it is. Of a stale link it prints the site and its present link.
 pub(crate) fn told_refusal(
     rt: &HostRuntime,
     called: Called,
@@ -77,7 +77,7 @@ pub(crate) fn told_refusal(
     }
 }
 
-/// The same of what was prepared.
+/// Prints what was prepared, or why not unless for want of memory, and gives whether it is that.
 pub(crate) fn told_prepared(
     rt: &HostRuntime,
     called: Called,
@@ -104,7 +104,7 @@ fn apply_change(
     }
 }
 
-/// The same after a plan of it was dropped.
+/// Applies the event of the change after a plan of it was dropped.
 fn apply_planned(
     rt: &HostRuntime,
     core: &mut Core,
@@ -118,8 +118,8 @@ fn apply_planned(
     apply_change(rt, core, called, change)
 }
 
-/// The same while a snapshot holds the world and another one the world before, in whose place the first comes where the event is
-/// answered.
+/// Applies the event of the change while a snapshot holds the world and another one the world before. If the event is answered, the
+/// first snapshot takes the place of the other one.
 fn apply_shared(
     rt: &HostRuntime,
     core: &mut Core,

@@ -13,7 +13,7 @@ use std::io::{self, ErrorKind};
 /// A method, by its class and its number there.
 pub(crate) type MethodAt = (u32, u16);
 
-/// An event, of which the same can be made again.
+/// An event, which can be made again.
 #[derive(Clone, Copy)]
 pub(crate) enum Change {
     /// The loader of this number defines the class of the file.

@@ -1,5 +1,9 @@
-//! Obeys the commands of the input on one core, and prints what each is answered: the lines of `linkd run`, and what is no line of `linkd`:
-//! `retire` with the numbers of loaders that are to go at once, and `release` with those of call sites and, behind a `/`, of switch points.
+//! Obeys the commands of the input on one core, and prints what each is answered. They are:
+//!
+//! - the lines of `linkd run`;
+//! - `retire` with the numbers of loaders that are to go at once, which is no line of `linkd`;
+//! - `release` with the numbers of call sites and, after a `/`, of switch points, which is none either.
+//!
 //! bench/drawn.py draws such commands, and compares.
 
 ghost use Rattle.std.specs.Prelude.{IfOk};
@@ -15,18 +19,18 @@ use std::alloc::{AllocError, Global};
 use std::io;
 use std::str::from_utf8;
 
-/// The numbers among the words of the line, those before a `/` or those behind it.
-fn numbers(alloc: Global, line: &str, are_behind: bool) -> Result<Vec<u32>, AllocError> {
+/// The numbers among the words of the line, those before a `/` or those after it.
+fn numbers(alloc: Global, line: &str, are_after: bool) -> Result<Vec<u32>, AllocError> {
     let mut numbers = Vec::new(alloc);
-    let mut is_behind = false;
+    let mut is_after = false;
     for word in line.split(' ') {
         if word == "/" {
-            is_behind = true;
+            is_after = true;
         }
         let Ok(number) = word.parse::<u32>() else {
             continue;
         };
-        if is_behind == are_behind {
+        if is_after == are_after {
             numbers.push(number)?;
         }
     }
@@ -63,7 +67,7 @@ fn switch_points(alloc: Global, line: &str) -> Result<Seq<SwitchId>, AllocError>
     Ok(Seq::of(points))
 }
 
-/// The event of the line, where it is no line of `linkd`.
+/// The event of the line, if it is no line of `linkd`.
 fn going(alloc: Global, line: &str) -> Result<Option<Event>, AllocError> {
     match line.split(' ').next() {
         Some("retire") => Ok(Some(retirement(alloc, line)?)),

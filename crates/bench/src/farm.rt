@@ -1,6 +1,6 @@
-//! Times a farm: has workers link the sites, so many a job, the second word behind `farm`.
+//! Times a farm: has workers link the sites, so many a job, the second word after `farm`.
 
-use crate::link::sites_of;
+use crate::link::sites_from;
 use crate::serve::Desk;
 use crate::told::tell;
 use jl_farm::{FarmFault, Gate, JobOutcome, Report, run};
@@ -81,7 +81,7 @@ pub(crate) fn measure<
     sites: u32,
     each: u32,
 ) -> io::Result<()> {
-    let sites = sites_of(rt.alloc(), sites)?;
+    let sites = sites_from(rt.alloc(), sites)?;
     let jobs = jobs_of(rt.alloc(), sites.as_slice(), each as usize)?;
     let start = Instant::now(rt)?;
     match farm(handle, rt.alloc(), desk, workers, jobs) {

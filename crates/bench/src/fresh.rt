@@ -50,7 +50,7 @@ fn start<K: Name, H: Wait>(rt: &HostRuntime, handle: &H, parts: Parts) -> io::Re
     }
 }
 
-/// Makes the parts of a server, and starts it. Gives whether memory lacked for the parts.
+/// Makes the parts of a server, and starts it. Gives whether there was no memory for the parts.
 fn make(rt: &HostRuntime, handle: &impl Wait) -> io::Result<bool> {
     match Parts::new(rt.alloc(), SITES, CALLERS) {
         Ok(parts) => start::<Brand, _>(rt, handle, parts),
@@ -58,7 +58,7 @@ fn make(rt: &HostRuntime, handle: &impl Wait) -> io::Result<bool> {
     }
 }
 
-/// The same, and once more where memory lacked.
+/// Makes the parts of a server, and starts it, and does so once more if there was no memory.
 pub(crate) fn make_parts(rt: &HostRuntime, handle: &impl Wait) -> io::Result<()> {
     if make(rt, handle)? {
         tell_memory(rt, PARTS)?;
@@ -80,7 +80,7 @@ fn apply_all(rt: &HostRuntime, core: &mut Core) -> io::Result<()> {
     Ok(())
 }
 
-/// Prepares site 0 and prints its link, and gives whether memory lacked.
+/// Prepares site 0 and prints its link, and gives whether there was no memory.
 fn prepare(
     rt: &HostRuntime,
     handle: &(impl Threads + Sync),
@@ -96,7 +96,7 @@ fn prepare(
     }
 }
 
-/// The same, and once more where memory lacked.
+/// Prepares site 0 and prints its link, and does so once more if there was no memory.
 fn prepare_twice(
     rt: &HostRuntime,
     handle: &(impl Threads + Sync),

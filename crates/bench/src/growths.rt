@@ -1,7 +1,12 @@
-//! Makes calls that take memory, and prints what each is answered: readings of class files, the events, links, snapshots and preparations of a
-//! core and of a link server, the parts of a server for many callers, and a preparation by several threads. A call that is answered Memory is
-//! printed as such, with whether all that is seen of the state is as it was before, and is made once more. A reading has no state, nor have
-//! the last two. Where memory lacked outside the calls, or twice in a row, the exit status is 4.
+//! Makes calls that take memory, and prints what each is answered:
+//!
+//! - readings of class files;
+//! - the events, links, snapshots and preparations of a core and of a link server;
+//! - the parts of a server for many callers;
+//! - a preparation by several threads.
+//!
+//! A call that is answered Memory is printed as such, with whether all that is seen of the state is as it was before, and is made once
+//! more. A reading has no state, nor have the last two. If there was no memory outside the calls, or twice in a row, the exit status is 4.
 
 ghost use Rattle.std.specs.Prelude.{◌≡◌};
 

@@ -77,18 +77,18 @@ impl Held {
         }
     }
 
-    /// Holds the loader, and gives the one that is to be retired. Want of memory is an error.
+    /// Holds the loader, and gives the one that is to be retired.
     pub(crate) fn hold_loader(&mut self, loader: LoaderId) -> Result<Option<LoaderId>, AllocError> {
         hold(&mut self.loaders, loader, LOADERS)
     }
 
-    /// Holds the call site, and lets the oldest go. Want of memory is an error.
+    /// Holds the call site, and lets the oldest go.
     pub(crate) fn hold_call_site(&mut self, site: CallSiteId) -> Result<(), AllocError> {
         let oldest = hold(&mut self.call_sites, site, OF_A_KIND)?;
         let_go(&mut self.gone_call_sites, oldest)
     }
 
-    /// Holds the switch point, and lets the oldest go. Want of memory is an error.
+    /// Holds the switch point, and lets the oldest go.
     pub(crate) fn hold_point(&mut self, point: SwitchId) -> Result<(), AllocError> {
         let oldest = hold(&mut self.points, point, OF_A_KIND)?;
         let_go(&mut self.gone_points, oldest)
@@ -100,7 +100,7 @@ impl Held {
         self.points.get(place).copied()
     }
 
-    /// What was let go. Want of memory is an error.
+    /// What was let go.
     pub(crate) fn released(&self, alloc: Global) -> Result<Released, AllocError> {
         let call_sites = listed(alloc, &self.gone_call_sites)?;
         let switches = listed(alloc, &self.gone_points)?;
@@ -110,7 +110,7 @@ impl Held {
         })
     }
 
-    /// Takes over the numbers of the fresh core. What was let go and stays is still let go. Want of memory is an error.
+    /// Takes over the numbers of the fresh core. What was let go and stays is still let go.
     pub(crate) fn take_over(&mut self, numbers: &Renumbering) -> Result<(), AllocError> {
         self.methods = numbers.class(self.methods).unwrap_or(self.methods);
         take_over(&mut self.loaders, numbers)?;
@@ -121,7 +121,7 @@ impl Held {
     }
 }
 
-/// Holds one more. Where there are more than so many, gives the oldest, which isn't held any more. Want of memory is an error.
+/// Holds one more. If there are more than so many, gives the oldest, which isn't held any more.
 fn hold<N: Number>(held: &mut VecDeque<N>, one: N, most: usize) -> Result<Option<N>, AllocError> {
     held.push_back(one)?;
     if held.len() > most {
@@ -130,7 +130,7 @@ fn hold<N: Number>(held: &mut VecDeque<N>, one: N, most: usize) -> Result<Option
     Ok(None)
 }
 
-/// Adds the one that is let go, if any is. Want of memory is an error.
+/// Adds the one that is let go, if any is.
 fn let_go<N: Number>(gone: &mut VecDeque<N>, oldest: Option<N>) -> Result<(), AllocError> {
     if let Some(oldest) = oldest {
         gone.push_back(oldest)?;
@@ -138,7 +138,7 @@ fn let_go<N: Number>(gone: &mut VecDeque<N>, oldest: Option<N>) -> Result<(), Al
     Ok(())
 }
 
-/// These numbers, in order. Want of memory is an error.
+/// These numbers, in order.
 fn listed<N: Number>(alloc: Global, numbers: &VecDeque<N>) -> Result<Seq<N>, AllocError> {
     let mut list = Vec::new(alloc);
     for number in numbers.iter() {
@@ -147,7 +147,7 @@ fn listed<N: Number>(alloc: Global, numbers: &VecDeque<N>) -> Result<Seq<N>, All
     Ok(Seq::of(list))
 }
 
-/// Puts the numbers of the fresh core in the place of these, in order, and leaves out what is gone. Want of memory is an error.
+/// Puts the numbers of the fresh core in the place of these, in order, and leaves out what is gone.
 fn take_over<N: Number>(held: &mut VecDeque<N>, numbers: &Renumbering) -> Result<(), AllocError> {
     for _ in 0..held.len() {
         if let Some(old) = held.pop_front() {

@@ -1,5 +1,5 @@
-//! Times classes by loader: has loader 0 define the class files, in order, and then asks of each class 32 times what the loader finds by
-//! its name, and whether another one is its ancestor, and copies all classes 64 times. Class files are read alone before, a batch at a time.
+//! Times classes by loader. Has loader 0 define the class files, in order. Asks of each class 32 times then what the loader finds by its
+//! name, and whether another one is its ancestor, and copies all classes 64 times. Class files are read alone before, a batch at a time.
 
 use crate::fill::{Takes, define_each};
 use crate::read::read_each;

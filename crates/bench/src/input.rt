@@ -46,7 +46,7 @@ impl Input {
         u32::try_from(self.places.len()).unwrap_or(u32::MAX).max(1)
     }
 
-    /// Adds what the line is. Want of memory is an error.
+    /// Adds what the line is.
     fn add_line(&mut self, alloc: Global, line: String) -> Result<(), AllocError> {
         if let Some(place) = place(line.as_str()) {
             self.places.push(place)?;

@@ -52,7 +52,7 @@ fn add_rows(
     }
 }
 
-/// Adds the links of these sites, 256 at a time, or where one of them has none, of each alone that has one.
+/// Adds the links of these sites, 256 at a time, or, if one of them has none, of each alone that has one.
 fn add_all(
     alloc: Global,
     core: &Core,
@@ -101,7 +101,7 @@ fn install_each(alloc: Global, core: &mut Core, batches: Vec<Rows>) -> u64 {
 }
 
 /// The sites of the numbers below the count.
-pub(crate) fn sites_of(alloc: Global, count: u32) -> Result<Vec<SiteNo>, AllocError> {
+pub(crate) fn sites_from(alloc: Global, count: u32) -> Result<Vec<SiteNo>, AllocError> {
     let mut sites = Vec::new(alloc);
     for site in 0..count {
         sites.push(SiteNo::new(site))?;
@@ -145,6 +145,6 @@ fn time_all(rt: &HostRuntime, core: &mut Core, sites: &[SiteNo]) -> io::Result<(
 pub(crate) fn measure(rt: &HostRuntime, input: &Input) -> io::Result<()> {
     let mut core = Core::new(rt.alloc(), input.max_sites())?;
     let count = fill(rt, &mut core, input)?;
-    let sites = sites_of(rt.alloc(), count)?;
+    let sites = sites_from(rt.alloc(), count)?;
     time_all(rt, &mut core, sites.as_slice())
 }

@@ -1,10 +1,10 @@
 //! Measures parts of the product, by itself or from outside, and makes the calls whose growths bench/growths.sh refuses. The first word
-//! names the part: `read`, `keep`, `hierarchy`, `link`, `renew`, `year`, `snapshot`, `wide`, `farm`, `call`, `growths` or `drawn`; what the
-//! others are, and what is done, stands at each module. The word `then` stands between two parts. All have the classes, places and commands of
-//! the standard input.
+//! names the part: `read`, `keep`, `hierarchy`, `link`, `renew`, `year`, `snapshot`, `wide`, `farm`, `call`, `growths` or `drawn`. What the
+//! other words are, and what is done, stands at each module. The word `then` stands between two parts. All have the classes, places and
+//! commands of the standard input.
 //! What was done is printed, and, on the standard error, the microseconds that it took. Nothing is proved of it but that it is safe.
 //!
-//! The exit status is 0, 4 where memory lacked, and 1 where it ended otherwise.
+//! The exit status is 0, 4 if there was no memory, and 1 if it ended otherwise.
 #![tactic(auto)]
 
 mod answers;

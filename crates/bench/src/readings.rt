@@ -23,7 +23,7 @@ fn told_file(rt: &HostRuntime, called: Called, file: &ClassFile) -> io::Result<b
     told(rt, called, &(file.flags(), file.methods().len()))
 }
 
-/// Reads the file, and prints what was read or why it wasn't. It gives whether memory lacked, which it doesn't print.
+/// Reads the file, and prints what was read or why it wasn't. It gives whether there was no memory, which it doesn't print.
 fn read(rt: &HostRuntime, called: Called, bytes: &[u8]) -> io::Result<bool> {
     match &read_class(rt.alloc(), bytes) {
         Ok(file) => told_file(rt, called, file),
@@ -32,7 +32,7 @@ fn read(rt: &HostRuntime, called: Called, bytes: &[u8]) -> io::Result<bool> {
     }
 }
 
-/// Reads the file, and once more where memory lacked.
+/// Reads the file, and once more if there was no memory.
 fn watch(rt: &HostRuntime, deed: &'static str, bytes: &[u8]) -> io::Result<()> {
     let called = Called {
         of: "reading",

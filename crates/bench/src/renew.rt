@@ -3,7 +3,7 @@
 
 use crate::fill::fill;
 use crate::input::Input;
-use crate::link::{sites_of, time_installs};
+use crate::link::{sites_from, time_installs};
 use crate::told::tell;
 use jl_core::Core;
 use jl_names::Seq;
@@ -38,7 +38,7 @@ fn time_renewal(rt: &HostRuntime, core: &Core, released: &Released) -> io::Resul
 pub(crate) fn measure(rt: &HostRuntime, input: &Input) -> io::Result<()> {
     let mut core = Core::new(rt.alloc(), input.max_sites())?;
     let count = fill(rt, &mut core, input)?;
-    let sites = sites_of(rt.alloc(), count)?;
+    let sites = sites_from(rt.alloc(), count)?;
     time_installs(rt, &mut core, sites.as_slice())?;
     let released = Released {
         call_sites: Seq::of(Vec::new(rt.alloc())),

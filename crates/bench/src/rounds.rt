@@ -1,5 +1,8 @@
-//! What the owner of a core asks of it, round by round: a new loader with ten classes and a link in one of them, the retirement of an older
-//! loader, and fifty times a new switch point, a new call site, ten new targets and the end of an older switch point.
+//! What the owner of a core asks of it, round by round:
+//!
+//! - a new loader with ten classes and a link in one of them;
+//! - the retirement of an older loader;
+//! - fifty times a new switch point, a new call site, ten new targets and the end of an older switch point.
 
 use crate::deeds::{call_site, guard, invalidation, method, request};
 use crate::files::{A, B, C, M, OBJECT, T};
@@ -19,7 +22,7 @@ const CLASSES: usize = 10;
 /// How many switch points, and how many call sites, a round makes.
 const STEPS: usize = 50;
 
-/// How many call sites get a new target behind each new one.
+/// How many call sites get a new target after each new one.
 const TARGETS: usize = 10;
 
 /// How many loaders there may be.
@@ -49,7 +52,7 @@ fn set(bytes: &mut [u8], place: usize, letter: u8) {
     }
 }
 
-/// The file with these letters. Want of memory is an error.
+/// The file with these letters.
 fn lettered(alloc: Global, file: &[u8], class: u8, superclass: u8) -> Result<Vec<u8>, AllocError> {
     let mut bytes = file.to_vec(alloc)?;
     set(bytes.as_mut_slice(), LETTERS.0, class);
@@ -92,7 +95,7 @@ impl Drop for Owned {
 }
 
 impl Owned {
-    /// A core of no events. Want of memory is an error.
+    /// A core of no events.
     pub(crate) fn new(alloc: Global) -> Result<Owned, AllocError> {
         Ok(Owned {
             core: Core::new(alloc, SITES)?,
@@ -188,7 +191,7 @@ impl Owned {
         Ok(())
     }
 
-    /// A guard by the switch point of the two methods. Want of memory is an error.
+    /// A guard by the switch point of the two methods.
     fn guard(&self, alloc: Global, point: SwitchId) -> Result<Target, AllocError> {
         let class = self.held.methods.number();
         guard(alloc, point.number(), (class, 0), (class, 1))

@@ -18,7 +18,7 @@ pub(crate) struct OnServer<K: Name, S: Wait + Drop> {
     caller: Caller<K>,
     /// Whether snapshots hold the world and the one before while an event is applied.
     shares: bool,
-    /// The world before the last event, where snapshots are held.
+    /// The world before the last event, if snapshots are held.
     held: Option<Snapshot>,
 }
 
@@ -75,8 +75,8 @@ impl<K: Name, S: Wait + Drop> OnServer<K, S> {
         }
     }
 
-    /// The same while a snapshot holds the world and another one the world before, in whose place the first comes where the event is
-    /// answered.
+    /// Applies the event of the change while a snapshot holds the world and another one the world before. If the event is answered, the
+    /// first snapshot takes the place of the other one.
     fn apply_shared(
         &mut self,
         rt: &HostRuntime,
@@ -104,7 +104,7 @@ impl<K: Name, S: Wait + Drop> OnServer<K, S> {
         }
     }
 
-    /// Adds what is looked at: the installed links, or the world as a snapshot has it. Gives whether memory lacked.
+    /// Adds what is looked at: the installed links, or the world as a snapshot has it. Gives whether there was no memory.
     fn look(&mut self, rt: &HostRuntime, look: Look, text: &mut String) -> io::Result<bool> {
         match look {
             Look::Links => match &self
@@ -128,7 +128,7 @@ impl<K: Name, S: Wait + Drop> OnServer<K, S> {
         }
     }
 
-    /// Adds what is looked at. Where memory lacked, it prints that, and whether the caller has seen what it had, and looks once more.
+    /// Adds what is looked at. If there was no memory, it prints that, and whether the caller has seen what it had, and looks once more.
     fn look_twice(
         &mut self,
         rt: &HostRuntime,

@@ -1,5 +1,8 @@
-//! Times definitions with snapshots between them: the last class files are batches of definitions by a core without a snapshot; with one
-//! snapshot that is held through all; and with a snapshot after each definition, of which none, one and two are held.
+//! Times definitions with snapshots between them. The last class files are batches of definitions by a core:
+//!
+//! - without a snapshot;
+//! - with one snapshot that is held through all;
+//! - with a snapshot after each definition, of which none, one and two are held.
 
 use crate::fill::define_each;
 use crate::told::{number_or, tell};
@@ -9,10 +12,10 @@ use std::alloc::{AllocError, Global};
 use std::io;
 use std::time::Instant;
 
-/// How many classes are timed at a time, where no word says it.
+/// How many classes are timed at a time, if no word says it.
 const BATCH: u32 = 200;
 
-/// How many of the classes are defined, with a snapshot after each, of which so many are held: where there are more, the first goes.
+/// How many of the classes are defined, with a snapshot after each, of which so many are held: if there are more, the first goes.
 fn define_between(
     alloc: Global,
     core: &mut Core,

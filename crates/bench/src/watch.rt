@@ -14,14 +14,14 @@ pub(crate) trait Watched {
     /// Adds all that is seen of the state.
     fn mark(&mut self, rt: &HostRuntime, text: &mut String) -> io::Result<()>;
 
-    /// Applies the event of the change, and prints the answer where it isn't Memory. It gives whether it is.
+    /// Applies the event of the change, and prints the answer if it isn't Memory. It gives whether it is.
     ///
     /// # Errors
     ///
     /// Want of memory before the call, and a failed write.
     fn apply(&mut self, rt: &HostRuntime, called: Called, change: &Change) -> io::Result<bool>;
 
-    /// The same of whatever is asked.
+    /// Asks what is to be asked, and prints the answer if it isn't Memory. It gives whether it is.
     ///
     /// # Errors
     ///
@@ -46,7 +46,7 @@ impl Drop for Marks {
 }
 
 impl Marks {
-    /// Two blank texts. Want of memory is an error.
+    /// Two blank texts.
     pub(crate) fn new(alloc: Global) -> Result<Marks, AllocError> {
         Ok(Marks {
             before: blank(alloc)?,
@@ -55,7 +55,7 @@ impl Marks {
     }
 }
 
-/// Asks. Where memory lacked, it prints that, and whether the state is as before, and asks once more.
+/// Asks. If there was no memory, it prints that, and whether the state is as before, and asks once more.
 fn watch<W: Watched>(
     rt: &HostRuntime,
     watched: &mut W,

@@ -2,7 +2,7 @@
 
 use crate::fill::fill;
 use crate::input::Input;
-use crate::link::sites_of;
+use crate::link::sites_from;
 use crate::told::{number_or, tell};
 use jl_core::Core;
 use jl_relink::{Prepared, Snapshot, prepare, prepare_wide};
@@ -43,7 +43,7 @@ pub(crate) fn measure(
 ) -> io::Result<()> {
     let mut core = Core::new(rt.alloc(), input.max_sites())?;
     let most = fill(rt, &mut core, input)?;
-    let sites = sites_of(rt.alloc(), number_or(words, 1, 256).min(most))?;
+    let sites = sites_from(rt.alloc(), number_or(words, 1, 256).min(most))?;
     let snapshot = core.snapshot(rt.alloc())?;
     for _ in 0..number_or(words, 2, 1) {
         time_both(rt, handle, &snapshot, sites.as_slice())?;

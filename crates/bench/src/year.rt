@@ -1,6 +1,6 @@
-//! Asks of a core what a server asks in a year: so many events, the second word, in rounds. It forgets what is past. Whenever the numbers of a
-//! kind are nearly used up, the core is renewed, with what its owner let go, and the owner takes the new numbers over. Where the third word is
-//! 0, it isn't, and this ends where a number lacks. Nothing of the input is asked.
+//! Asks of a core what a server asks in a year: so many events, the second word, in rounds. It forgets what is past. Whenever the numbers
+//! of a kind are nearly used up, the core is renewed, with what its owner let go, and the owner takes the new numbers over. If the third
+//! word is 0, it isn't, and this ends once no number is left. Nothing of the input is asked.
 
 use crate::rounds::{Owned, files};
 use crate::told::{number_or, tell};
@@ -11,7 +11,7 @@ use std::alloc::Global;
 use std::io;
 use std::time::Instant;
 
-/// How many events are asked where no word says it: those of 20,000 rounds.
+/// How many events are asked if no word says it: those of 20,000 rounds.
 const EVENTS: u32 = 13_300_000;
 
 /// How many entries that aren't past the core may keep.
@@ -32,11 +32,11 @@ fn renewed(alloc: Global, owned: &mut Owned) -> Result<(), Refusal> {
 /// Prints why it ends, and gives false.
 fn tell_end(rt: &HostRuntime, owned: &Owned, refusal: &Refusal) -> io::Result<bool> {
     let events = owned.events;
-    println!(rt; "ended behind {events} events by {refusal:?}")?;
+    println!(rt; "ended after {events} events by {refusal:?}")?;
     Ok(false)
 }
 
-/// Lets the core forget what is past where it keeps too much of that.
+/// Lets the core forget what is past if it keeps too much of that.
 fn forget_past(core: &mut Core) {
     let Some(place) = core.log().len().checked_sub(PAST) else {
         return;
@@ -46,7 +46,7 @@ fn forget_past(core: &mut Core) {
     }
 }
 
-/// Renews the core where that is due, and times it. Gives whether there is room for a round more.
+/// Renews the core if that is due, and times it. Gives whether there is room for a round more.
 fn make_room(rt: &HostRuntime, owned: &mut Owned, renews: bool) -> io::Result<bool> {
     if !renews || !owned.is_used_up() {
         return Ok(true);
@@ -59,14 +59,12 @@ fn make_room(rt: &HostRuntime, owned: &mut Owned, renews: bool) -> io::Result<bo
     }
     let micros = start.elapsed(rt)?.as_micros();
     let after = owned.core.log().len();
-    println!(rt; "renewed behind {events} events: entries {before}, then {after}")?;
-    eprintln!(rt;
-        "renewed behind {events} events: entries {before}, then {after}, in {micros} us"
-    )?;
+    println!(rt; "renewed after {events} events: entries {before}, then {after}")?;
+    eprintln!(rt; "renewed after {events} events: entries {before}, then {after}, in {micros} us")?;
     Ok(true)
 }
 
-/// One round, and a line where it is due. Gives whether it was accepted.
+/// One round, and a line if that is due. Gives whether it was accepted.
 fn run_round(
     rt: &HostRuntime,
     owned: &mut Owned,

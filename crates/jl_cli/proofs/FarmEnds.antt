@@ -74,7 +74,7 @@ same_fault (Err h) f g is e = let same : h ≡ g = cc e in sym is ∙ same
 pub same_line : {T : Type 0} (r : Result T FarmLineFault) (f g : LineFault) → IsErrAnd r (λ h. h ≡ Line f) → r ≡ Err (Line g) → f ≡ g
 same_line r f g is e = let same : Line f ≡ Line g = same_fault r (Line f) (Line g) is e in cc same
 
--- what comes behind the answers fails by no device
+-- what comes after the answers fails by no device
 pub no_device : {T : Type 0} (r : Result T FarmLineFault) (f : FarmLineFault) → IsErrAnd r (λ h. h ≡ f) → IsUnwritten f → r ≡ Err (Line Device) → ⊥
 no_device r f is unwritten e =
     let clash : Device ≡ Memory = subst IsUnwritten (same_fault r f (Line Device) is e) unwritten in absurd cc
@@ -91,7 +91,7 @@ module _ (limits : Limits) where
   farm_none start old failed =
       farm_lines_first [] [] start old old failed Memory refl (none_whole (IsFarmAnswer limits) [] start old failed)
 
-  -- nothing is written behind the answers
+  -- nothing is written after the answers
   unwritten : (from seen : List Entry) (start old middle new : Option (List ℕ)) (failed : Type 0) (fault : FarmLineFault) → from ≡ []
       → Lined limits from seen start old middle → Keeps middle new → FarmLongIf fault [] → FarmWhole limits start old new failed fault
   unwritten from seen None old middle new failed fault fresh h kept long = λ _. tt
@@ -144,7 +144,7 @@ module _ (limits : Limits) where
     written = Appends-trans old middle new h.0.output (ended text) h.0.written written;
   }
 
-  -- memory lacks for the lines
+  -- there is no memory for the lines
   pub lines_earlier : (from seen : List Entry) (start unread old new : Option (List ℕ)) → from ≡ []
       → IfSome start (λ input. (earlier : AnswersEarlier (IsFarmAnswer limits) from input unread old new)
       × LacksFirst (IsFarmAnswer limits) earlier.first.last earlier.first.after seen)
@@ -153,12 +153,12 @@ module _ (limits : Limits) where
   lines_earlier from seen (Some xs) unread old new fresh h =
       inl (earlier_of (IsFarmAnswer limits) from [] seen (Some xs) unread old new fresh h)
 
-  -- memory lacks behind the answers
-  pub behind_all : (from seen : List Entry) (start unread old middle new : Option (List ℕ)) → from ≡ []
+  -- there is no memory after the answers
+  pub after_all : (from seen : List Entry) (start unread old middle new : Option (List ℕ)) → from ≡ []
       → Lined limits from seen start old middle → Keeps middle new
       → IfSome start (λ input. FarmsEarlier limits input unread old new)
-  behind_all from seen None unread old middle new fresh h kept = tt
-  behind_all from seen (Some xs) unread old middle new fresh h kept =
+  after_all from seen None unread old middle new fresh h kept = tt
+  after_all from seen (Some xs) unread old middle new fresh h kept =
       inr (record {
         short = h.0.short;
         output = h.0.output;

@@ -67,7 +67,7 @@ module _ (K : Type 0) where
   unfolding reports_data site_links_data serde_json_on_literals
   two_jobs list = refl
 
-  -- what a caller that has learnt nothing reports stands in no last line behind an accepted event
+  -- what a caller that has learnt nothing reports stands in no last line after an accepted event
   told_nothing : (entry : Entry) (text : List ℕ) (last : IsLastLine K (fixed 65536) (entry ∷ []) text) → last.callers ≡ [] ∷ [] → ⊥
   told_nothing entry text last e =
       let told : IsPrefix (entry ∷ []) [] =
@@ -77,12 +77,12 @@ module _ (K : Type 0) where
 -- ---- how a farm over lines ends
 
 -- a farm that failed has had all lines answered
-failed_behind_all : (fault : FarmFault) → FarmLongIf (Farm fault) []
-failed_behind_all fault = refl
+failed_after_all : (fault : FarmFault) → FarmLongIf (Farm fault) []
+failed_after_all fault = refl
 
 failed_before_a_line : (fault : FarmFault) (line : List ℕ) (lines : List (List ℕ)) → FarmLongIf (Farm fault) (line ∷ lines) → ⊥
 failed_before_a_line fault line lines is = cc is
 
 -- a line that is too long is there
-long_behind_all : FarmLongIf (Line TooLong) [] → ⊥
-long_behind_all is = is
+long_after_all : FarmLongIf (Line TooLong) [] → ⊥
+long_after_all is = is

@@ -78,8 +78,8 @@ long_next line lines size = omega (arith, size)
 not_long_at_limit : (line : List ℕ) (lines : List (List ℕ)) → length line ≡ 2100000 → LongIf TooLong (line ∷ lines) → ⊥
 not_long_at_limit line lines size long = omega (arith, size, long)
 
-not_long_behind : (line : List ℕ) → length line ≡ 2100001 → LongIf TooLong (codes "links" ∷ line ∷ []) → ⊥
-not_long_behind line size long = omega (arith, long)
+not_long_after : (line : List ℕ) → length line ≡ 2100001 → LongIf TooLong (codes "links" ∷ line ∷ []) → ⊥
+not_long_after line size long = omega (arith, long)
 
 not_long_at_end : LongIf TooLong [] → ⊥
 not_long_at_end long = long
@@ -113,7 +113,7 @@ device_leaves mode last after = refl
 device_changes_none : (mode : Mode) (after : List (List ℕ)) → LeftBy Device (IsAnswer mode) new_session after one_batch → ⊥
 device_changes_none mode after left = other_session left
 
--- want of memory, too, where no line follows
+-- want of memory, too, if no line follows
 memory_leaves_at_end : (mode : Mode) → LeftBy Memory (IsAnswer mode) new_session [] one_batch → ⊥
 memory_leaves_at_end mode left = other_session left
 
@@ -149,13 +149,13 @@ module _ (from : Session) where
       let last : true ≡ false = (subst NoNewline (sym whole) one).1.0 in cc last
   one_newline (line ∷ lines) more tail none read one = absurd (cc none)
 
-  -- where all was read before, the line is answered
+  -- if all was read before, the line is answered
   answered_when_read : Nothing (Some []) → ⊥
   answered_when_read left =
       one_newline left.lines left.more left.tail (sym left.all ∙ no_answers left.first.before left.first.output left.first.last left.first.answers
       (sym left.first.written)) left.read left.one
 
-  -- where its newline wasn't, it need not be
+  -- if its newline wasn't, it need not be
   not_yet : Nothing (Some (newline ∷ []))
   unfolding lines_of
   not_yet = record {

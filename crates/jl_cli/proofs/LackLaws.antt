@@ -1,4 +1,4 @@
--- What a session, or a caller of a server, has where memory lacks for the text of an answer.
+-- What a session, or a caller of a server, has if there is no memory for the text of an answer.
 use Rattle.std.proofs.Common.{refl, inr, List, ℕ, Result}
 use Rattle.jl_types.specs.declared.limits.Limits.{Limits}
 use mathlib.Core.List.{IsPrefix}
@@ -15,7 +15,7 @@ use Rattle.jl_lines.specs.Answers.{Lacks}
 use Rattle.jl_cli.specs.Modes.{IsAnswer}
 use Rattle.jl_cli.specs.Farms.{IsFarmAnswer, IsLineServed, IsServed, IsServedAs}
 
--- the same of the text of an answer
+-- what a session has if there is no memory for the text of an answer
 pub run_lacks : (old new : Session) (line : List ℕ) → LacksAnswer old (λ answer. IsSessionAnswer old line answer new) new
     → Lacks (IsAnswer Run) old line new
 run_lacks old new line lacks =

@@ -1,4 +1,4 @@
--- What the program has done that was called with words, where it ends with the end of its input.
+-- What the program has done that was called with words, if it ends with the end of its input.
 use Rattle.std.specs.Prelude.{◌≡◌, ℕ, List, Option, IfSome}
 use Rattle.std.specs.Io.KnownBytes.{IsAtEnd}
 use Rattle.core.specs.declared.marker.Brand.{Brand}
@@ -22,7 +22,7 @@ AnswersAsked (Farm workers) input old new = FarmsAll Brand (fixed 65536) input o
 abbrev pub HasAnswered : Words → Option (List ℕ) → Option (List ℕ) → Option (List ℕ) → Option (List ℕ) → Type 0
 HasAnswered asked unread left old new = IsAtEnd left × IfSome unread (λ input. AnswersAsked asked input old new)
 
--- the words ask for something, which was done where the program ends with the end of its input
+-- the words ask for something, which was done if the program ends with the end of its input
 abbrev pub DoesAsked : List (List ℕ) → Ending → Option (List ℕ) → Option (List ℕ) → Option (List ℕ) → Option (List ℕ) → Type 0
 DoesAsked words ending unread left old new =
     (asked : Words) × AskFor asked words × (ending ≡ InputEnded → HasAnswered asked unread left old new)

@@ -21,7 +21,7 @@ status_of DeviceFailed = 3
 status_of OutOfMemory = 4
 status_of NothingReported = 5
 
--- what is written on the standard error: a line, but where the input ended
+-- what is written on the standard error: a line, unless the input ended
 abbrev pub line_of : Ending → List ℕ
 line_of InputEnded = []
 line_of BadWords = ended (codes "linkd: bad words")
@@ -46,7 +46,7 @@ abbrev pub farm_end : FarmLineFault → Ending
 farm_end (Line fault) = lines_end fault
 farm_end (Farm fault) = FarmFailed
 
--- how the program ends, by what its run came to
+-- how the program ends, by the result of its run
 abbrev pub ending_of : {A E : Type 0} → (E → Ending) → Result A E → Ending
 ending_of ends (Ok done) = InputEnded
 ending_of ends (Err fault) = ends fault

@@ -70,7 +70,7 @@ IsFarmAnswer limits old line text new = IsTextOf (λ answer. IsLineServed limits
 abbrev pub job_of_each : List ℕ → List (List ℕ)
 job_of_each sites = map (λ s. s ∷ []) sites
 
--- the name of what a job came to
+-- the name of a job's outcome
 abbrev pub outcome_name : {K : Type 0} → JobOutcome K → List ℕ
 outcome_name (Installed receipt) = codes "Installed"
 outcome_name (Stale first second) = codes "Stale"
@@ -81,16 +81,16 @@ outcome_name Memory = codes "Memory"
 abbrev pub report_data : {K : Type 0} → Report K → Data
 report_data report = string (outcome_name report.outcome)
 
--- the names of what the jobs came to, in order
+-- the names of the jobs' outcomes, in order
 unfoldable pub reports_data : {K : Type 0} → List (Report K) → Data
 reports_data reports = array (items_of (map report_data reports))
 
--- the links that are installed after these events, and the names of what the jobs came to
+-- the links that are installed after these events, and the names of the jobs' outcomes
 abbrev pub last_data : {K : Type 0} → List Entry → List (Report K) → Data
 last_data list reports = farm_data (installed_links (events_of list)) (reports_data reports)
 
--- The text of the last line, after what was seen when the lines were answered: each site that is requested by then is a job, and the reports are of
--- these, each once, in order, by callers that had been told of what was seen; the links are those after a list that comes later.
+-- The text of the last line, after what was seen when the lines were answered. Each site that is requested by then is a job. The reports
+-- are of these, each once, in order, by callers that had been told of what was seen. The links are those after a list that comes later.
 pub record IsLastLine (K : Type 0) (limits : Limits) (answered : List Entry) (text : List ℕ) : Type 0 where
   pub asked : List Entry
   pub later : IsPrefix answered asked
@@ -107,7 +107,7 @@ pub record IsLastLine (K : Type 0) (limits : Limits) (answered : List Entry) (te
 
 -- ---- what a run leaves
 
--- Each line is answered, from a server on that has taken no event, and behind the answers stands the last line, and nothing else.
+-- Each line is answered, from a server on that has taken no event. After the answers stands the last line, and nothing else.
 pub record FarmsAll (K : Type 0) (limits : Limits) (input : List ℕ) (old new : Option (List ℕ)) : Type 0 where
   pub short : AreShort (lines_of input)
   pub output : List ℕ
@@ -117,13 +117,13 @@ pub record FarmsAll (K : Type 0) (limits : Limits) (input : List ℕ) (old new :
   pub last : IsLastLine K limits seen text
   pub written : Appends old new (output ++ ended text)
 
--- a fault of lines comes before a line that is too long where it says so; one of the farm after all lines
+-- a fault of lines comes before a line that is too long if it says so; one of the farm after all lines
 abbrev pub FarmLongIf : FarmLineFault → List (List ℕ) → Type 0
 FarmLongIf (Line fault) after = LongIf fault after
 FarmLongIf (Farm fault) after = after ≡ []
 
--- Where memory lacks, the answers to some first lines were written whole, and among them those to all lines whose newline had been read when this was
--- left to read; or all lines were answered, and it lacks for the last line.
+-- After want of memory the answers to some first lines were written whole. Among them are those to all lines whose newline had been read
+-- when this was left to read. Or all lines were answered, and there is no memory for the last line.
 abbrev pub FarmsEarlier : Limits → List ℕ → Option (List ℕ) → Option (List ℕ) → Option (List ℕ) → Type 0
 FarmsEarlier limits input unread old new =
     AnswersEarlier (IsFarmAnswer limits) [] input unread old new ⊎ AnswersAll (IsFarmAnswer limits) [] input old new

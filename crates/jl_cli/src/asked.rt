@@ -16,8 +16,8 @@ use std::alloc::Global;
 use std::sync::Wait;
 use std::thread::Threads;
 
-/// Does what the words ask for, the program's name first, over the lines of an input, and tells how the program ends: with the end of the input
-/// once all its lines were answered, and with a failed device where one failed or was read 2^64 - 1 times.
+/// Does what the words ask for, the program's name first, over the lines of an input, and tells how the program ends. It ends with the end
+/// of the input once all its lines were answered, and with a failed device if one failed or was read 2^64 - 1 times.
 ///
 /// # Errors
 ///

@@ -45,7 +45,7 @@ impl Ending {
         }
     }
 
-    /// The line on the standard error, with its newline; empty where the input ended.
+    /// The line on the standard error, with its newline; empty if the input ended.
     pub fn line(self) -> &'static str
         ensures { result.now ≡ line_of self }
     {
@@ -80,7 +80,7 @@ impl Ending {
         }
     }
 
-    /// Writes the line, where there is one, and gives the exit status, also where the write failed.
+    /// Writes the line, if there is one, and gives the exit status, also if the write failed.
     pub fn tell<W: Sink>(self, errors: &mut W) -> u8
         ensures status { result ≡ status_of self }
         ensures line { ¬ HasRisen (W.failures errors.old) (W.failures errors.new)

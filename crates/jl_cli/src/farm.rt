@@ -1,4 +1,4 @@
-//! A farm for the sites that were requested, and the line that says what it came to.
+//! A farm for the sites that were requested, and the line that tells its links and the outcomes of its jobs.
 
 ghost use Rattle.std.specs.Prelude.{◌≡◌, ◌≤◌, [], ◌∷◌, All, IfOk, IfErr, vec_len};
 ghost use Rattle.std.specs.List.{range_with_len};
@@ -97,8 +97,8 @@ impl Gate for Open {
     fn after_install(&self, _job: usize) {}
 }
 
-/// What each of these jobs came to by these workers. A fault is the farm's own, and is told as such.
-fn reports_on<K: Name + Send + Sync, H: Threads + Wait + Sync, S: Wait + Drop + Send + Sync>(
+/// The report of each of these jobs by these workers. A fault is the farm's own, and is told as such.
+fn run_jobs<K: Name + Send + Sync, H: Threads + Wait + Sync, S: Wait + Drop + Send + Sync>(
     served: &ServerCommands<'_, K, H, S>,
     jobs: Vec<Seq<SiteNo>>,
     workers: Vec<Caller<K>>,
@@ -126,7 +126,7 @@ fn tell_all<K: Name>(workers: &mut [Caller<K>], seen: &Seen<K>)
     }
 }
 
-/// The text of the farm's answer: the links that the workers leave installed, and what each job came to.
+/// The text of the farm's answer: the links that the workers leave installed, and the outcome of each job.
 ///
 /// # Errors
 ///
@@ -149,11 +149,11 @@ pub(crate) fn farm_text<
     let mut workers = workers;
     tell_all(workers.as_mut_slice(), caller.seen());
     let jobs = served.jobs(caller)?;
-    let reports = reports_on(served, jobs, workers)?;
+    let reports = run_jobs(served, jobs, workers)?;
     Ok(last_text(served, caller, reports.as_slice())?)
 }
 
-/// The name of what a job came to.
+/// The name of a job's outcome.
 fn name_of<K: Name>(outcome: &JobOutcome<K>) -> &'static str
     ensures { result.now ≡ outcome_name outcome.now }
 {
@@ -166,7 +166,7 @@ fn name_of<K: Name>(outcome: &JobOutcome<K>) -> &'static str
     }
 }
 
-/// The names of what jobs came to, in order.
+/// The names of the outcomes of jobs, in order.
 #[tactic(auto, unfolding(crate::specs::Farms::reports_data))]
 fn reports_value<K: Name>(alloc: Global, reports: &[Report<K>]) -> Result<Value, AllocError>
     ensures { IfOk result (λ v. view v ≡ reports_data reports.now) }

@@ -28,7 +28,7 @@ const MOST_SITES: u32 = 65_536;
 ///
 /// # Errors
 ///
-/// [`LineFault::Memory`], before anything is written; [`LineFault::Device`], where a write failed.
+/// [`LineFault::Memory`], before anything is written; [`LineFault::Device`], if a write failed.
 fn write_last<W: Sink>(text: Vec<u8>, writer: &mut W) -> Result<(), LineFault>
     ensures written { OnOk result (Appends (W.contents writer.old) (W.contents writer.new) (ended text.items)) }
     ensures memory { IfErr result (λ f. f ≢ Device → (f ≡ Memory)
@@ -128,15 +128,15 @@ fn run_started<K: Name + Send + Sync, H: Threads + Wait + Sync, R: Source, W: Si
     run_on(&served, &mut caller, callers, reader, writer)
 }
 
-/// Answers each line of the input, in order, to its end, as the mode run does, but by a link server; preparations, installs, calls and
-/// lists of links are no commands here. Then each requested site is a job of a farm of so many workers, from 1 to 16, and one more
-/// line has the links that they leave and what each job came to. It waits for its threads.
+/// Answers each line of the input, in order, to its end, as the mode run does, but by a link server. Preparations, installs, calls and
+/// lists of links are no commands here. Then each requested site is a job of a farm of so many workers, from 1 to 16. One more line has
+/// the links that they leave and the outcome of each job. It waits for its threads.
 ///
 /// # Errors
 ///
-/// - [`FarmLineFault::Line`]: why no more lines are answered, as in the mode run, and there is no last line; want of memory for the
-///   server or for the last line, or a failed write of it, is one, too. The answers to all lines before were written whole, but for a
-///   failed write.
+/// - [`FarmLineFault::Line`]: why no more lines are answered, as in the mode run, and there is no last line. Want of memory for the
+///   server or for the last line, or a failed write of it, is one, too. Unless a write failed, the answers to all lines before were
+///   written whole.
 /// - [`FarmLineFault::Farm`]: the farm has no reports. The answers to all lines were written, and no last line.
 pub fn run_farm<H: Threads + Wait + Sync, R: Source, W: Sink>(
     rt: &H,
@@ -149,8 +149,8 @@ pub fn run_farm<H: Threads + Wait + Sync, R: Source, W: Sink>(
     // The input was read to its end, and the answers to its lines were written, and then the last line.
     ensures answered { OnOk result (IsAtEnd (R.remaining reader.new)
         × IfSome (R.remaining reader.old) (λ input. FarmsAll Brand (fixed 65536) input (W.contents writer.old) (W.contents writer.new))) }
-    // But for a failed write the answers to some first lines were written whole, and nothing else: the next line is over the limit where one
-    // is said to be too long, and there is none where the farm failed.
+    // Unless a write failed, the answers to some first lines were written whole, and nothing else. If a line is said to be too long, the
+    // next one is over the limit. If the farm failed, there is no next line.
     ensures whole { IfErr result
         (λ fault. (fault ≡ Line Device → ¬ HasRisen (W.failures writer.old) (W.failures writer.new))
         → IfSome (R.remaining reader.old) (λ input.
@@ -161,7 +161,7 @@ pub fn run_farm<H: Threads + Wait + Sync, R: Source, W: Sink>(
         → ¬ HasRisen (W.failures writer.old) (W.failures writer.new)
         → IfSome (R.remaining reader.old) (λ input. AnswersRead (IsFarmAnswer (fixed 65536)) [] input
         (R.remaining reader.new) (W.contents writer.old) (W.contents writer.new)) }
-    // Where memory lacks after a read, these are at least all lines of which the newline came with an earlier one.
+    // After want of memory that followed a read, these are at least all lines of which the newline came with an earlier read.
     ensures memory { IsErrOf result (Line Memory) → R.reads reader.new ≢ R.reads reader.old
         → IfSome (R.remaining reader.old) (λ input. FarmsEarlier (fixed 65536) input
         (R.before reader.new) (W.contents writer.old) (W.contents writer.new)) }

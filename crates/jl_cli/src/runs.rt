@@ -15,7 +15,7 @@ use jl_words::Mode;
 use std::alloc::Global;
 
 /// Answers each line of the input, in order, to its end: one line of output for each. What stands
-/// behind the last newline is a line, too, unless it is empty. The answers to what was read are
+/// after the last newline is a line, too, unless it is empty. The answers to what was read are
 /// written before more is read. In the mode run the first line is answered by a new session, and
 /// each further one by the session that the line before left.
 ///
@@ -25,8 +25,11 @@ use std::alloc::Global;
 /// - [`LineFault::Device`]: a read or a write failed, or there were 2^64 - 1 reads.
 /// - [`LineFault::Memory`]: want of memory for the session, the buffers, or the answer to a line.
 ///
-/// But for a failed write the answers to some first lines were written whole: to all before the one that is too long, to all whose
-/// newline was read where a read failed, and for want of memory at least to those whose newline came with an earlier read than the last one.
+/// Unless a write failed, the answers to some first lines were written whole:
+///
+/// - to all before the one that is too long;
+/// - if a read failed, to all whose newline was read;
+/// - for want of memory, at least to those whose newline came with an earlier read than the last one.
 pub fn run_lines<R: Source, W: Sink>(
     alloc: Global,
     mode: Mode,
@@ -37,8 +40,8 @@ pub fn run_lines<R: Source, W: Sink>(
     ensures answered { OnOk result (IsAtEnd (R.remaining reader.new)
         × IfSome (R.remaining reader.old) (λ input. AnswersAll (IsAnswer mode) new_session input
         (W.contents writer.old) (W.contents writer.new))) }
-    // But for a failed write the answers to some first lines were written whole, and the next line
-    // is over the limit where one is said to be too long.
+    // Unless a write failed, the answers to some first lines were written whole, and the next line
+    // is over the limit if one is said to be too long.
     ensures whole { IfErr result
         (λ f. (f ≡ Device → ¬ HasRisen (W.failures writer.old) (W.failures writer.new))
         → IfSome (R.remaining reader.old) (λ input.
@@ -49,7 +52,7 @@ pub fn run_lines<R: Source, W: Sink>(
         → ¬ HasRisen (W.failures writer.old) (W.failures writer.new)
         → IfSome (R.remaining reader.old) (λ input. AnswersRead (IsAnswer mode) new_session input
         (R.remaining reader.new) (W.contents writer.old) (W.contents writer.new)) }
-    // Where memory lacks after a read, these are at least all lines of which the newline came with an earlier one.
+    // After want of memory that followed a read, these are at least all lines of which the newline came with an earlier read.
     ensures memory { IsErrOf result LineFault.Memory → R.reads reader.new ≢ R.reads reader.old
         → IfSome (R.remaining reader.old) (λ input. AnswersEarlier (IsAnswer mode) new_session input
         (R.before reader.new) (W.contents writer.old) (W.contents writer.new)) }
@@ -66,7 +69,7 @@ pub fn run_lines<R: Source, W: Sink>(
 ///
 /// # Errors
 ///
-/// Those of [`run_lines`]. But for a failed write the session is as the answered lines left it; for
+/// Those of [`run_lines`]. Unless a write failed, the session is as the answered lines left it. After
 /// want of memory it may have obeyed the next line, too, and no other.
 pub fn run_lines_with<R: Source, W: Sink>(
     alloc: Global,
@@ -78,8 +81,8 @@ pub fn run_lines_with<R: Source, W: Sink>(
     ensures answered { OnOk result (IsAtEnd (R.remaining reader.new)
         × IfSome (R.remaining reader.old) (λ input. (all : AnswersAll (IsAnswer mode) session.old input
         (W.contents writer.old) (W.contents writer.new)) × (session.new ≡ all.last))) }
-    // But for a failed write no line was obeyed whose answer wasn't written, but for the next one
-    // where memory lacks.
+    // Unless a write failed, no line was obeyed whose answer wasn't written, but for the next one
+    // after want of memory.
     ensures whole { IfErr result
         (λ f. (f ≡ Device → ¬ HasRisen (W.failures writer.old) (W.failures writer.new))
         → IfSome (R.remaining reader.old) (λ input.

@@ -23,7 +23,7 @@ pub(crate) struct ServerCommands<'a, K: Name, H: Wait, S: Wait + Drop> {
 }
 
 impl<'a, K: Name, H: Wait, S: Wait + Drop> ServerCommands<'a, K, H, S> {
-    /// The same server.
+    /// These commands once more, on the server that they are for.
     pub(crate) fn again(&self) -> ServerCommands<'a, K, H, S> {
         ServerCommands {
             rt: self.rt,

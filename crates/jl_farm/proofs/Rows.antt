@@ -15,7 +15,7 @@ use Rattle.jl_server.specs.History.{entry_after}
 use Rattle.jl_farm.specs.declared.report.Report.{Report}
 use Rattle.jl_farm.specs.declared.report.JobOutcome.{JobOutcome}
 use Rattle.jl_farm.specs.declared.report.JobOutcome.TheVariants.{Installed, Stale, NotReady, Bad, Memory}
-use Rattle.jl_farm.specs.Reports.{has_twice, sites_of, world_of, lists_of, names_install, installs_of, IsInstalled, IsShown, AreOfOneHistory, AreOfSameSites}
+use Rattle.jl_farm.specs.Reports.{has_twice, job_sites, world_of, lists_of, names_install, installs_of, IsInstalled, IsShown, AreOfOneHistory, AreOfSameSites}
 use Rattle.jl_farm.specs.ForProofs.Work.{HasSeen}
 use Rattle.jl_farm.proofs.Installs.{last_same, rows_of, same_serial}
 
@@ -37,10 +37,10 @@ twice_apart : has_twice (5 ∷ 7 ∷ 5 ∷ []) ≡ true
 twice_apart = refl
 
 -- jobs are numbered from 0, and past the last one there are no sites
-sites_last : sites_of ((5 ∷ []) ∷ (7 ∷ 8 ∷ []) ∷ []) 1 ≡ 7 ∷ 8 ∷ []
+sites_last : job_sites ((5 ∷ []) ∷ (7 ∷ 8 ∷ []) ∷ []) 1 ≡ 7 ∷ 8 ∷ []
 sites_last = refl
 
-sites_past : sites_of ((5 ∷ []) ∷ (7 ∷ 8 ∷ []) ∷ []) 2 ≡ []
+sites_past : job_sites ((5 ∷ []) ∷ (7 ∷ 8 ∷ []) ∷ []) 2 ≡ []
 sites_past = refl
 
 -- ---- what no report shows
@@ -220,7 +220,7 @@ module _ (K : Type 0) where
       other is also = omega (arith, same_serial mine.serial serial is, same_serial theirs.serial serial also, third, fourth)
 
       by_place : All (λ a. All (λ b. names_install serial a.outcome ≡ true → names_install serial b.outcome ≡ true
-          → sites_of ((5 ∷ []) ∷ (7 ∷ []) ∷ []) a.job ≡ sites_of ((5 ∷ []) ∷ (7 ∷ []) ∷ []) b.job) (two mine theirs)) (two mine theirs)
+          → job_sites ((5 ∷ []) ∷ (7 ∷ []) ∷ []) a.job ≡ job_sites ((5 ∷ []) ∷ (7 ∷ []) ∷ []) b.job) (two mine theirs)) (two mine theirs)
       by_place zero d lt zero e less is also = refl
       by_place zero d lt (suc zero) e less is also = absurd (other is also)
       by_place (suc zero) d lt zero e less is also = absurd (other also is)

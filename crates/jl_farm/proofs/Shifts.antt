@@ -14,7 +14,7 @@ use Rattle.jl_farm.specs.declared.job_queue.PassView.{PassView}
 use Rattle.jl_farm.specs.declared.report.Report.{Report}
 use Rattle.jl_farm.specs.declared.worker.Worker.{Worker}
 use Rattle.jl_farm.specs.ForProofs.Queued.{pass_view, KnowsAll}
-use Rattle.jl_farm.specs.Reports.{IsShown, sites_of, IsReport, jobs_of, installs_of}
+use Rattle.jl_farm.specs.Reports.{IsShown, job_sites, IsReport, jobs_of, installs_of}
 use Rattle.jl_farm.specs.ForProofs.Work.{Works, HasSeen, IsHired, HasReported, HasOne}
 use Rattle.jl_farm.proofs.Outcomes.{shown_before}
 use Rattle.jl_farm.proofs.EachOnce.{each_once}
@@ -71,24 +71,24 @@ module _ {K : Type 0} (n : Limits) (jobs : List (List ℕ)) where
     reports = reports ∙ sym (append-nil old.reports.items);
     pass = pass ∙ ap (pass_view (view old.pass).parts (view old.pass).put) (sym (append-nil (view old.pass).taken));
     own = subst (IsPrefix old.caller) (sym own) (prefix_self old.caller);
-    shown = all_none (λ report. IsShown n old.caller (sites_of jobs report.job) report.outcome);
+    shown = all_none (λ report. IsShown n old.caller (job_sites jobs report.job) report.outcome);
     once = λ serial. omega (arith);
   }
 
   -- one job more
   pub works_one : (old new : Worker K) (report : Report K) → new.reports.items ≡ old.reports.items ++ report ∷ []
       → view new.pass ≡ pass_view (view old.pass).parts (view old.pass).put ((view old.pass).taken ++ report.job ∷ []) → IsPrefix old.caller new.caller
-      → IsShown n old.caller (sites_of jobs report.job) report.outcome → HasSeen new.caller report.outcome → Works n jobs old new
+      → IsShown n old.caller (job_sites jobs report.job) report.outcome → HasSeen new.caller report.outcome → Works n jobs old new
   works_one old new report reports pass own shown seen = record {
     more = report ∷ [];
     reports = reports;
     pass = pass;
     own = own;
     shown = one;
-    once = λ serial. omega (arith, once_each n old.caller new.caller (sites_of jobs report.job) report.outcome serial shown seen);
+    once = λ serial. omega (arith, once_each n old.caller new.caller (job_sites jobs report.job) report.outcome serial shown seen);
   }
     where
-      one : All (λ r. IsShown n old.caller (sites_of jobs r.job) r.outcome) (report ∷ [])
+      one : All (λ r. IsShown n old.caller (job_sites jobs r.job) r.outcome) (report ∷ [])
       one zero d lt = shown
       one (suc k) d lt = absurd (omega arith)
 
@@ -102,8 +102,8 @@ module _ {K : Type 0} (n : Limits) (jobs : List (List ℕ)) where
         (append_assoc (view old.pass).taken (jobs_of a.more) (jobs_of b.more)
         ∙ ap (λ js. (view old.pass).taken ++ js) (sym (map-append (λ r. r.job) a.more b.more)));
     own = prefix_trans old.caller mid.caller new.caller a.own b.own;
-    shown = All-append (λ r. IsShown n old.caller (sites_of jobs r.job) r.outcome) a.more b.more a.shown
-        (λ k d lt. shown_before n old.caller mid.caller (sites_of jobs (get_or b.more k d).job) (get_or b.more k d).outcome a.own (b.shown k d lt));
+    shown = All-append (λ r. IsShown n old.caller (job_sites jobs r.job) r.outcome) a.more b.more a.shown
+        (λ k d lt. shown_before n old.caller mid.caller (job_sites jobs (get_or b.more k d).job) (get_or b.more k d).outcome a.own (b.shown k d lt));
     once = λ serial. omega (
       arith,
       installs_both serial a.more b.more,
@@ -117,7 +117,7 @@ module _ {K : Type 0} (n : Limits) (jobs : List (List ℕ)) where
   -- ---- workers
 
   module _ (callers : List (List Entry)) where
-    reports_of : (before : List Entry) (rs : List (Report K)) → Contains callers before → All (λ r. IsShown n before (sites_of jobs r.job) r.outcome) rs
+    reports_of : (before : List Entry) (rs : List (Report K)) → Contains callers before → All (λ r. IsShown n before (job_sites jobs r.job) r.outcome) rs
         → All (IsReport n callers jobs) rs
     reports_of before rs mine shown k d lt = record { before = before; of_caller = mine; shown = shown k d lt }
 
@@ -146,7 +146,7 @@ module _ {K : Type 0} (n : Limits) (jobs : List (List ℕ)) where
       taken = ap (λ (v : PassView). v.taken) works.pass ∙ ap (λ js. js ++ jobs_of works.more) has.taken
           ∙ sym (map-append (λ r. r.job) old.reports.items works.more) ∙ ap jobs_of (sym works.reports);
       shown = subst (All (IsReport n callers jobs)) (sym works.reports) (All-append (IsReport n callers jobs) old.reports.items works.more has.shown
-          (reports_of has.before works.more has.of_caller (λ k d lt. shown_before n has.before old.caller (sites_of jobs (get_or works.more k d).job)
+          (reports_of has.before works.more has.of_caller (λ k d lt. shown_before n has.before old.caller (job_sites jobs (get_or works.more k d).job)
           (get_or works.more k d).outcome has.own (works.shown k d lt))));
       before = has.before;
       of_caller = has.of_caller;

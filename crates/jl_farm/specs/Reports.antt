@@ -41,7 +41,7 @@ pub record IsInstalled {K : Type 0} (limits : Limits) (before : List Entry) (sit
   pub of_sites : map (λ row. row.0) rows ≡ sites
   pub last : EndsWith receipt.seen (Install rows) receipt.reply
 
--- a site of the job has another link from scratch, or none, after the second list than after the first, which the second goes on
+-- a site of the job has another link from scratch after the second list than after the first, or none; the second list goes on the first
 pub record IsStale (limits : Limits) (before first second : List Entry) (sites : List ℕ) : Type 0 where
   pub prepared : ComesAfter limits before first
   pub refused : ComesAfter limits first second
@@ -56,7 +56,7 @@ pub record IsRefusedBatch (limits : Limits) (before list : List Entry) (sites : 
   pub after : ComesAfter limits before list
   pub no_batch : IsNoBatch (world_of list) sites
 
--- what the outcome says is so of a job of these sites, of a caller that had seen so much before; of want of memory nothing is said
+-- what the outcome says is so for a job of these sites, and for a caller that had seen so much before; of want of memory nothing is said
 abbrev pub IsShown : {K : Type 0} → Limits → List Entry → List ℕ → JobOutcome K → Type 0
 IsShown limits before sites (Installed receipt) = IsInstalled limits before sites receipt
 IsShown limits before sites (Stale first second) = IsStale limits before first second sites
@@ -65,8 +65,8 @@ IsShown limits before sites (Bad list) = IsRefusedBatch limits before list sites
 IsShown limits before sites Memory = Unit {0}
 
 -- the sites of the job of this number
-abbrev pub sites_of : List (List ℕ) → ℕ → List ℕ
-sites_of jobs job = unwrap_or (slice_get jobs job) []
+abbrev pub job_sites : List (List ℕ) → ℕ → List ℕ
+job_sites jobs job = unwrap_or (slice_get jobs job) []
 
 abbrev pub jobs_of : {K : Type 0} → List (Report K) → List ℕ
 jobs_of reports = map (λ report. report.job) reports
@@ -75,7 +75,7 @@ jobs_of reports = map (λ report. report.job) reports
 pub record IsReport {K : Type 0} (limits : Limits) (callers : List (List Entry)) (jobs : List (List ℕ)) (report : Report K) : Type 0 where
   pub before : List Entry
   pub of_caller : Contains callers before
-  pub shown : IsShown limits before (sites_of jobs report.job) report.outcome
+  pub shown : IsShown limits before (job_sites jobs report.job) report.outcome
 
 -- ---- several reports
 
@@ -108,4 +108,4 @@ installs_of serial reports = count_by (λ report. names_install serial report.ou
 abbrev pub AreOfSameSites : {K : Type 0} → List (List ℕ) → List (Report K) → Type 0
 AreOfSameSites jobs reports =
     (serial : ℕ) → All (λ a. All (λ b. names_install serial a.outcome ≡ true → names_install serial b.outcome ≡ true
-    → sites_of jobs a.job ≡ sites_of jobs b.job) reports) reports
+    → job_sites jobs a.job ≡ job_sites jobs b.job) reports) reports

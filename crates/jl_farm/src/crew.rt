@@ -14,7 +14,7 @@ use std::alloc::{AllocError, Global};
 use std::snapshot::Snapshot;
 use std::thread::{Threads, for_each_mut};
 
-/// A worker of each caller. Want of memory is an error.
+/// A worker of each caller.
 pub(crate) fn hire<K: Name>(
     alloc: Global,
     queue: &JobQueue,
@@ -47,12 +47,13 @@ pub(crate) trait Task<W> {
 
     ghost leaves: { Self → W → W → Type 0 };
 
+    /// Does the task by the worker.
     fn serve(&self, worker: &mut W)
         requires { accepts self.now worker.old }
         ensures { leaves self.now worker.old worker.new };
 }
 
-/// Does it in a thread for each worker, and comes back once all have. Where no thread can be made, what it would have done is done
+/// Does the task in a thread for each worker, and comes back once all have. If no thread can be made, what it would have done is done
 /// here.
 pub(crate) fn at_once<T: Task<W> + Sync, W: Send, R: Threads + Sync>(
     rt: &R,
@@ -68,7 +69,7 @@ pub(crate) fn at_once<T: Task<W> + Sync, W: Send, R: Threads + Sync>(
     }
 }
 
-/// The first worker takes over the turns and the reports of the others. Want of memory is an error.
+/// The first worker takes over the turns and the reports of the others.
 pub(crate) fn gather<K: Name>(
     callers: &Snapshot<Vec<Caller<K>>>,
     jobs: &[Seq<SiteNo>],
@@ -93,7 +94,7 @@ pub(crate) fn gather<K: Name>(
     Ok(())
 }
 
-/// The first worker takes over the turn and the reports of another one. Want of memory is an error.
+/// The first worker takes over the turn and the reports of another one.
 fn take_in<K: Name>(
     callers: &Snapshot<Vec<Caller<K>>>,
     jobs: &[Seq<SiteNo>],

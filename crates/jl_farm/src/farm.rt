@@ -27,8 +27,8 @@ use std::thread::{JoinHandle, Threads};
 
 /// Runs the jobs, each once, by one worker for each caller: the job's sites are prepared in a snapshot of the server, and their links
 /// installed as one batch. There are 1 to 16 callers, and at most 65,536 jobs. Gives a report of each job, in the order of the jobs. All
-/// lists of events that the reports name begin one list. Reports that name one install are of jobs of the same sites, and no more than there
-/// are workers. Without jobs it makes no thread, takes no memory and gives no reports.
+/// lists of events that the reports name begin one list. Reports that name one install are of jobs of the same sites. There are no more of
+/// these than there are workers. Without jobs it makes no thread, takes no memory and gives no reports.
 ///
 /// # Errors
 ///
@@ -62,7 +62,7 @@ pub fn run<
     run_some(rt, alloc, server, jobs, workers, gate)
 }
 
-/// The same, of at least one job.
+/// Runs the jobs, of which there is at least one, and gives a report of each, as [`run`] does.
 fn run_some<
     K: Name + Send + Sync,
     G: Gate + Sync,
@@ -93,7 +93,7 @@ fn run_some<
     Ok(reports)
 }
 
-/// The same, of jobs that are queued. Want of memory is an error.
+/// Runs the jobs, which are queued, and gives a report of each, as [`run`] does.
 fn run_queued<
     K: Name + Send + Sync,
     G: Gate + Sync,

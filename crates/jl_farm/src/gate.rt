@@ -8,6 +8,6 @@ pub trait Gate {
     /// The job's links were looked up, and are next to be installed.
     fn before_install(&self, _job: usize) {}
 
-    /// The job has come to its outcome, be that an install or not.
+    /// The job has its outcome, be that an install or not.
     fn after_install(&self, job: usize);
 }

@@ -77,7 +77,7 @@ pub(crate) type JobQueue = RuledArrayQueue<usize, PassView, EachJobOnce>;
 /// A right to take jobs.
 pub(crate) type JobPass = Pass<usize, PassView>;
 
-/// A queue of the jobs below this number, in their order, and the pass that put them. Want of memory is an error.
+/// A queue of the jobs below this number, in their order, and the pass that put them.
 pub(crate) fn queue_of<R: Wait>(
     rt: &R,
     alloc: Global,

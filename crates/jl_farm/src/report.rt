@@ -1,8 +1,8 @@
-//! What a job came to.
+//! Outcomes of jobs.
 
 use jl_server::{Name, Receipt, Seen};
 
-/// What a job came to.
+/// The outcome of a job.
 #[derive(Drop)]
 pub enum JobOutcome<K: Name> {
     /// Its links were installed, by the event of this receipt.
@@ -17,7 +17,7 @@ pub enum JobOutcome<K: Name> {
     Memory,
 }
 
-/// A job, and what it came to.
+/// A job, and its outcome.
 #[derive(Drop)]
 pub struct Report<K: Name> {
     /// The job's place in the list of jobs, from 0.

@@ -6,7 +6,7 @@ ghost use Rattle.crossbeam_queue.specs.Passes.{view, IsPassOf};
 ghost use Rattle.jl_types.specs.Events.Entries.{IsLegal};
 ghost use Rattle.jl_types.specs.Events.Preparation.{prepare_fault, ArePrepared};
 ghost use Rattle.jl_farm.specs.ForProofs.Queued.{KnowsAll};
-ghost use Rattle.jl_farm.specs.Reports.{IsShown, sites_of, world_of};
+ghost use Rattle.jl_farm.specs.Reports.{IsShown, job_sites, world_of};
 ghost use Rattle.jl_farm.specs.ForProofs.Work.{Works, HasPart, HasSeen, refused_as, unprepared_as};
 
 use crate::crew::Task;
@@ -37,7 +37,7 @@ impl<'a, K: Name, G: Gate, R: Wait, S: Wait + Drop> Task<Worker<K>> for Shared<'
 
     ghost leaves = { λ floor old new. IsPassOf floor.queue.now new.pass × Works K.limits floor.jobs.now old new };
 
-    // A worker that lacks memory leaves the jobs to the others.
+    // A worker that has no memory leaves the jobs to the others.
     fn serve(&self, worker: &mut Worker<K>) {
         let _done = self.work(worker);
     }
@@ -81,7 +81,7 @@ impl<'a, K: Name, G: Gate, R: Wait, S: Wait + Drop> Shared<'a, K, G, R, S> {
     fn report(&self, caller: &mut Caller<K>, job: usize) -> Report<K>
         ensures own { IsPrefix caller.old caller.new }
         ensures job { result.job ≡ job }
-        ensures shown { IsShown K.limits caller.old (sites_of self.now.jobs.now job) result.outcome }
+        ensures shown { IsShown K.limits caller.old (job_sites self.now.jobs.now job) result.outcome }
         ensures seen { HasSeen caller.new result.outcome }
     {
         self.gate.before_prepare(job);
@@ -93,7 +93,7 @@ impl<'a, K: Name, G: Gate, R: Wait, S: Wait + Drop> Shared<'a, K, G, R, S> {
     /// Prepares the sites of the job in a snapshot, and installs their links.
     fn outcome(&self, caller: &mut Caller<K>, job: usize) -> JobOutcome<K>
         ensures own { IsPrefix caller.old caller.new }
-        ensures shown { IsShown K.limits caller.old (sites_of self.now.jobs.now job) result }
+        ensures shown { IsShown K.limits caller.old (job_sites self.now.jobs.now job) result }
         ensures seen { HasSeen caller.new result }
     {
         let sites = sites_at(self.jobs, job);
@@ -109,7 +109,7 @@ impl<'a, K: Name, G: Gate, R: Wait, S: Wait + Drop> Shared<'a, K, G, R, S> {
         }
     }
 
-    /// Installs the rows, which were prepared of these sites after this list. Where nothing but installs came since, they aren't looked up
+    /// Installs the rows, which were prepared of these sites after this list. If nothing but installs came since, they aren't looked up
     /// once more.
     fn install(
         &self,
@@ -135,7 +135,7 @@ impl<'a, K: Name, G: Gate, R: Wait, S: Wait + Drop> Shared<'a, K, G, R, S> {
 
 /// The sites of the job of this number.
 fn sites_at(jobs: &[Seq<SiteNo>], job: usize) -> &[SiteNo]
-    ensures { result.now ≡ sites_of jobs.now job }
+    ensures { result.now ≡ job_sites jobs.now job }
 {
     match jobs.get(job) {
         Some(sites) => sites.as_slice(),
@@ -143,7 +143,7 @@ fn sites_at(jobs: &[Seq<SiteNo>], job: usize) -> &[SiteNo]
     }
 }
 
-/// What a job came to whose sites weren't prepared after this list.
+/// The outcome of a job whose sites weren't prepared after this list.
 fn unprepared<K: Name>(seen: Seen<K>, fault: PrepareFault) -> JobOutcome<K>
     ensures { result ≡ unprepared_as seen fault }
 {
@@ -156,7 +156,7 @@ fn unprepared<K: Name>(seen: Seen<K>, fault: PrepareFault) -> JobOutcome<K>
     }
 }
 
-/// What a job came to whose install was refused.
+/// The outcome of a job whose install was refused.
 fn refused<K: Name>(prepared: Seen<K>, denied: Denied<K>) -> JobOutcome<K>
     ensures { result ≡ refused_as prepared denied.seen denied.refusal }
 {

@@ -10,7 +10,7 @@ use Rattle.serde_json.specs.declared.value.Value.{Value}
 use Rattle.jl_json.specs.Members.{each_in, member_count, ◌>>=◌}
 use Rattle.jl_json.specs.Commands.{by_word}
 
--- one value behind the others
+-- one value after the others
 abbrev with_last : {A : Type 0} → Option (List A) → Option A → Option (List A)
 with_last xs x = option_and_then (λ ys. option_map (λ y. ys ++ y ∷ []) x) xs
 

@@ -35,7 +35,7 @@ use Rattle.jl_json.specs.CommandForms.{IsReceiver, IsTarget, IsEvent, IsCommand}
 pub within : (bound n : ℕ) → n < bound → below bound n ≡ Some n
 within bound n lt = grind (arith, nat_tests)
 
--- where each form is read, so is the list of them
+-- if each form is read, so is the list of them
 pub each_again : {A : Type 0} (read : Data → Option A) (form : A → Data) (HasForm : A → Type 0)
     → ((a : A) → HasForm a → read (form a) ≡ Some a) → (xs : List A) → AllByRecursion HasForm xs
     → each_in read (items_of (map form xs)) ≡ Some xs

@@ -11,7 +11,7 @@ use Rattle.std.specs.List.{AllByRecursion}
 use Rattle.std.specs.Option.{option_map_or}
 use Rattle.std.specs.Result.{result_ok}
 use Rattle.std.specs.Str.{bytes_eq}
-use Rattle.std.proofs.lemmas.Bool.{eqb-true}
+use Rattle.std.proofs.lemmas.Bool.{eqb-true, or_left, or_right}
 use Rattle.std.proofs.lemmas.Map.Text.{is_eq-slice_cmp}
 use Rattle.std.proofs.lemmas.Option.{option_and_then_some, none-some, same_Some}
 use Rattle.std.proofs.lemmas.Slice.Eq.{bytes_eq-Decides}
@@ -56,14 +56,6 @@ in_rest : (b c : Bool) → (b || c) ≡ true → b ≡ false → c ≡ true
 in_rest true c h e = absurd (true≢false e)
 in_rest false c h e = h
 
-in_front : (b c : Bool) → b ≡ true → (b || c) ≡ true
-in_front true c e = refl
-in_front false c e = absurd (true≢false (sym e))
-
-behind : (b c : Bool) → c ≡ true → (b || c) ≡ true
-behind true c e = refl
-behind false c e = e
-
 shorter : (k : List ℕ) (xs : Keys) → Has xs k → length xs ≡ suc (length (less k xs))
 shorter k [] h = absurd (true≢false (sym h))
 shorter k (x ∷ xs) h = by_test (bytes_eq k x)
@@ -76,8 +68,8 @@ left j k (x ∷ xs) h other = by_test (bytes_eq k x)
     (λ e. rw e (in_rest (bytes_eq j x) (has_key xs j) h
     (subst (λ (y : List ℕ). bytes_eq j y ≡ false) ((bytes_eq-Decides k x).0 e) other)))
     (λ e. rw e (by_test (bytes_eq j x)
-    (λ same. in_front (bytes_eq j x) (has_key (less k xs) j) same)
-    (λ apart. behind (bytes_eq j x) (has_key (less k xs) j)
+    (λ same. or_left (bytes_eq j x) (has_key (less k xs) j) same)
+    (λ apart. or_right (bytes_eq j x) (has_key (less k xs) j)
     (left j k xs (in_rest (bytes_eq j x) (has_key xs j) h apart) other))))
 
 all_left : (k : List ℕ) (ks xs : Keys) → AllByRecursion (λ j. bytes_eq j k ≡ false) ks
@@ -90,15 +82,15 @@ among : (named xs : Keys) → Differ named → length xs ≡ length named → Al
 among [] [] differ same has j h = h
 among [] (x ∷ xs) differ same has j h = absurd (omega arith)
 among (k ∷ ks) xs differ same has j h = by_test (bytes_eq j k)
-    (λ e. in_front (bytes_eq j k) (has_key ks j) e)
-    (λ e. behind (bytes_eq j k) (has_key ks j) (among ks (less k xs) differ.1
+    (λ e. or_left (bytes_eq j k) (has_key ks j) e)
+    (λ e. or_right (bytes_eq j k) (has_key ks j) (among ks (less k xs) differ.1
     (let long = shorter k xs has.0 in omega arith) (all_left k ks xs differ.0 has.1) j (left j k xs h e)))
 
 each : (P : List ℕ → Type 0) (xs : Keys) → ((j : List ℕ) → Has xs j → P j) → AllByRecursion P xs
 each P [] f = tt
 each P (x ∷ xs) f = (
-  f x (in_front (bytes_eq x x) (has_key xs x) ((bytes_eq-Decides x x).1 refl)),
-  each P xs (λ j h. f j (behind (bytes_eq j x) (has_key xs j) h)),
+  f x (or_left (bytes_eq x x) (has_key xs x) ((bytes_eq-Decides x x).1 refl)),
+  each P xs (λ j h. f j (or_right (bytes_eq j x) (has_key xs j) h)),
 )
 
 -- ---- members
@@ -151,7 +143,7 @@ pub mapped : {A B P : Type 0} (f : A → B) (o : Option A) (b : B) → option_ma
 mapped f None b e k = absurd (none-some b e)
 mapped f (Some a) b e k = k a refl (same_Some (f a) b e)
 
--- what a class is defined by, where this stands for a sketch
+-- what a class is defined by, if this stands under the key of a sketch
 abbrev source_from : Members → Option Data → Option ClassSource
 source_from ms o =
     option_map_or (λ d. option_map Sketch (sketch_of d)) o (option_map File (file_at (codes "hex") (object ms)))
@@ -319,8 +311,8 @@ named_or_not : (xs : Keys) → AreAmong xs (codes "do" ∷ codes "site" ∷ [])
 named_or_not [] h = tt
 named_or_not (x ∷ xs) h = (
   by_test (bytes_eq x (codes "do"))
-      (λ e. in_front (bytes_eq x (codes "do")) _ e)
-      (λ e. behind (bytes_eq x (codes "do")) _ (behind (bytes_eq x (codes "recv")) _
+      (λ e. or_left (bytes_eq x (codes "do")) _ e)
+      (λ e. or_right (bytes_eq x (codes "do")) _ (or_right (bytes_eq x (codes "recv")) _
       (in_rest (bytes_eq x (codes "do")) _ h.0 e))),
   named_or_not xs h.1,
 )

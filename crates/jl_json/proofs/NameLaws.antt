@@ -11,11 +11,11 @@ use Rattle.std.proofs.lemmas.Slice.Eq.{bytes_eq-Decides}
 use Rattle.std.proofs.lemmas.Str.{utf16_chars-nil, utf16_chars_lone, encodes-IsAscii}
 use Rattle.std.proofs.lemmas.Str.Ascii.{IsAscii-from_all}
 use Rattle.std.proofs.lemmas.Bool.Decides.{nat_tests}
+use Rattle.std.proofs.lemmas.Bool.{and_parts}
 use Rattle.jl_names.specs.Mutf8.{unit_bytes, AreUnits, mutf8, IsMutf8, IsText, IsMutf8Fault}
 use Rattle.jl_names.specs.declared.fault.NameFault.{NameFault}
 use Rattle.jl_names.specs.declared.fault.NameFault.TheVariants.{Memory}
 use Rattle.jl_names.proofs.UnitLaws.{IsMutf8-no_fault}
-use Rattle.jl_pool.proofs.FormLaws.{and_true}
 use Rattle.jl_json.specs.Names.{units_text, SpellsNames}
 use Rattle.jl_json.specs.ForProofs.NameReading.{units_of, is_plain, name_text}
 
@@ -63,7 +63,7 @@ low_byte b h = (grind (arith, nat_tests), grind (arith, nat_tests))
 
 low_bytes : (name : List ℕ) → is_plain name ≡ true → AllByRecursion (λ b. (0 < b) × (b < 128)) name
 low_bytes [] h = tt
-low_bytes (b ∷ name) h = let both = and_true (not (eqb b 0) && nat_lt b 0x80) (is_plain name) h in (low_byte b both.0, low_bytes name both.1)
+low_bytes (b ∷ name) h = let both = and_parts (not (eqb b 0) && nat_lt b 0x80) (is_plain name) h in (low_byte b both.0, low_bytes name both.1)
 
 one_byte : (b : ℕ) → 0 < b → b < 128 → unit_bytes b ≡ b ∷ []
 one_byte b some few = grind (arith, nat_tests)

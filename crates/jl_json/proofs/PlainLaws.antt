@@ -45,7 +45,7 @@ both_plain : (x y z : List ℕ) → (list_any is_odd x || list_any is_odd y) ≡
 both_plain x y z e =
     ap₂ (λ a b. a && b) (sym (none_odd x)) (sym (none_odd y)) ∙ sym (neither (list_any is_odd x) (list_any is_odd y)) ∙ ap not e ∙ none_odd z
 
--- a front and a window behind it
+-- a front and a window after it
 pub window_more : (i n j : ℕ) (name : List ℕ) → j ≡ i + n → (is_plain (take i name) && is_plain (take n (drop i name))) ≡ is_plain (take j name)
 window_more i n j name e = both_plain (take i name) (take n (drop i name)) (take j name) (longer is_odd i n j name e)
 

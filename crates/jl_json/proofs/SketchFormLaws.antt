@@ -92,7 +92,7 @@ module _ (text_of : List ℕ → List ℕ) where
       (each_in method_in (items_of (map (method_data text_of) methods))) (Some (told_name host))
       (each_in name_in (items_of (map (name_data text_of) members)))
 
-  -- where a sketch has no superclass or no host, its form has no such key
+  -- if a sketch has no superclass or no host, its form has no such key
   by_parts : (name : List ℕ) (flags : ℕ) (superclass : Option (List ℕ)) (interfaces : List (List ℕ))
       (methods : List SketchMethod) (host : Option (List ℕ)) (members : List (List ℕ))
       → sketch_of (sketch_data text_of (sketch name flags superclass interfaces methods host members))

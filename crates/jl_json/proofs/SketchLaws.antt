@@ -6,10 +6,10 @@ use Rattle.std.specs.List.{list_all, list_any, AllByRecursion}
 use Rattle.std.specs.Str.{bytes_eq}
 use denote.Ref.{Bor}
 use Rattle.std.proofs.lemmas.Option.{none-some}
+use Rattle.std.proofs.lemmas.Bool.{and_parts}
 use Rattle.serde_json.specs.Data.{Data}
 use Rattle.serde_json.specs.View.{members_view}
 use Rattle.serde_json.specs.declared.value.Value.{Value}
-use Rattle.jl_pool.proofs.FormLaws.{and_true}
 use Rattle.jl_sketch.specs.declared.sketch.Sketch.{Sketch}
 use Rattle.jl_json.specs.Members.{has_key, has_only, keys_of, member_keys, AreAmong}
 use Rattle.jl_json.specs.Sketches.{sketch_keys, sketch_of}
@@ -18,7 +18,7 @@ all_hold : {A : Type 0} (test : A → Bool) (xs : List A) → list_all test xs �
     → AllByRecursion (λ x. test x ≡ true) xs
 all_hold test [] h = tt
 all_hold test (x ∷ xs) h =
-    let p = and_true (test x) (list_all test xs) h in
+    let p = and_parts (test x) (list_all test xs) h in
     (p.0, all_hold test xs p.1)
 
 taken : {A : Type 0} (b : Bool) (o : Option A) (a : A) → (if b then o else None) ≡ Some a → b ≡ true

@@ -32,10 +32,10 @@ HasTyped _ = ⊤
 
 -- ---- what comes of a part
 
-behind : {A B : Type 0} (P : B → Type 0) (part : Option A) (next : A → Option B) → ((a : A) → IfSome (next a) P)
+of_some : {A B : Type 0} (P : B → Type 0) (part : Option A) (next : A → Option B) → ((a : A) → IfSome (next a) P)
     → IfSome (part >>= next) P
-behind P None next each = tt
-behind P (Some a) next each = each a
+of_some P None next each = tt
+of_some P (Some a) next each = each a
 
 of_one : {A B : Type 0} (P : B → Type 0) (make : A → B) (part : Option A) → ((a : A) → P (make a))
     → IfSome (option_map make part) P
@@ -51,43 +51,43 @@ tested : (ty : List ℕ) (is : Bool) (next : List ℕ → Option AskedEvent) →
 tested ty true next told each = each (told refl)
 tested ty false next told each = tt
 
-behind_type : (name : Option (List ℕ)) (next : List ℕ → Option AskedEvent)
+after_type : (name : Option (List ℕ)) (next : List ℕ → Option AskedEvent)
     → ((ty : List ℕ) → IsMethodDescriptor ty → IfSome (next ty) IsTyped) → IfSome ((name >>= method_type) >>= next) IsTyped
-behind_type None next each = tt
-behind_type (Some ty) next each =
+after_type None next each = tt
+after_type (Some ty) next each =
     tested ty (is_method_descriptor ty) next (with_slots ty (method_slots ty) (method_slots-is ty)) (each ty)
 
 -- ---- each command
 
 define_typed : (d : Data) → IfSome (define_of d) IsTyped
-define_typed d = behind IsTyped (number_at (2 ^ 32) (codes "loader") d) _ (λ loader. behind IsTyped (source_of d) _ (λ source. tt))
+define_typed d = of_some IsTyped (number_at (2 ^ 32) (codes "loader") d) _ (λ loader. of_some IsTyped (source_of d) _ (λ source. tt))
 
 delegate_typed : (d : Data) → IfSome (delegate_of d) IsTyped
-delegate_typed d = behind IsTyped (number_at (2 ^ 32) (codes "loader") d) _ (λ loader.
-    behind IsTyped (number_at (2 ^ 32) (codes "to") d) _ (λ to. behind IsTyped (name_at (codes "name") d) _ (λ name. tt)))
+delegate_typed d = of_some IsTyped (number_at (2 ^ 32) (codes "loader") d) _ (λ loader.
+    of_some IsTyped (number_at (2 ^ 32) (codes "to") d) _ (λ to. of_some IsTyped (name_at (codes "name") d) _ (λ name. tt)))
 
 request_typed : (d : Data) → IfSome (request_of d) IsTyped
-request_typed d = behind IsTyped (number_at (2 ^ 32) (codes "class") d) _ (λ class.
-    behind IsTyped (number_at (2 ^ 16) (codes "method") d) _ (λ method. behind IsTyped (number_at (2 ^ 32) (codes "pc") d) _ (λ pc. tt)))
+request_typed d = of_some IsTyped (number_at (2 ^ 32) (codes "class") d) _ (λ class.
+    of_some IsTyped (number_at (2 ^ 16) (codes "method") d) _ (λ method. of_some IsTyped (number_at (2 ^ 32) (codes "pc") d) _ (λ pc. tt)))
 
 call_typed : (d : Data) → IfSome (call_of d) HasTyped
-call_typed d = behind HasTyped (number_at (2 ^ 32) (codes "site") d) _ (λ site. tt)
+call_typed d = of_some HasTyped (number_at (2 ^ 32) (codes "site") d) _ (λ site. tt)
 
 call_on_typed : (d : Data) → IfSome (call_on_of d) HasTyped
-call_on_typed d = behind HasTyped (number_at (2 ^ 32) (codes "site") d) _ (λ site.
-    behind HasTyped (get (codes "recv") d) _ (λ value. behind HasTyped (recv_in value) _ (λ recv. tt)))
+call_on_typed d = of_some HasTyped (number_at (2 ^ 32) (codes "site") d) _ (λ site.
+    of_some HasTyped (get (codes "recv") d) _ (λ value. of_some HasTyped (recv_in value) _ (λ recv. tt)))
 
 new_call_site_typed : (d : Data) → IfSome (new_call_site_of d) IsTyped
-new_call_site_typed d = behind IsTyped (kind_at (codes "kind") d) _ (λ kind.
-    behind_type (name_at (codes "type") d) _ (λ ty is. behind IsTyped (target_at (codes "target") d) _ (λ target. is)))
+new_call_site_typed d = of_some IsTyped (kind_at (codes "kind") d) _ (λ kind.
+    after_type (name_at (codes "type") d) _ (λ ty is. of_some IsTyped (target_at (codes "target") d) _ (λ target. is)))
 
 set_target_typed : (d : Data) → IfSome (set_target_of d) IsTyped
 set_target_typed d =
-    behind IsTyped (number_at (2 ^ 32) (codes "callsite") d) _ (λ call_site. behind IsTyped (target_at (codes "target") d) _ (λ target. tt))
+    of_some IsTyped (number_at (2 ^ 32) (codes "callsite") d) _ (λ call_site. of_some IsTyped (target_at (codes "target") d) _ (λ target. tt))
 
 bind_typed : (d : Data) → IfSome (bind_of d) IsTyped
-bind_typed d = behind IsTyped (number_at (2 ^ 32) (codes "site") d) _ (λ site.
-    behind IsTyped (number_at (2 ^ 32) (codes "callsite") d) _ (λ call_site. tt))
+bind_typed d = of_some IsTyped (number_at (2 ^ 32) (codes "site") d) _ (λ site.
+    of_some IsTyped (number_at (2 ^ 32) (codes "callsite") d) _ (λ call_site. tt))
 
 -- ---- all commands
 
@@ -133,8 +133,8 @@ word_typed word count d =
     (applied (by_event_word word count d) (event_word_typed word count d)))))
 
 command_typed : (d : Data) → IfSome (command_of d) HasTyped
-command_typed d = behind HasTyped (as_object d) _ (λ members.
-    behind HasTyped (text_at (codes "do") d) _ (λ word. word_typed word (member_count members) d))
+command_typed d = of_some HasTyped (as_object d) _ (λ members.
+    of_some HasTyped (text_at (codes "do") d) _ (λ word. word_typed word (member_count members) d))
 
 pub call_site_typed : (d : Data) (kind : CallSiteKind) (ty : List ℕ) (target : Target)
     → command_of d ≡ Some (Apply (NewCallSite kind ty target)) → IsMethodDescriptor ty

@@ -16,11 +16,11 @@ use Rattle.serde_json.specs.View.{items_of}
 use Rattle.serde_json.proofs.Texts.{print-outline}
 use Rattle.jl_json.specs.ForProofs.Written.{Puts, PutsValue, PutsItems, PutsMembers}
 
--- tokens behind a first one
+-- tokens after a first one
 then_tokens : (old first new : List Token) (t : Token) (ts : List Token) → Puts old first t → new ≡ first ++ ts → new ≡ old ++ t ∷ ts
 then_tokens old first new t ts h e = e ∙ ap (λ (xs : List Token). xs ++ ts) h ∙ append_assoc old (t ∷ []) ts
 
--- tokens behind others
+-- tokens after others
 then_more : (old mid new ts us : List Token) → mid ≡ old ++ ts → new ≡ mid ++ us → new ≡ old ++ (ts ++ us)
 then_more old mid new ts us h e = e ∙ ap (λ (xs : List Token). xs ++ us) h ∙ append_assoc old ts us
 
@@ -52,13 +52,13 @@ mutual
 text_of_tokens : (d : Data) (written : List Token) → PutsValue d [] written → print written ≡ compact_text d
 text_of_tokens d written h = ap print (value_tokens d [] written h) ∙ print-outline d
 
--- where nothing stands at a place, the list has ended
+-- if nothing stands at a place, the list has ended
 pub no_more : {X : Type 0} (xs : List X) (n : ℕ) → None ≡ slice_get xs n → length xs ≤ n
 no_more [] n e = omega arith
 no_more (x ∷ xs) zero e = cc
 no_more (x ∷ xs) (suc n) e = let less = no_more xs n e in omega arith
 
--- one item more is written: whatever ends it well from behind it ends it well from the start
+-- one item more is written: whatever ends the list well after that item ends it well from the start
 pub one_written : {X : Type 0} (f : X → Data) (xs : List X) (n : ℕ) (x : X) (first old new : List Token) → Some x ≡ slice_get xs n → PutsValue (f x) old new
     → ((end : List Token) → PutsItems (items_of (map f (drop n xs))) old end → PutsItems (items_of (map f xs)) first end)
     → (end : List Token) → PutsItems (items_of (map f (drop (n + 1) xs))) new end → PutsItems (items_of (map f xs)) first end
@@ -78,9 +78,9 @@ written_list f xs r n old first last end begun past items ended =
       items end (subst (λ ys. PutsItems (items_of (map f ys)) last end) (sym (drop_all n xs past)) e),
     )) ended
 
--- what is written for a value behind a text
-pub text_behind : (d : Data) (first written : List Token) (before kept items : List ℕ) → first ≡ [] → PutsValue d first written
+-- what is written for a value after a text
+pub text_after : (d : Data) (first written : List Token) (before kept items : List ℕ) → first ≡ [] → PutsValue d first written
     → kept ≡ before → items ≡ kept ++ print written → items ≡ before ++ compact_text d
-text_behind d first written before kept items none put is said =
+text_after d first written before kept items none put is said =
     said ∙ ap (λ (xs : List ℕ). xs ++ print written) is
     ∙ ap (λ (xs : List ℕ). before ++ xs) (text_of_tokens d written (subst (λ ts. PutsValue d ts written) none put))

@@ -1,4 +1,4 @@
--- What a call is answered, as JSON.
+-- The answer to a call, as JSON.
 use Rattle.std.specs.Prelude.{ℕ, List, codes}
 use Rattle.serde_json.specs.Data.{Data, string, object, no_members, member}
 use Rattle.jl_types.specs.declared.answer.Answer.{Answer}

@@ -1,4 +1,4 @@
--- What is answered to a class file, as JSON.
+-- The answer to a class file, as JSON.
 use Rattle.std.specs.Prelude.{◌≡◌, ℕ, List, map, codes}
 use Rattle.serde_json.specs.Data.{Data, number, unsigned, string, array, object, no_members, member}
 use Rattle.serde_json.specs.View.{items_of}

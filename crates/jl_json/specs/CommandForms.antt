@@ -1,7 +1,7 @@
 -- The JSON of each command, in one form: keys in byte order, digits in lower case, the receiver named. A value that
--- is a command has no keys but those of its form. A sketch may be written in several ways, and so may a name: the form of a
--- definition by a sketch, that of a delegation and that of a call site with its type has the JSON that is given for it. That several
--- loaders go at once is no command, and has no form.
+-- is a command has no keys but those of its form. Three parts may be written in several ways: the sketch of a definition, the name of
+-- a delegation, and the type of a call site. They have the JSON that is given for them. That several loaders are retired at once is no
+-- command, and has no form.
 use Rattle.std.specs.Prelude.{◌≡◌, ◌^◌, ◌<◌, ℕ, List, codes, Some, ⊤}
 use Rattle.std.specs.List.{AllByRecursion}
 use Rattle.hex.specs.Hex.{encode_lower, IsBytes}

@@ -66,7 +66,7 @@ method_type_at key d = name_at key d >>= method_type
 abbrev pub AskedEvent : Type 0
 AskedEvent = EventOf ClassSource ℕ
 
--- a sketch where there is one, else a file
+-- the sketch if there is one, else the file
 abbrev pub source_of : Data → Option ClassSource
 source_of d = option_map_or (λ sketch. option_map Sketch (sketch_of sketch)) (get (codes "sketch") d)
     (option_map File (file_at (codes "hex") d))
@@ -149,7 +149,7 @@ by_call_site_word word count d =
     else if bytes_eq word (codes "bind") && (count == 3) then bind_of d
     else None
 
--- the same, of any kind
+-- the event of this word, in an object of this many members, of any kind
 abbrev pub by_event_word : List ℕ → ℕ → Data → Option AskedEvent
 by_event_word word count d =
     if bytes_eq word (codes "loader") && (count == 1) then Some NewLoader

@@ -1,4 +1,4 @@
--- What an event or a preparation is answered that is refused, as JSON: the name of the fault, and what it is about.
+-- The answer to an event or a preparation that is refused, as JSON: the name of the fault, and what the fault is about.
 use Rattle.std.specs.Prelude.{◌≡◌, ℕ, List, codes}
 use Rattle.serde_json.specs.Data.{Data, Members, string, object, no_members, member, put}
 use Rattle.jl_types.specs.declared.link.Link.{Link}
@@ -67,7 +67,7 @@ retire_members (retire.Targeted call_site) =
 abbrev pub retire_refusal_data : RetireFault → Data
 retire_refusal_data fault = object (retire_members fault)
 
--- of several loaders that were to go at once, the one that can't is told, too
+-- if several loaders were to be retired at once, the one that can't be is told, too
 abbrev pub retire_all_refusal_data : ℕ → RetireFault → Data
 retire_all_refusal_data loader fault = object (put (codes "retire") (number_data loader) (retire_members fault))
 

@@ -24,7 +24,7 @@ single key d = object (member key d no_members)
 abbrev pub pair : Data → Data → Data
 pair a b = array (items_of (a ∷ b ∷ []))
 
--- ---- what a call comes to once its receiver is known
+-- ---- the outcome of a call whose receiver is known
 
 -- the throwable's name in java.lang
 abbrev pub throwable_name : Throwable → List ℕ

@@ -7,7 +7,7 @@ use Rattle.std.specs.Str.{bytes_eq}
 use Rattle.serde_json.specs.Data.{Data, Items, no_items, item, Members, no_members, member}
 use Rattle.serde_json.specs.Find.{get, as_number, as_str, as_array, as_object, as_u64}
 
--- what comes next, where there is a value
+-- what comes next, if there is a value
 infixl 10 ◌>>=◌
 abbrev pub ◌>>=◌ : {A B : Type 0} → Option A → (A → Option B) → Option B
 o >>= f = option_and_then f o
@@ -47,7 +47,7 @@ text_at key d = get key d >>= as_str
 abbrev pub list_at : {A : Type 0} → (Data → Option A) → List ℕ → Data → Option (List A)
 list_at read key d = get key d >>= list_in read
 
--- what may be absent, and what is meant then
+-- what the value under the key is read as; if the key is absent, what is meant then
 abbrev pub or_absent : {A : Type 0} → A → (Data → Option A) → List ℕ → Data → Option A
 or_absent absent read key d = option_map_or read (get key d) (Some absent)
 
@@ -72,7 +72,7 @@ has_key keys key = list_any (bytes_eq key) keys
 abbrev pub has_only : List (List ℕ) → Data → Bool
 has_only named d = list_all (has_key named) (keys_of d)
 
--- what is read, where there are no keys but those named
+-- what is read, if there are no keys but those named
 abbrev pub with_only : {A : Type 0} → List (List ℕ) → Data → Option A → Option A
 with_only named d read = if has_only named d then read else None
 

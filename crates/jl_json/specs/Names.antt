@@ -7,7 +7,7 @@ use Rattle.jl_names.specs.Mutf8.{IsMutf8, IsText}
 abbrev pub units_text : List ℕ → List ℕ
 units_text units = encode_utf8_all (utf16_lossy_chars units)
 
--- Each name has the text of its units, and an empty one where its bytes are no modified UTF-8.
+-- The text of a name is that of its units. It is empty if the bytes are no modified UTF-8.
 pub record SpellsNames (text_of : List ℕ → List ℕ) : Type 0 where
   pub units : (name units : List ℕ) → IsMutf8 name units → text_of name ≡ units_text units
   pub none : (name : List ℕ) → ¬ IsText name → text_of name ≡ []

@@ -1,5 +1,5 @@
--- What is answered to a file or a sketch that is refused, as JSON: the name of the fault, the place that it is
--- about, the method.
+-- The answer to a file or a sketch that is refused, as JSON: the name of the fault, the place that the fault is
+-- about, and the method.
 use Rattle.std.specs.Prelude.{ℕ, List, codes, Option, Some, None}
 use Rattle.serde_json.specs.Data.{Data, number, unsigned, string, object}
 use Rattle.serde_json.specs.Data.{Members, no_members, member, put}

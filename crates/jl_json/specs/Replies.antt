@@ -1,4 +1,4 @@
--- What an accepted event is answered, as JSON: what it gave a number to, and the sites that lost their link.
+-- The answer to an accepted event, as JSON: what it gave a number to, and the sites that lost their link.
 use Rattle.std.specs.Prelude.{ℕ, List, map, codes}
 use Rattle.serde_json.specs.Data.{Data, array, object, no_members, member}
 use Rattle.serde_json.specs.View.{items_of}

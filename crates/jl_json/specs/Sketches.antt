@@ -31,11 +31,11 @@ name_in d = option_map text_name (as_str d)
 abbrev pub name_at : List ℕ → Data → Option (List ℕ)
 name_at key d = get key d >>= name_in
 
--- a name, or none
+-- a name, or none if the key is absent
 abbrev pub name_if_any : List ℕ → Data → Option (Option (List ℕ))
 name_if_any key d = or_absent None (λ value. option_map Some (name_in value)) key d
 
--- names, none where the key is absent
+-- names, none if the key is absent
 abbrev pub names_at : List ℕ → Data → Option (List (List ℕ))
 names_at key d = or_absent [] (list_in name_in) key d
 

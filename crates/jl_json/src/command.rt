@@ -121,7 +121,7 @@ fn recv_in(value: &Value) -> Option<Recv>
     Some(Recv::Of(ClassId::new(class)))
 }
 
-/// The sketch, or where there is none the file.
+/// What a class is defined by: the sketch if there is one, else the file.
 fn class_source(alloc: Global, value: &Value) -> Result<Option<ClassSource>, AllocError>
     ensures { IfOk result (λ source. source ≡ source_of (view value.now)) }
 {
@@ -235,8 +235,8 @@ fn command_of_word(
     }
 }
 
-/// The command that the JSON is, or `None` where it is none: an object of the members that the
-/// command has, and of no others.
+/// The command that the JSON is, or `None` if it is none. A command is an object of the members that
+/// the command has, and of no others.
 ///
 /// # Errors
 ///
@@ -250,8 +250,8 @@ pub fn read_command(alloc: Global, value: &Value) -> Result<Option<Command>, All
     command_of_word(alloc, value, word, count)
 }
 
-/// Each command is read from its form, where what may be written in several ways has the JSON that is given: the sketch of a
-/// definition, the name of a delegation, and the type of a call site.
+/// Each command is read from its form. Three parts may be written in several ways: the sketch of a definition, the name of a
+/// delegation, and the type of a call site. They have the JSON that is given for them.
 pub fn each_command_is_read()
     ensures { (written : Data) (c : Command) → IsCommand written c
         → command_of (command_data written c) ≡ Some c }

@@ -237,9 +237,11 @@ fn release_refusal_value(alloc: Global, fault: ReleaseFault) -> Result<Value, Al
     }
 }
 
-/// The answer that an event is refused: the name of the fault, after the name of the fault that it
-/// is within, and the name, class, loader, call site, switch point, site or link that it is about;
-/// where several loaders were to go at once, the one that can't, too.
+/// The answer that an event is refused. It has:
+///
+/// - the name of the fault, after the name of the fault that it is within;
+/// - the name, class, loader, call site, switch point, site or link that it is about;
+/// - if several loaders were to be retired at once, the one that can't be, too.
 ///
 /// # Errors
 ///
@@ -280,7 +282,7 @@ fn refusal_value(alloc: Global, refusal: &Refusal) -> Result<Value, AllocError>
 }
 
 /// The answer that links aren't prepared: the name of the fault, after `Prepare`, and the site that
-/// it is about.
+/// the fault is about.
 ///
 /// # Errors
 ///

@@ -16,7 +16,7 @@ pub(crate) trait FromJson: Sized {
 
     ghost read: { Data → Option Self };
 
-    /// The one that the value is, or `None` where it is none. Want of memory is an error.
+    /// What the value is read as, or `None` if it can't be read so.
     fn from_json(alloc: Global, value: &Value) -> Result<Option<Self>, AllocError>
         ensures { IfOk result (λ one. one ≡ read (view value.now)) };
 }
@@ -45,7 +45,7 @@ fn list_in<T: FromJson + Drop>(alloc: Global, value: &Value) -> Result<Option<Se
     }
 }
 
-/// The same of the array under the key.
+/// What the items of the array under the key are, in order.
 pub(crate) fn list_at<T: FromJson + Drop>(
     alloc: Global,
     value: &Value,
@@ -59,7 +59,7 @@ pub(crate) fn list_at<T: FromJson + Drop>(
     }
 }
 
-/// The same, nothing where there is no such key.
+/// What the items of the array under the key are, in order: none if there is no such key.
 pub(crate) fn list_if_any<T: FromJson + Drop>(
     alloc: Global,
     value: &Value,

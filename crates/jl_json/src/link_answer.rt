@@ -72,7 +72,7 @@ impl ToJson for (ClassId, Outcome) {
     }
 }
 
-/// A link: what the calls of its site come to, by the class of the receiver where that matters.
+/// A link: the outcome of its site's calls, by the class of the receiver if the outcome depends on it.
 ///
 /// # Errors
 ///

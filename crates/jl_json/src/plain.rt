@@ -19,7 +19,7 @@ pub(crate) fn is_plain(name: &[u8]) -> bool
     }
 }
 
-/// The same of a name of 16 bytes and more.
+/// Whether each unit of a name of 16 bytes or more has one byte.
 fn is_long_plain(name: &[u8]) -> bool
     requires { 16 ≤ length name.now }
     ensures { result ≡ is_plain name.now }
@@ -44,7 +44,7 @@ fn is_plain_in<const N: usize>(name: &[u8], at: usize) -> bool
     (bytes.simd_eq(Simd::splat(0)) | bytes.simd_ge(Simd::splat(0x80))).to_bitmask() == 0
 }
 
-/// The same of a few bytes, one by one.
+/// Whether each unit of a name of a few bytes has one byte. The bytes are looked at one by one.
 fn is_short_plain(name: &[u8]) -> bool
     ensures { result ≡ is_plain name.now }
 {

@@ -136,7 +136,7 @@ fn method_name(alloc: Global, value: &Value) -> Result<Option<MethodName>, Alloc
     Ok(Some(MethodName { owner, name, ty }))
 }
 
-/// What a call calls that has no mark of an interface's method.
+/// The method of a call that has no mark of an interface's method.
 fn plain_call(alloc: Global, value: &Value) -> Result<Option<MethodName>, AllocError>
     ensures { IfOk result (λ call. call ≡ plain_call (view value.now)) }
 {
@@ -146,7 +146,7 @@ fn plain_call(alloc: Global, value: &Value) -> Result<Option<MethodName>, AllocE
     method_name(alloc, value)
 }
 
-/// The mark of an interface's method, false where there is none.
+/// The mark of an interface's method: false if there is none.
 fn mark(value: &Value) -> Option<bool>
     ensures { result ≡ or_absent false as_bool (codes "itf") (view value.now) }
 {
@@ -156,7 +156,7 @@ fn mark(value: &Value) -> Option<bool>
     }
 }
 
-/// What a call calls that may have a mark, and the mark.
+/// The method of a call that may have such a mark, and the mark.
 fn marked_call(alloc: Global, value: &Value) -> Result<Option<(bool, MethodName)>, AllocError>
     ensures { IfOk result (λ call. call ≡ marked_call (view value.now)) }
 {
@@ -255,7 +255,7 @@ const SKETCH_KEYS: [&str; 7] = [
     "members",
 ];
 
-/// Reads into the sketch what may be left out behind its superclass. Tells whether each part is as it should be.
+/// Reads interfaces, methods, nest host and members into the sketch, each of which may be left out. Tells whether each is as it should be.
 fn read_lists(alloc: Global, value: &Value, sketch: &mut Sketch) -> Result<bool, AllocError>
     ensures { IfOk result (λ whole. (if whole then Some sketch.new else None) ≡ with_lists sketch.old (view value.now)) }
 {
@@ -278,8 +278,8 @@ fn read_lists(alloc: Global, value: &Value, sketch: &mut Sketch) -> Result<bool,
     Ok(true)
 }
 
-/// The sketch that the JSON is, or `None` where it is none: an object of the members that a sketch
-/// has, and of no others, and so its methods and their calls.
+/// The sketch that the JSON is, or `None` if it is none. A sketch is an object of the members that a
+/// sketch has, and of no others. So are its methods and their calls.
 ///
 /// # Errors
 ///

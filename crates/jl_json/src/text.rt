@@ -9,7 +9,7 @@ use percent_encoding::ascii_str;
 use std::alloc::{AllocError, Global};
 
 /// The text of a name in modified UTF-8 (JVMS SE 17 §4.4.7): two surrogates are their character, a
-/// lone one is U+FFFD. Want of memory is an error.
+/// lone one is U+FFFD.
 pub(crate) fn text_of(alloc: Global, name: &[u8]) -> Result<String, AllocError>
     ensures { IfOk result (λ text. string_bytes text ≡ name_text name.now) }
 {

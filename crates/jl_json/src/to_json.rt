@@ -15,7 +15,7 @@ pub(crate) trait ToJson {
 
     ghost written: { Self → Data };
 
-    /// Its value. Want of memory is an error.
+    /// Its value.
     fn to_json(&self, alloc: Global) -> Result<Value, AllocError>
         ensures { IfOk result (λ v. view v ≡ written self.now) };
 }

@@ -5,7 +5,7 @@ use Rattle.std.proofs.Math.Seq.{paste, take-append-add}
 use Rattle.std.proofs.lemmas.List.{drop-take, take-append-le}
 use Rattle.std.proofs.lemmas.List.Edits.{take-paste}
 
--- what is left behind count bytes, moved to the front
+-- what is left after count bytes, moved to the front
 moved : (xs : List ℕ) (count n : ℕ) → count + n ≤ length xs
     → take n (paste xs 0 (drop count xs) n) ≡ drop count (take (count + n) xs)
 moved xs count n held =
@@ -21,20 +21,20 @@ kept xs filled count within held =
     let whole : count + n ≡ filled = omega arith in
     moved xs count n (omega arith) ∙ ap (λ k. drop count (take k xs)) whole
 
--- what stands at the front of a buffer after a piece was read behind what was filled
-filled_more : (front buffer behind : List ℕ) (filled count : ℕ) → length front ≡ filled → count ≤ length buffer
-    → take (filled + count) (front ++ (buffer ++ behind)) ≡ front ++ take count buffer
-filled_more front buffer behind filled count is held =
-    ap (λ k. take (k + count) (front ++ (buffer ++ behind))) (sym is)
-    ∙ (take-append-add front (buffer ++ behind) count
-    ∙ ap (λ l. front ++ l) (take-append-le count buffer behind held))
+-- what stands at the front of a buffer after a piece was read to follow what was filled
+filled_more : (front buffer later : List ℕ) (filled count : ℕ) → length front ≡ filled → count ≤ length buffer
+    → take (filled + count) (front ++ (buffer ++ later)) ≡ front ++ take count buffer
+filled_more front buffer later filled count is held =
+    ap (λ k. take (k + count) (front ++ (buffer ++ later))) (sym is)
+    ∙ (take-append-add front (buffer ++ later) count
+    ∙ ap (λ l. front ++ l) (take-append-le count buffer later held))
 
--- the same, where the whole is cut to a length that holds it
-pub filled_within : (front buffer behind more : List ℕ) (filled count len : ℕ) → length front ≡ filled
+-- what stands at the front, if the whole is cut to a length that holds it
+pub filled_within : (front buffer later more : List ℕ) (filled count len : ℕ) → length front ≡ filled
     → count ≤ length buffer → filled + count ≤ len
-    → take (filled + count) (take len ((front ++ (buffer ++ behind)) ++ more)) ≡ front ++ take count buffer
-filled_within front buffer behind more filled count len is held room =
+    → take (filled + count) (take len ((front ++ (buffer ++ later)) ++ more)) ≡ front ++ take count buffer
+filled_within front buffer later more filled count len is held room =
     take-take (filled + count) len _ room
-    ∙ (ap (take (filled + count)) (append_assoc front (buffer ++ behind) more ∙ ap (λ l. front ++ l)
-    (append_assoc buffer behind more))
-    ∙ filled_more front buffer (behind ++ more) filled count is held)
+    ∙ (ap (take (filled + count)) (append_assoc front (buffer ++ later) more ∙ ap (λ l. front ++ l)
+    (append_assoc buffer later more))
+    ∙ filled_more front buffer (later ++ more) filled count is held)

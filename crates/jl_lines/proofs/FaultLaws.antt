@@ -52,12 +52,12 @@ Earlier says from session start unread old new =
     × LacksFirst says earlier.first.last earlier.first.after session)
 
 module _ {S : Type 0} (says : S → List ℕ → List ℕ → S → Type 0) where
-  -- the line for which memory lacked is the first of those that are left
+  -- the line for which there was no memory is the first of those that are left
   next_line : (last session : S) (left ys : List ℕ) (l : LacksNext says last left session)
-      → lines_of (left ++ ys) ≡ l.line ∷ lines_of (l.behind ++ ys)
+      → lines_of (left ++ ys) ≡ l.line ∷ lines_of (l.later ++ ys)
   next_line last session left ys l =
       ap (λ (bytes : List ℕ). lines_of (bytes ++ ys)) l.is
-      ∙ (ap lines_of (append_assoc l.line (newline ∷ l.behind) ys) ∙ line_first l.line (l.behind ++ ys) l.one)
+      ∙ (ap lines_of (append_assoc l.line (newline ∷ l.later) ys) ∙ line_first l.line (l.later ++ ys) l.one)
 
   stops : (f : LineFault) (last session : S) (left ys : List ℕ) → StopsBy f says last left session
       → LongIf f (lines_of (left ++ ys)) × LeftBy f says last (lines_of (left ++ ys)) session
@@ -107,7 +107,7 @@ module _ {S : Type 0} (says : S → List ℕ → List ℕ → S → Type 0) wher
   unlacked session [] = refl
   unlacked session (line ∷ lines) = inl refl
 
-  -- memory lacked before anything was read
+  -- there was no memory before anything was read
   pub none_whole : (session : S) (start old : Option (List ℕ)) (failed : Type 0)
       → Whole says session session start old old failed Memory
   none_whole session None old failed = λ _. tt
@@ -248,7 +248,7 @@ module _ {S : Type 0} (says : S → List ℕ → List ℕ → S → Type 0) wher
 
 -- ---- a run that ends
 
--- a run that holds no whole line, and a piece that was read behind what it holds
+-- a run that holds no whole line, and a piece that was read after what it holds
 pub record Reads {S : Type 0} (says : S → List ℕ → List ℕ → S → Type 0) (from last : S) (start now then' : Option (List ℕ))
     (held bytes : List ℕ) (count : ℕ) (old new : Option (List ℕ)) : Type 0 where
   pub ran : Runs says from last start now held old new
@@ -355,7 +355,7 @@ module _ {S : Type 0} {says : S → List ℕ → List ℕ → S → Type 0} wher
       )
   rest_answered session new (Err e) on none end is short h = tt
 
-  -- the same of a result that is this fault
+  -- what a run leaves, of a result that is this fault
   pub left_by : {T : Type 0} {from last : S} {start now unread old new : Option (List ℕ)} {failed : Type 0} {f : LineFault}
       (r : Result T LineFault) → IsErrAnd r (λ g. g ≡ f) → Leaves says from last start now unread old new failed f
       → IfErr r (λ g. Leaves says from last start now unread old new failed g)

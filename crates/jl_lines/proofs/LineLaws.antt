@@ -62,9 +62,9 @@ first_long b (c ∷ left) more h =
     (b ∷ p.0, p.1, rw (h.0) (ap (onto_first b) p.2), omega (arith, p.3))
 
 -- what is left when the answered lines are dropped
-pub left_behind : (bytes done left : List ℕ) (used : ℕ) → bytes ≡ done ++ left → used ≡ length done
+pub left_after : (bytes done left : List ℕ) (used : ℕ) → bytes ≡ done ++ left → used ≡ length done
     → drop used bytes ≡ left
-left_behind bytes done left used split is =
+left_after bytes done left used split is =
     ap (λ k. drop k bytes) is ∙ (ap (drop (length done)) split ∙ drop-append_seam done left)
 
 -- what the run has read, and what it hasn't
@@ -80,10 +80,10 @@ short_each [] h = tt
 short_each (line ∷ lines) h = (h.0.short, short_each lines h.1)
 
 -- a line of what is held is no longer than that, but for the newline
-pub held_line : (bytes line behind : List ℕ) → bytes ≡ line ++ newline ∷ behind → length bytes ≤ most_in_line + 1 → NoNewline line
-    → IsLine line × (length behind < length bytes)
-held_line bytes line behind split held one =
-    let size : length bytes ≡ length line + suc (length behind) = ap length split ∙ length-append line (newline ∷ behind) in
+pub held_line : (bytes line later : List ℕ) → bytes ≡ line ++ newline ∷ later → length bytes ≤ most_in_line + 1 → NoNewline line
+    → IsLine line × (length later < length bytes)
+held_line bytes line later split held one =
+    let size : length bytes ≡ length line + suc (length later) = ap length split ∙ length-append line (newline ∷ later) in
     (record { one = one; short = omega (arith, size) }, omega (arith, size))
 
 pub over_first : (left rest : List ℕ) → IsOver left → FirstIsLong (lines_of (left ++ rest))
@@ -179,13 +179,13 @@ module _ {S : Type 0} (says : S → List ℕ → List ℕ → S → Type 0) wher
     refl,
   )
 
-  -- memory lacks for the answer to the next line
-  pub gathers_stop : (from held session : S) (bytes old mid new rest line behind : List ℕ)
-      (g : Gathers says from bytes old mid) → g.left ≡ rest → rest ≡ line ++ newline ∷ behind → NoNewline line
+  -- there is no memory for the answer to the next line
+  pub gathers_stop : (from held session : S) (bytes old mid new rest line later : List ℕ)
+      (g : Gathers says from bytes old mid) → g.left ≡ rest → rest ≡ line ++ newline ∷ later → NoNewline line
       → held ≡ g.last → new ≡ mid
       → Lacks says held line session
       → (k : Gathers says from bytes old new) × LacksNext says k.last k.left session
-  gathers_stop from held session bytes old mid new rest line behind g left is one same stays lacks = (
+  gathers_stop from held session bytes old mid new rest line later g left is one same stays lacks = (
     record {
       done = g.done;
       left = g.left;
@@ -197,7 +197,7 @@ module _ {S : Type 0} (says : S → List ℕ → List ℕ → S → Type 0) wher
     },
     record {
       line = line;
-      behind = behind;
+      later = later;
       is = left ∙ is;
       one = one;
       lacks = subst (λ (s : S). Lacks says s line session) same lacks;

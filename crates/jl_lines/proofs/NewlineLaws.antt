@@ -34,22 +34,22 @@ found_at (x ∷ xs) (suc at) lt h here =
 pub to_end : (n : ℕ) (text : List ℕ) → take (length text - n) (drop n text) ≡ drop n text
 to_end n text = take_rest text n
 
--- none was found behind a beginning that has none
-pub none_behind : (text : List ℕ) (n : ℕ) → NoNewline (take n text)
+-- none was found after a beginning that has none
+pub none_after : (text : List ℕ) (n : ℕ) → NoNewline (take n text)
     → Nowhere (Passes (is_byte newline) (drop n text)) 0 (length (drop n text)) → NoNewline text
-none_behind text n front behind =
+none_after text n front later =
     subst NoNewline (take-append-drop n text)
     (all_append (λ (b : ℕ). (b == newline) ≡ false) (take n text) (drop n text) front
-    (none_from (drop n text) (λ k lt. behind k (omega arith) lt)))
+    (none_from (drop n text) (λ k lt. later k (omega arith) lt)))
 
 add_assoc-is : (n at : ℕ) → n + (at + 1) ≡ n + at + 1
 add_assoc-is n at = omega arith
 
--- one was found behind a beginning that has none
-pub found_behind : (text : List ℕ) (n at : ℕ) → n ≤ length text → NoNewline (take n text)
+-- one was found after a beginning that has none
+pub found_after : (text : List ℕ) (n at : ℕ) → n ≤ length text → NoNewline (take n text)
     → NoneBefore (Passes (is_byte newline) (drop n text)) 0 (length (drop n text)) at
     → Passes (is_byte newline) (drop n text) at → IsFirstNewline text (n + at)
-found_behind text n at held front before here =
+found_after text n at held front before here =
     let found = found_at (drop n text) at before.high (λ k lt. before.before k (omega arith) lt) here in
     let taken : take (n + at) text ≡ take n text ++ take at (drop n text) = take-add n at text in
     let dropped : drop (at + 1) (drop n text) ≡ drop (n + at + 1) text =

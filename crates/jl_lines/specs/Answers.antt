@@ -11,7 +11,7 @@ use Rattle.jl_lines.specs.Lines.{most_in_line, lines_of, NoNewline, ended}
 -- ---- all lines
 
 -- The output has an answer to each line, in order, each with a newline, and nothing else. Each line is answered by the
--- session that the lines before it left. Where a line may have several answers, as want of memory, one of them is there.
+-- session that the lines before it left. A line may have several answers, of which want of memory may be one: one of them is there.
 abbrev pub AreAnswers : {S : Type 0} → (S → List ℕ → List ℕ → S → Type 0) → S → List (List ℕ) → List ℕ → S → Type 0
 AreAnswers says old [] output new = (output ≡ []) × (new ≡ old)
 AreAnswers {S = S} says old (line ∷ lines) output new =
@@ -19,11 +19,11 @@ AreAnswers {S = S} says old (line ∷ lines) output new =
     × (output ≡ ended answer ++ rest)
     × AreAnswers says next lines rest new
 
--- the session where memory lacks for the answer to this line: as before, or as an answer leaves it
+-- the session if there is no memory for the answer to this line: as before, or as an answer leaves it
 abbrev pub Lacks : {S : Type 0} → (S → List ℕ → List ℕ → S → Type 0) → S → List ℕ → S → Type 0
 Lacks says old line new = (new ≡ old) ⊎ ((text : List ℕ) × says old line text new)
 
--- the same of the first of these lines
+-- the session if there is no memory for the answer to the first of these lines; as before if there is no line
 abbrev pub LacksFirst : {S : Type 0} → (S → List ℕ → List ℕ → S → Type 0) → S → List (List ℕ) → S → Type 0
 LacksFirst says old [] new = new ≡ old
 LacksFirst says old (line ∷ lines) new = Lacks says old line new
@@ -79,12 +79,12 @@ abbrev pub FirstIsLong : List (List ℕ) → Type 0
 FirstIsLong [] = ⊥
 FirstIsLong (line ∷ lines) = most_in_line < length line
 
--- a line is too long where the next one is over the limit
+-- a line is too long: then the next one is over the limit
 abbrev pub LongIf : LineFault → List (List ℕ) → Type 0
 LongIf TooLong after = FirstIsLong after
 LongIf _ after = ⊤
 
--- The session that a fault leaves: the one after the answered lines. Where memory lacks, the next line's command may
+-- The session that a fault leaves: the one after the answered lines. After want of memory the next line's command may
 -- have been obeyed, and no other.
 abbrev pub LeftBy : {S : Type 0} → LineFault → (S → List ℕ → List ℕ → S → Type 0) → S → List (List ℕ) → S → Type 0
 LeftBy Memory says last after new = LacksFirst says last after new

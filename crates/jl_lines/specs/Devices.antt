@@ -5,7 +5,7 @@ use Rattle.std.specs.Prelude.{◌≡◌, ℕ, ◌+◌, ◌-◌, ◌^◌, ◌<◌
 abbrev pub one_more : ℕ → ℕ
 one_more count = min (count + 1) (2 ^ 64 - 1)
 
--- a call is counted where it failed, and only there
+-- a call is counted if it failed, and only then
 abbrev pub CountsFailure : {A E : Type 0} → ℕ → ℕ → Result A E → Type 0
 CountsFailure old new result = MatchResult result (λ _. new ≡ old) (λ _. new ≡ one_more old)
 

@@ -1,4 +1,4 @@
--- What a source or sink that fails once holds, and what its calls come to.
+-- What a source or sink that fails once holds, and what its calls give.
 use Rattle.std.specs.Prelude.{◌≡◌, ℕ, List, Option, Result}
 use Rattle.std.specs.Result.{IsErr}
 use Rattle.jl_lines.specs.Devices.{one_more, CountsFailure}
@@ -37,7 +37,7 @@ CountsCall old new = (calls_of new ≡ one_more (calls_of old)) × (failing_of n
 abbrev pub FailsThere : {T A E : Type 0} → FailAt T → FailAt T → Result A E → Type 0
 FailsThere old new result = IsFailing old → IsErr result × (inner_of new ≡ inner_of old)
 
--- any other call is one of what is within, and fails where that does
+-- any other call is one of what is within, and fails if that does
 abbrev pub FailsAsWithin : {T A E : Type 0} → (T → ℕ) → FailAt T → FailAt T → Result A E → Type 0
 FailsAsWithin failures old new result =
     ¬ IsFailing old → CountsFailure (failures (inner_of old)) (failures (inner_of new)) result

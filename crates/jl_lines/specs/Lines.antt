@@ -14,7 +14,7 @@ abbrev pub onto_first : ℕ → List (List ℕ) → List (List ℕ)
 onto_first b [] = (b ∷ []) ∷ []
 onto_first b (line ∷ lines) = (b ∷ line) ∷ lines
 
--- The pieces between newlines. What stands behind the last newline is a line, too, unless it is
+-- The pieces between newlines. What stands after the last newline is a line, too, unless it is
 -- empty.
 unfoldable pub lines_of : List ℕ → List (List ℕ)
 lines_of [] = []

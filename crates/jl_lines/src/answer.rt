@@ -29,7 +29,7 @@ pub trait Answer<S> {
         ensures lacks { OnErr result (Lacks says session.old line.now session.new) };
 }
 
-/// Adds a text and a newline, or nothing where memory lacks.
+/// Adds a text and a newline, or nothing if there is no memory.
 pub fn add_answer(text: Vec<u8>, output: &mut Vec<u8>) -> Result<(), AllocError>
     ensures ok { OnOk result (output.new.items ≡ output.old.items ++ ended text.items) }
     ensures err { OnErr result (output.new.items ≡ output.old.items) }

@@ -75,9 +75,9 @@ impl<A> Answers<A> {
     {
         let mut rest = text;
         let mut searched = searched;
-        while let Some((line, behind)) = first_line(rest, searched) {
+        while let Some((line, later)) = first_line(rest, searched) {
             self.answer(session, line)?;
-            rest = behind;
+            rest = later;
             searched = 0;
         }
         Ok(text.len() - rest.len())
@@ -87,7 +87,7 @@ impl<A> Answers<A> {
     ///
     /// # Errors
     ///
-    /// [`Failed`] where a write failed.
+    /// [`Failed`] if a write failed.
     pub(crate) fn write_to<W: Sink>(&mut self, writer: &mut W) -> Result<(), Failed>
         ensures written { OnOk result (Appends (W.contents writer.old) (W.contents writer.new)
             self.old.text.items) }
@@ -100,7 +100,7 @@ impl<A> Answers<A> {
     }
 }
 
-/// The first whole line, and what stands behind its newline. No newline stands before `searched`.
+/// The first whole line, and what stands after its newline. No newline stands before `searched`.
 fn first_line(text: &[u8], searched: usize) -> Option<(&[u8], &[u8])>
     requires within { searched ≤ length text.now }
     requires none { NoNewline (take searched text.now) }

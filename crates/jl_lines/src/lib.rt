@@ -1,8 +1,9 @@
 //! The lines of an input, each answered once, in order, whatever answers one.
 //!
-//! Input and output are a [`Source`] and a [`Sink`], which count what failed. What is said of their bytes and counts stands in
-//! `specs/Devices`, by `Counted` and `FailAt` of two of them; what is answered, in reading order, in `Lines` and `Answers`, over the
-//! relation of an [`Answer`].
+//! Input and output are a [`Source`] and a [`Sink`], which count what failed. In `specs/` stands, in reading order:
+//!
+//! - `Devices`: what is said of their bytes and counts; `Counted` and `FailAt`: that of two of them.
+//! - `Lines` and `Answers`: what is answered, over the relation of an [`Answer`].
 #![tactic(auto)]
 
 // Input and output.

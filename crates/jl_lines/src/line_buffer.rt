@@ -58,11 +58,11 @@ impl LineBuffer {
         self.filled == self.bytes.len()
     }
 
-    /// Reads more bytes behind these, and tells how many: none at the end of the input.
+    /// Reads more bytes after these, and tells how many: none at the end of the input.
     ///
     /// # Errors
     ///
-    /// [`Failed`] where the read failed. The bytes stay.
+    /// [`Failed`] if the read failed. The bytes stay.
     pub fn read_from<R: Source>(&mut self, reader: &mut R) -> Result<usize, Failed>
         requires { length self.old < 2100001 }
         ensures more { IfOk result (λ n. (piece : List ℕ) × (length piece ≡ n)

@@ -53,7 +53,7 @@ fn answer_piece<S, A: Answer<S>, W: Sink>(
     Ok(())
 }
 
-/// Answers what stands behind the last newline, if anything does.
+/// Answers what stands after the last newline, if anything does.
 fn answer_rest<S, A: Answer<S>, W: Sink>(
     rest: &[u8],
     session: &mut S,
@@ -120,7 +120,7 @@ fn answer_all<S, A: Answer<S>, R: Source, W: Sink>(
 /// - [`LineFault::Device`]: a read or a write failed, or there were 2^64 - 1 reads.
 /// - [`LineFault::Memory`]: want of memory for the buffers or the answer to a line.
 ///
-/// But for a failed write the session is as the answered lines left it; for want of memory it may have obeyed the next line, too.
+/// Unless a write failed, the session is as the answered lines left it. After want of memory it may have obeyed the next line, too.
 pub fn answer_input<S, A: Answer<S> + Drop, R: Source, W: Sink>(
     alloc: Global,
     by: A,

@@ -10,17 +10,17 @@ use crate::failed::Failed;
 /// What bytes are written to. It counts the writes that failed, up to 2^64 - 1, where the count
 /// stays.
 pub trait Sink {
-    // The bytes that the writer holds, where they are known.
+    // The bytes that the writer holds, if they are known.
     ghost contents: { Self → Option (List ℕ) } = { λ _. None };
 
     // How many writes failed.
     ghost failures: { Self → ℕ };
 
-    /// Writes bytes from the front of these, and tells how many: at least one, where there is one.
+    /// Writes bytes from the front of these, and tells how many: at least one, if there is one.
     ///
     /// # Errors
     ///
-    /// [`Failed`] where the write failed, or took none of some bytes. Nothing was written then.
+    /// [`Failed`] if the write failed, or took none of some bytes. Nothing was written then.
     fn write_some(&mut self, bytes: &[u8]) -> Result<usize, Failed>
         ensures some { IfOk result (λ n. 0 < length bytes.now → 0 < n) }
         ensures bound { WritesAtMost result bytes.now }

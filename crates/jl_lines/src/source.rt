@@ -10,10 +10,10 @@ use crate::failed::Failed;
 /// What bytes are read from. It counts its reads, and those that failed, up to 2^64 - 1, where a
 /// count stays.
 pub trait Source {
-    // The bytes that reads give from here on, where they are known.
+    // The bytes that reads give from here on, if they are known.
     ghost remaining: { Self → Option (List ℕ) } = { λ _. None };
 
-    // What was left to read before the last read, where that is known.
+    // What was left to read before the last read, if that is known.
     ghost before: { Self → Option (List ℕ) } = { λ _. None };
 
     // How many reads there were.
@@ -27,7 +27,7 @@ pub trait Source {
     ///
     /// # Errors
     ///
-    /// [`Failed`] where the read failed. No byte is lost by that.
+    /// [`Failed`] if the read failed. No byte is lost by that.
     fn read_some(&mut self, buffer: &mut [u8]) -> Result<usize, Failed>
         ensures room { ReadsAtMost result buffer.new }
         ensures bytes { ReadConsumes (remaining self.old) (remaining self.new) result buffer.new }

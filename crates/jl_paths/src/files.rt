@@ -67,7 +67,7 @@ pub struct Gathered {
 }
 
 impl Gathered {
-    /// Adds the files that were found, and where each was. Want of memory is an error.
+    /// Adds the files that were found, and where each was.
     fn add_all(&mut self, found: Vec<Found>) -> Result<(), AllocError> {
         for one in found {
             self.files.push(one.file)?;
@@ -156,7 +156,7 @@ impl Reading {
         Ok(())
     }
 
-    /// What was read, in the order in which it was found. Want of memory is an error.
+    /// What was read, in the order in which it was found.
     fn gathered(self, alloc: Global) -> Result<Gathered, AllocError> {
         let Reading {
             found,
@@ -196,8 +196,8 @@ fn read_file<R: Files + AllocGlobal>(
     Ok(read_bytes(rt.alloc(), newest, &bytes))
 }
 
-/// The bytes of the file, of a longer one no more than [`MOST_BYTES`] and what was read with the last of these. So a file that never ends is
-/// too large.
+/// The bytes of the file. Of one longer than [`MOST_BYTES`] it is no more than these and what was read with the last of them. So a file
+/// that never ends is too large.
 fn first_bytes<R: Files + AllocGlobal>(rt: &R, path: &str) -> io::Result<Vec<u8>> {
     let mut file = File::open(rt, path)?;
     let mut bytes = Vec::new(rt.alloc());
@@ -229,7 +229,7 @@ fn read_bytes(alloc: Global, newest: u16, bytes: &[u8]) -> Result<ReadFile, NoCl
     }
 }
 
-/// Whether the class of each source is reported, if it is there. Want of memory is an error.
+/// Whether the class of each source is reported, if it is there.
 pub fn are_reported(alloc: Global, sources: &[Source]) -> Result<Vec<bool>, AllocError>
     ensures { IfOk result (λ reported. reported.items ≡ map (λ source. source.is_reported) sources.now) }
 {
@@ -240,8 +240,8 @@ pub fn are_reported(alloc: Global, sources: &[Source]) -> Result<Vec<bool>, Allo
     Ok(reported)
 }
 
-/// Reads what is below the paths, and what is below those beside them, up to this newest major version. Parents come first, else names are in
-/// order, and of two files of one name the one of the earlier path comes first.
+/// Reads what is below the paths, and what is below those beside them, up to this newest major version. Parents come first, else names are
+/// in order. Of two files of one name the one of the earlier path comes first.
 pub fn read_all<R: Files + AllocGlobal + Clone + Drop>(
     rt: &R,
     paths: &[String],

@@ -12,7 +12,7 @@ struct Visit {
     parents: usize,
 }
 
-/// Files, of which those that are ordered come behind their parents.
+/// Files, and the order that is made of them, in which each comes after its parents.
 struct Order<'a> {
     files: &'a [Found],
     /// The first file of each name.
@@ -35,7 +35,7 @@ impl<'a> Drop for Order<'a> {
 }
 
 impl<'a> Order<'a> {
-    /// No file is ordered. Want of memory is an error.
+    /// No file is ordered.
     fn new(alloc: Global, files: &'a [Found]) -> Result<Self, AllocError> {
         let mut places = IndexMap::new(alloc);
         for (place, one) in files.iter().enumerate() {
@@ -53,7 +53,7 @@ impl<'a> Order<'a> {
         })
     }
 
-    /// Orders the file, behind its parents. Want of memory is an error.
+    /// Orders the file, after its parents.
     fn add(&mut self, alloc: Global, place: usize) -> Result<(), AllocError> {
         let mut visits = Vec::new(alloc);
         if self.is_new(place) {
@@ -68,7 +68,7 @@ impl<'a> Order<'a> {
         Ok(())
     }
 
-    /// Visits the next parent, or orders the file where there is none. Want of memory is an error.
+    /// Visits the next parent, or orders the file if there is none.
     fn go_on(&mut self, visit: Visit, visits: &mut Vec<Visit>) -> Result<(), AllocError> {
         let Some(name) = self.parent(&visit) else {
             return Ok(self.ordered.push(visit.place)?);
@@ -106,7 +106,7 @@ impl<'a> Order<'a> {
     }
 }
 
-/// The places of the files, of which those of parents come first; of a circle of parents one comes first. Want of memory is an error.
+/// The places of the files: those of parents come first. Of a circle of parents one comes first.
 pub(crate) fn parents_first(alloc: Global, files: &[Found]) -> Result<Vec<usize>, AllocError> {
     let mut order = Order::new(alloc, files)?;
     for place in 0..files.len() {

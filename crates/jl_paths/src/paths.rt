@@ -54,8 +54,8 @@ struct Listed {
 }
 
 impl Paths {
-    /// Adds the file of this path, whatever its name; or of a folder all files at and below it whose names end in `.class`, by
-    /// name, where a link is not followed.
+    /// Adds the file of this path, whatever its name. Of a folder it adds all files at and below it whose names end in `.class`, by
+    /// name, and follows no link there.
     pub(crate) fn add<R: Files + AllocGlobal + Clone + Drop>(
         &mut self,
         rt: &R,
@@ -161,7 +161,7 @@ fn entries_of<R: Files + AllocGlobal + Clone + Drop>(rt: &R, path: &str) -> io::
     Ok(Listed { entries, fault })
 }
 
-/// Adds the entry, where it is a folder or a class file.
+/// Adds the entry, if it is a folder or a class file.
 fn push_kept<R: Files + AllocGlobal + Clone + Drop>(
     rt: &R,
     entry: &DirEntry<R, Global>,

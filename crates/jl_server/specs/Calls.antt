@@ -11,7 +11,7 @@ use Rattle.jl_types.specs.Events.History.{world_after, installed}
 use Rattle.jl_types.specs.Events.Entries.{Entry, events_of, classes_of}
 use Rattle.jl_server.specs.Receivers.{FitsInstalled}
 
--- what each call, a site and a receiver, is answered at once after the list
+-- the answer at once to each call, a site and a receiver, after the list
 abbrev pub answers_at : List Entry → List (ℕ × Recv) → List Fast
 answers_at entries calls = map (λ call. fast_answer (installed (events_of entries) call.0) (classes_of entries) call.1) calls
 
@@ -19,6 +19,6 @@ answers_at entries calls = map (λ call. fast_answer (installed (events_of entri
 abbrev pub all_closed : List (ℕ × Recv) → List Fast
 all_closed calls = replicate (length calls) Closed
 
--- what the call is answered at once, if anything, is the call's answer where the receiver fits the installed link
+-- the answer at once to the call, if any, is the call's answer if the receiver fits the installed link
 abbrev pub AnswersCall : List Event → ℕ × Recv → Fast → Type 0
 AnswersCall h call f = (a : Answer) → f ≡ Now a → FitsInstalled h call.0 call.1 → dispatch (world_after h) call.0 call.1 ≡ a

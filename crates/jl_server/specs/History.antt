@@ -54,6 +54,6 @@ IsCounted cells entries = cells ≡ (length entries, true) ∷ (0, true) ∷ []
 abbrev pub head_of : Book → Named
 head_of b = record { tracked = true; key = 0; book = b }
 
--- the entry was added to all that had been seen, where the length was the one expected
+-- the entry was added to all that had been seen, if the length was the one expected
 abbrev pub Adds : Step Entry → View Entry ℕ → ℕ → View Entry ℕ → Type 0
 Adds s v found w = (found == s.old) ≡ true → w.0 ≡ v.0 ++ s.ask ∷ []

@@ -23,11 +23,10 @@ FitsLink w s (Table kind rows) Null = Unit {0}
 FitsLink w s (Table kind rows) (Of x) = is_concrete w.classes x ≡ true
 FitsLink w s Mega recv = Unit {0}
 
--- the receiver fits the site's installed link, where there is one
+-- the receiver fits the site's installed link, if there is one
 abbrev pub FitsInstalled : List Event → ℕ → Recv → Type 0
 FitsInstalled h s recv = (link : Link) → installed h s ≡ Some link → FitsLink (world_after h) s link recv
 
--- the receiver fits the site's installed link, and where that is megamorphic, so that a memo answers, it is null or an object of a concrete
--- class
+-- the receiver fits the site's installed link; if that is megamorphic, so that a memo answers, it is null or an object of a concrete class
 abbrev pub FitsMemo : List Event → ℕ → Recv → Type 0
 FitsMemo h s recv = FitsInstalled h s recv × (installed h s ≡ Some Mega → IsObject (world_after h).classes recv)

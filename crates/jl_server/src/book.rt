@@ -135,7 +135,7 @@ impl<K: Name, R: Wait + Drop> Book<K, R> {
         &self.list
     }
 
-    /// The world after the published list, and that list. Want of memory is an error.
+    /// The world after the published list, and that list.
     pub fn snapshot(&self, alloc: Global) -> Result<(Snapshot, Seen<K>), AllocError>
         ensures world { IfOk result (λ r. r.0 ≡ record { world = world_after (events_of self.now); serial = length self.now }) }
         ensures seen { IfOk result (λ r. r.1 ≡ self.now) }
@@ -147,7 +147,7 @@ impl<K: Name, R: Wait + Drop> Book<K, R> {
         }
     }
 
-    /// Each site that has an installed link after the published list, with it, by rising number. Want of memory is an error.
+    /// Each site that has an installed link after the published list, with it, by rising number.
     pub fn links(&self, alloc: Global) -> Result<Vec<(SiteNo, Link)>, AllocError>
         ensures { IfOk result (λ rows. rows.items ≡ installed_links (events_of self.now)) }
     {
@@ -157,7 +157,7 @@ impl<K: Name, R: Wait + Drop> Book<K, R> {
         }
     }
 
-    /// What the published list comes to, and that list, with the whole journal of its entries. Want of memory is an error.
+    /// The state after the published list, and that list, with the whole journal of its entries.
     pub fn past(&self, alloc: Global) -> Result<Past<K>, AllocError>
         ensures seen { IfOk result (λ r. r.seen ≡ self.now) }
         ensures world { IfOk result (λ r. r.world ≡ record { world = world_after (events_of self.now); serial = length self.now }) }
@@ -172,11 +172,11 @@ impl<K: Name, R: Wait + Drop> Book<K, R> {
         Ok(Past { world, log, seen })
     }
 
-    /// What the published list comes to, and that list, with what of its entries is after the first so many.
+    /// The state after the published list, and that list, with its entries after the first so many.
     ///
     /// # Errors
     ///
-    /// Forgotten, where one of these entries wasn't the last one when the book last [forgot](Book::forget); want of memory.
+    /// Forgotten, if one of these entries wasn't the last one when the book last [forgot](Book::forget); want of memory.
     pub fn entries(&self, alloc: Global, from: u64) -> Result<Since<K>, EntriesFault>
         ensures seen { IfOk result (λ r. r.seen ≡ self.now) }
         ensures world { IfOk result (λ r. r.world ≡ record { world = world_after (events_of self.now); serial = length self.now }) }
@@ -205,7 +205,7 @@ impl<K: Name, R: Wait + Drop> Book<K, R> {
         self.core.forget();
     }
 
-    /// What a call comes to after the published list, and the site's installed link, if there is one. Takes no memory.
+    /// The answer to a call after the published list, and the site's installed link, if there is one. Takes no memory.
     pub(crate) fn ask(&self, site: SiteNo, recv: Recv) -> (Answer, Option<Link>)
         ensures answer { dispatch (world_after (events_of self.now)) site recv ≡ result.0 }
         ensures link { result.1 ≡ installed (events_of self.now) site }
@@ -221,8 +221,8 @@ impl<K: Name, R: Wait + Drop> Book<K, R> {
     ///
     /// # Errors
     ///
-    /// The first refusal; want of memory where there is none. Nothing has changed then; nor has the history, which grows after every
-    /// other growth, unless it is the table's queue that lacks memory, which never happens.
+    /// The first refusal, or want of memory if there is none. Nothing has changed then. Nor has the history, which grows after every other
+    /// growth, unless it is the table's queue that has no memory, which never happens.
     pub fn step<H: Wait>(
         &mut self,
         rt: &H,
@@ -239,7 +239,7 @@ impl<K: Name, R: Wait + Drop> Book<K, R> {
         self.step_judged(rt, alloc, event, None)
     }
 
-    /// The same, of an event that is accepted after the judged list, where there is one.
+    /// Does what [`step`](Book::step) does, with an event that is accepted after the judged list, if there is one.
     pub(crate) fn step_judged<'a, H: Wait>(
         &'a mut self,
         rt: &H,
@@ -284,8 +284,8 @@ impl<K: Name, R: Wait + Drop> Book<K, R> {
     }
 }
 
-/// A book takes events as a core does, and its table shows them: each is one [`step`](Book::step), of which the reply or the refusal alone
-/// is handed on. One that is known to be accepted is as one that was judged after the present list.
+/// A book takes events as a core does, and its table shows them. Each event is one [`step`](Book::step), whose reply or refusal is handed
+/// on. One that is known to be accepted is treated as one that was judged after the present list.
 impl<K: Name, R: Wait + Drop> EventMachine for Book<K, R> {
     ghost use Rattle.jl_server.specs.History.{core_of};
 
@@ -328,7 +328,7 @@ impl<K: Name, R: Wait + Drop> EventMachine for Book<K, R> {
 }
 
 /// One event after this list, over the fields of its book: it is planned, its entry is added to the history, and it is committed and shown.
-/// It is accepted after the judged list, where there is one.
+/// It is accepted after the judged list, if there is one.
 fn step_on<K: Name, H: Wait>(
     rt: &H,
     alloc: Global,
@@ -360,7 +360,7 @@ fn step_on<K: Name, H: Wait>(
     }
 }
 
-/// Commits and shows what was planned after this list, whose entry ends the next list, to which the list comes. Want of memory is the only
+/// Commits and shows what was planned after this list. Its entry ends the next list, which the list becomes. Want of memory is the only
 /// refusal.
 fn publish_next<K: Name, H: Wait>(
     rt: &H,
@@ -402,8 +402,8 @@ fn publish_next<K: Name, H: Wait>(
     }
 }
 
-/// Plans the event after this list, which the core has come to, with all its room made. It is accepted after the judged list, where
-/// there is one. The entry is added to the history; the core is as it was. Where the event is refused, or memory lacks, so is the history.
+/// Plans the event after this list, which is that of the core, with all its room made. It is accepted after the judged list, if there is
+/// one. The entry is added to the history. The core is as it was. If the event is refused, or there is no memory, so is the history.
 fn next_step<K: Name>(
     alloc: Global,
     core: &mut Core,
@@ -436,7 +436,7 @@ fn next_step<K: Name>(
     }
 }
 
-/// Plans the event after this list, which is accepted after the judged list, where there is one.
+/// Plans the event after this list. It is accepted after the judged list, if there is one.
 fn plan<K: Name>(
     alloc: Global,
     core: &mut Core,
@@ -458,7 +458,7 @@ fn plan<K: Name>(
     }
 }
 
-/// Plans the event, which is accepted after the earlier list, and judges it once more where anything but installs came since.
+/// Plans the event, which is accepted after the earlier list. It is judged once more if anything but installs came since.
 fn plan_judged<K: Name>(
     alloc: Global,
     core: &mut Core,
@@ -549,7 +549,7 @@ fn what_is_next<K: Name>(
     })
 }
 
-/// This list with the entry of what was planned, which is added to the history. There is nothing where the history is longer, and then it
+/// This list with the entry of what was planned, which is added to the history. There is nothing if the history is longer, and then it
 /// is as it was.
 fn next_list<K: Name>(head: &mut Head<K>, list: &Seen<K>, planned: &Planned) -> Option<Seen<K>>
     requires { IsAsPlanned (core_of K.limits list.now) planned.now }
@@ -571,7 +571,7 @@ fn unmade(_planned: Planned) -> Refusal
     Refusal::Memory
 }
 
-/// Puts the change into the table's queue, which is the last growth of an event, and then commits what was planned and shows the change. Where
+/// Puts the change into the table's queue, which is the last growth of an event, and then commits what was planned and shows the change. If
 /// the queue has no memory nothing has changed, and there is no reply.
 fn commit_shown<H: Wait>(
     rt: &H,

@@ -60,6 +60,7 @@ impl<K: Name> Model for Caller<K> {
 }
 
 impl<K: Name> Caller<K> {
+    /// A caller that looks by this reader, and has seen this list.
     pub(crate) fn new(looking: TableReader, seen: Seen<K>) -> Caller<K>
         requires { server_of (seat_view looking.place) ≡ Some (K.book, K.limits) }
         ensures { result ≡ seen }
@@ -94,8 +95,8 @@ impl<K: Name> Caller<K> {
         self.seat.seen = seen;
     }
 
-    /// What a call at the site is answered at once, by the published table. It takes no memory and waits for nobody. Closed where
-    /// the table refuses the entry, since the server is no more; also where the table is older than what the caller has seen,
+    /// The answer at once to a call at the site, by the published table. It takes no memory and waits for nobody. Closed if
+    /// the table refuses the entry, since the server is no more; also if the table is older than what the caller has seen,
     /// which never happens.
     pub fn call(&mut self, site: SiteNo, recv: Recv) -> Fast
         ensures own { IsPrefix self.old self.new }
@@ -106,9 +107,12 @@ impl<K: Name> Caller<K> {
         self.seat.call(site, recv)
     }
 
-    /// As [`call`](Caller::call), but at a megamorphic link by what the memo remembers, a miss where it doesn't remember such a call; null
-    /// throws there at once. The caller learns what the memo has seen. A site of a retired loader is a miss, since its link went. An object of a class
-    /// of a retired loader isn't there to be a receiver; such a class gets what is remembered. It takes no memory and waits for nobody.
+    /// Answers as [`call`](Caller::call) does, but at a megamorphic link by what the memo remembers. It takes no memory and waits for
+    /// nobody. The caller learns what the memo has seen.
+    ///
+    /// - At a megamorphic link null throws at once. A call that the memo doesn't remember is a miss.
+    /// - A site of a retired loader is a miss, since its link went.
+    /// - An object of a class of a retired loader isn't there to be a receiver. Such a class gets what is remembered.
     pub fn call_with(&mut self, memo: &Memo<K>, site: SiteNo, recv: Recv) -> Fast
         ensures own { IsPrefix self.old self.new }
         ensures memo { IsPrefix memo.now.seen self.new }
@@ -121,8 +125,8 @@ impl<K: Name> Caller<K> {
         self.seat.call_with(memo, site, recv)
     }
 
-    /// What each call, a site and a receiver, is answered at once, all in one entry into the published table and so after one list.
-    /// It takes no memory and waits for nobody. All are Closed where `call` would be.
+    /// The answer at once to each call, a site and a receiver, all in one entry into the published table and so after one list.
+    /// It takes no memory and waits for nobody. All are Closed if `call` would be.
     pub fn call_all(&mut self, calls: &[(SiteNo, Recv)], answers: &mut [Fast])
         requires { length calls.now ≡ length answers.old }
         ensures own { IsPrefix self.old self.new }
@@ -230,7 +234,7 @@ fn look_with<K: Name>(
     }
 }
 
-/// One entry, for several calls. It gives the answers back, since of what is handed to a closure the result alone is known.
+/// One entry, for several calls. It gives the answers back, since only the result of a closure is known.
 fn look_all<'a, K: Name>(
     looking: TableReader,
     seen: Seen<K>,
@@ -257,7 +261,7 @@ fn look_all<'a, K: Name>(
     }
 }
 
-/// The published table and its list, which what was seen begins; what was given, where the table isn't entered or is older.
+/// The published table and its list, which what was seen begins. If the table isn't entered or is older, it gives back what it was given.
 fn entered<K: Name>(
     looking: TableReader,
     seen: Seen<K>,
@@ -282,7 +286,7 @@ fn entered<K: Name>(
     }
 }
 
-/// The table that was entered and its list, which what was seen begins. It is left again just where its list is shorter.
+/// The table that was entered and its list, which what was seen begins. It is left again exactly if its list is shorter.
 fn found<K: Name>(
     reading: TableReading,
     seen: Seen<K>,

@@ -96,6 +96,7 @@ impl Drop for Opened {
 }
 
 impl Opened {
+    /// A history of no entries, with its first list.
     pub fn new() -> Opened {
         let (reached, mut first, _second) = Reached::open(Start::alone(), 0, 0);
         Opened {

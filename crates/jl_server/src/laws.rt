@@ -11,8 +11,8 @@ ghost use Rattle.jl_types.specs.Events.Fast.{fast_answer};
 ghost use Rattle.jl_types.specs.Events.History.{world_after, installed};
 ghost use Rattle.jl_server.specs.Receivers.{FitsLink};
 
-/// An answer at once is the call's answer in the world after the events, where the link looks at no receiver, or the
-/// receiver is null or an object of a concrete class, which at a direct link of invokevirtual is below the named class.
+/// An answer at once is the call's answer in the world after the events, if the link looks at no receiver, or the receiver is null or an
+/// object of a concrete class. At a direct link of invokevirtual that class has to be below the named class.
 pub fn fast_answers_are_the_calls()
     ensures { (h : List Event) (s n : ℕ) (recv : Recv) (a : Answer) (link : Link)
         → installed h s ≡ Some link → FitsLink (world_after h) s link recv

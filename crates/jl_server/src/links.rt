@@ -68,7 +68,7 @@ impl Model for PublishedLinks {
 }
 
 impl PublishedLinks {
-    /// No links of so many sites. Want of memory is an error.
+    /// No links of so many sites.
     pub fn new(alloc: Global, sites: u32) -> Result<PublishedLinks, AllocError>
         ensures { IfOk result (λ links. links ≡ replicate sites None) }
     {
@@ -89,7 +89,7 @@ impl PublishedLinks {
         }
     }
 
-    /// What a call at the site is answered at once where there are so many classes. Takes no memory.
+    /// The answer at once to a call at the site, with so many classes. Takes no memory.
     pub fn answer(&self, site: SiteNo, classes: usize, recv: Recv) -> Fast
         ensures { result ≡ fast.fast_answer (get_or self.now site None) classes recv }
     {
@@ -99,7 +99,7 @@ impl PublishedLinks {
         }
     }
 
-    /// The same, at a megamorphic link by what is remembered. Takes no memory.
+    /// The answer at once to a call at the site, with so many classes, at a megamorphic link by what is remembered. Takes no memory.
     pub fn answer_with(&self, rows: &Memo, classes: usize, site: SiteNo, recv: Recv) -> Fast
         ensures { result ≡ answer_with rows.now (get_or self.now site None) classes site recv }
     {
@@ -145,7 +145,7 @@ impl PublishedLinks {
     }
 }
 
-/// What a call is answered at once by the slot.
+/// The answer at once to a call by the slot.
 fn slot_answer(tables: &[Table], slot: Slot, classes: usize, recv: Recv) -> Fast
     ensures { result ≡ fast.fast_answer (link_of tables.now slot) classes recv }
 {
@@ -162,7 +162,7 @@ fn slot_answer(tables: &[Table], slot: Slot, classes: usize, recv: Recv) -> Fast
     }
 }
 
-/// So many copies of a value. Want of memory is an error.
+/// So many copies of a value.
 fn filled<T: Copy + Drop>(alloc: Global, value: T, count: usize) -> Result<Vec<T>, AllocError>
     ensures { IfOk result (λ made. made.items ≡ replicate count value) }
 {
@@ -173,7 +173,7 @@ fn filled<T: Copy + Drop>(alloc: Global, value: T, count: usize) -> Result<Vec<T
     Ok(made)
 }
 
-/// Puts the rows at the site's place, which is a new one where it has none, and tells the place. Takes no memory.
+/// Puts the rows at the site's place, which is a new one if it has none, and tells the place. Takes no memory.
 fn put(places: &mut Vec<u32>, tables: &mut Vec<Table>, site: usize, table: &Table) -> u32
     requires there { site < length places.old.items }
     requires placed { ArePlaces places.old.items tables.old.items }

@@ -16,7 +16,7 @@ use jl_types::{Answer, ClassId, Link, Outcome, Recv, SiteNo};
 use std::alloc::{AllocError, Global};
 use std::marker::Model;
 
-/// What calls at megamorphic links came to, for a thread that keeps it beside its caller. A clause sees the list after which the last of
+/// The outcomes of calls at megamorphic links, for a thread that keeps it beside its caller. A clause sees the list after which the last of
 /// them was answered, and what is remembered.
 pub struct Memo<K: Name> {
     seen: Seen<K>,
@@ -51,7 +51,7 @@ impl<K: Name> Model for Memo<K> {
 }
 
 impl<K: Name> Memo<K> {
-    /// One that remembers nothing, with room for two calls in each of so many sets, for a caller that has seen this. Want of memory is an error.
+    /// One that remembers nothing, with room for two calls in each of so many sets, for a caller that has seen this.
     pub fn new(alloc: Global, seen: &Seen<K>, sets: u32) -> Result<Memo<K>, AllocError>
         ensures { IfOk result (λ memo. memo ≡ record { seen = seen.now; sets = replicate sets no_rows }) }
     {
@@ -68,9 +68,11 @@ impl<K: Name> Memo<K> {
         &self.seen
     }
 
-    /// What the site's calls on objects of the class come to, where that is remembered (JVMS SE 17 §5.4.6, §6.5). It is so after the list that
-    /// the memo has seen, and stays so after each that goes on it, while the site's class and this one are present: of a retired site, whose code is
-    /// gone, and of a retired class, of which there is no object, it still gives what was remembered. Takes no memory.
+    /// The outcome of the site's calls on objects of the class, if it is remembered (JVMS SE 17 §5.4.6, §6.5). Takes no memory.
+    ///
+    /// It is right after the list that the memo has seen, and after each list that goes on it, while the site's class and this one are
+    /// present. For a retired site, whose code is gone, and for a retired class, of which there is no object, it still gives what was
+    /// remembered.
     pub fn get(&self, site: SiteNo, class: ClassId) -> Option<Outcome>
         ensures remembered { result ≡ remembered self.now.sets site class }
         ensures stays { IfSome result (HoldsFrom K.limits self.now.seen site class) }
@@ -90,7 +92,7 @@ impl<K: Name> Memo<K> {
         &self.rows
     }
 
-    /// Remembers what a call came to after a list that goes on its own, where the site's link was this. Takes no memory.
+    /// Remembers the outcome of a call after a list that goes on its own, at which the site's link was this. Takes no memory.
     pub(crate) fn tell(
         &mut self,
         seen: &Seen<K>,

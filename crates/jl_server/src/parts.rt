@@ -59,7 +59,7 @@ impl Parts {
     ///
     /// # Errors
     ///
-    /// Unmade, where a growth was refused.
+    /// Unmade, if a growth was refused.
     pub fn new(alloc: Global, max_sites: u32, callers: usize) -> Result<Parts, Unmade>
         requires sites { 1 ≤ max_sites }
         requires callers { (1 ≤ callers) × (callers ≤ 64) }
@@ -68,11 +68,11 @@ impl Parts {
         Parts::with_limits(alloc, Limits::fixed(max_sites), callers)
     }
 
-    /// The same, with limits of the server's own.
+    /// Makes all that the server is to have but its callers, with these limits and with room for 1 to 64 callers.
     ///
     /// # Errors
     ///
-    /// Unmade, where a growth was refused.
+    /// Unmade, if a growth was refused.
     pub fn with_limits(alloc: Global, limits: Limits, callers: usize) -> Result<Parts, Unmade>
         requires limits { AreAllowed limits }
         requires callers { (1 ≤ callers) × (callers ≤ 64) }
@@ -99,7 +99,7 @@ impl Parts {
     ///
     /// # Errors
     ///
-    /// Unmade, where a growth or a caller's place was refused.
+    /// Unmade, if a growth or a caller's place was refused.
     pub fn open<K: Name, R: Wait + Drop>(
         self,
         alloc: Global,
@@ -129,7 +129,7 @@ impl Parts {
     ///
     /// # Errors
     ///
-    /// Unmade, where a growth or a caller's place was refused.
+    /// Unmade, if a growth or a caller's place was refused.
     pub fn start<K: Name, R: Wait + Drop>(
         self,
         alloc: Global,
@@ -146,7 +146,7 @@ impl Parts {
     }
 }
 
-/// The writer of a first table, of a server with these limits and of this list, which has no entries. Want of memory is an error.
+/// The writer of a first table, of a server with these limits and of this list, which has no entries.
 #[tactic(auto, using(crate::proofs::Opens::opens, crate::proofs::Opens::alike))]
 fn first_writer(
     alloc: Global,
@@ -167,7 +167,7 @@ fn first_writer(
 }
 
 /// Publishes twice with no change, after which the writer has room for every later change, and makes so many callers, which have seen
-/// nothing. Where a growth or a caller's place is refused the table is at its end, and there is nothing.
+/// nothing. If a growth or a caller's place is refused, the table is at its end, and there is nothing.
 fn first_shown<K: Name, R: Wait>(
     rt: &R,
     alloc: Global,
@@ -197,7 +197,7 @@ fn first_shown<K: Name, R: Wait>(
     }
 }
 
-/// Publishes no change of a first table. Where there is no memory the table is at its end, and there is nothing.
+/// Publishes a change of nothing at a first table. If there is no memory, the table is at its end, and there is nothing.
 fn publish_blank<K: Name, R: Wait>(
     rt: &R,
     alloc: Global,
@@ -251,6 +251,7 @@ fn make_callers<K: Name>(
     Ok(made)
 }
 
+/// One caller more, which has seen this list.
 fn make_caller<K: Name>(writer: &mut TableWriter, list: &Seen<K>) -> Result<Caller<K>, AllocError>
     requires { server_of (seat_view writer.old.desk.place) ≡ Some (K.book, K.limits) }
     ensures shown { writer.new.desk.shown ≡ writer.old.desk.shown }

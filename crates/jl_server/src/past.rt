@@ -1,4 +1,4 @@
-//! What a server has come to, with its journal or with the entries from one on, in one hold of its lock: for a server that is to take over.
+//! The state of a server, with its journal or with the entries from one on, in one hold of its lock: for a server that is to take over.
 
 ghost use Rattle.std.specs.Prelude.{◌≡◌, ◌+◌, ◌≤◌, true, length, drop, IfOk, IfErr, OnOk, OnErr};
 ghost use Rattle.std.specs.List.{list_all};
@@ -21,7 +21,7 @@ use jl_relink::Snapshot;
 use std::alloc::{AllocError, Global};
 use std::sync::Wait;
 
-/// What a server has come to: the world after a list, the list's journal, of which a clause sees all entries, and that list.
+/// The state of a server: the world after a list, the list's journal, of which a clause sees all entries, and that list.
 pub struct Past<K: Name> {
     pub world: Snapshot,
     pub log: Journal<Entry>,
@@ -39,7 +39,7 @@ impl<K: Name> Drop for Past<K> {
     }
 }
 
-/// What a server has come to: the world after a list, the list's entries from one on, and that list.
+/// The state of a server: the world after a list, the list's entries from one on, and that list.
 pub struct Since<K: Name> {
     pub world: Snapshot,
     pub entries: Vec<Entry>,
@@ -58,9 +58,9 @@ impl<K: Name> Drop for Since<K> {
 }
 
 impl<K: Name> Caller<K> {
-    /// What the server has come to after all that the caller has seen, with its whole journal, in one hold of the lock, for which it waits.
-    /// Each entry tells one event, those that are [forgotten](LinkServer::forget), too, which only a clause sees. The entries aren't copied,
-    /// and each class file was read. Want of memory is an error; the caller has then seen what it had.
+    /// The state of the server after all that the caller has seen, with its whole journal, in one hold of the lock, for which it waits.
+    /// Each entry tells one event. So do those that are [forgotten](LinkServer::forget), which only a clause sees. The entries aren't
+    /// copied, and each class file was read. Want of memory is an error; the caller has then seen what it had.
     pub fn past<H: Wait, R: Wait + Drop>(
         &mut self,
         rt: &H,
@@ -85,13 +85,13 @@ impl<K: Name> Caller<K> {
         Ok(past)
     }
 
-    /// What the server has come to after all that the caller has seen, with the entries after the first so many, in one hold of the
-    /// lock, for which it waits. Each entry tells one event; there are none where there are no more than so many. The entries aren't
-    /// copied, and each class file was read.
+    /// The state of the server after all that the caller has seen, with the entries after the first so many, in one hold of the lock,
+    /// for which it waits. Each entry tells one event. There are none if the list is no longer than so many. The entries aren't copied,
+    /// and each class file was read.
     ///
     /// # Errors
     ///
-    /// Forgotten, where one of these entries wasn't the last one when the server last [forgot](LinkServer::forget); want of memory. The caller
+    /// Forgotten, if one of these entries wasn't the last one when the server last [forgot](LinkServer::forget); want of memory. The caller
     /// has then seen what it had.
     pub fn entries<H: Wait, R: Wait + Drop>(
         &mut self,
@@ -119,7 +119,7 @@ impl<K: Name> Caller<K> {
     }
 }
 
-/// What the book has come to after this list, with its whole journal.
+/// The state of the book after this list, with its whole journal.
 fn past_after<K: Name, H: Wait, R: Wait + Drop>(
     rt: &H,
     alloc: Global,
@@ -137,7 +137,7 @@ fn past_after<K: Name, H: Wait, R: Wait + Drop>(
     book.past(alloc)
 }
 
-/// What the book has come to after this list, with the entries after the first so many.
+/// The state of the book after this list, with the entries after the first so many.
 fn entries_after<K: Name, H: Wait, R: Wait + Drop>(
     rt: &H,
     alloc: Global,
@@ -156,11 +156,11 @@ fn entries_after<K: Name, H: Wait, R: Wait + Drop>(
     book.entries(alloc, from)
 }
 
-/// What of a log is after its first so many entries, once more.
+/// The entries of a log after its first so many. The log shares them.
 ///
 /// # Errors
 ///
-/// Forgotten, where one of these is past, which the last entry is not; want of memory.
+/// Forgotten, if one of these is past, which the last entry is not; want of memory.
 pub(crate) fn share_from(
     alloc: Global,
     log: &Journal<Entry>,

@@ -84,7 +84,8 @@ pub fn show<R: Wait>(rt: &R, writer: TableWriter, change: Snapshot<Change>) -> T
     writer
 }
 
-/// The same, of a writer that is lent.
+/// Shows the change that was appended, as [`show`] does, by a writer that is lent. Takes no memory. It waits for those that still look at
+/// the table from before the last call.
 pub fn show_in<R: Wait>(rt: &R, writer: &mut TableWriter, change: Snapshot<Change>)
     requires pending { drop writer.old.behind writer.old.log.items ≡ change.value ∷ [] }
     requires same { change.value.list.reached.book ≡ writer.old.desk.shown.value.list.reached.book }
@@ -98,7 +99,7 @@ pub fn show_in<R: Wait>(rt: &R, writer: &mut TableWriter, change: Snapshot<Chang
     });
 }
 
-/// Publishes the change, which has the next list. Where there is no memory the table is at its end, and there is nothing.
+/// Publishes the change, which has the next list. If there is no memory the table is at its end, and there is no writer.
 pub fn publish<R: Wait>(rt: &R, writer: TableWriter, change: Change) -> Option<TableWriter>
     requires settled { length (drop writer.behind writer.log.items) ≡ 0 }
     requires same { change.list.reached.book ≡ writer.desk.shown.value.list.reached.book }

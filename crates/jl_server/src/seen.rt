@@ -12,8 +12,8 @@ use jl_core::Planned;
 use logbook::{Offer, Seen as Reached};
 use std::marker::{Model, PhantomData};
 
-/// A token for a legal list of the server K: a beginning of its history, which somebody was told of. A clause sees the list. Of the
-/// list itself it keeps the length alone.
+/// A token for a legal list of the server K: a beginning of its history, which somebody was told of. A clause sees the list. The token
+/// keeps only the length.
 pub struct Seen<K: Name> {
     serial: u64,
     reached: Reached<Entry, u64, Law>,
@@ -69,7 +69,7 @@ impl<K: Name> Seen<K> {
         self.serial
     }
 
-    /// The same list, with no word on whose history it is.
+    /// The list, with no word on whose history it is.
     pub(crate) fn mark(&self) -> Mark
         ensures list { result.reached.log ≡ self.now }
         ensures book { result.reached.book ≡ K.book }
@@ -130,7 +130,7 @@ impl<K: Name> Seen<K> {
         }
     }
 
-    /// Adds what was planned to all that was seen, and says whether it did. It did not where the history is longer, or has 2^64 - 1
+    /// Adds what was planned to all that was seen, and says whether it did. It did not if the history is longer, or has 2^64 - 1
     /// entries; then the history is as it was.
     pub(crate) fn add(&mut self, head: &mut Head<K>, planned: &Planned) -> bool
         requires { IsEntry K.limits (events_of self.old) (planned_entry planned.now) }

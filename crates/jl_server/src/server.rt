@@ -94,7 +94,7 @@ impl<K: Name> Caller<K> {
     ///
     /// # Errors
     ///
-    /// The first refusal after the list that the error names; want of memory where there is none.
+    /// The first refusal after the list that the error names, or want of memory if there is none.
     pub fn apply<H: Wait, R: Wait + Drop>(
         &mut self,
         rt: &H,
@@ -113,8 +113,8 @@ impl<K: Name> Caller<K> {
         self.apply_one(rt, alloc, server, event, None)
     }
 
-    /// As [`apply`](Caller::apply), of an event that would have been accepted after this list. Where nothing but installs came since,
-    /// it isn't judged again under the lock.
+    /// Does what [`apply`](Caller::apply) does, with an event that would have been accepted after this list. If nothing but installs came
+    /// since, it isn't judged again under the lock.
     ///
     /// # Errors
     ///
@@ -139,7 +139,7 @@ impl<K: Name> Caller<K> {
         self.apply_one(rt, alloc, server, event, Some(judged))
     }
 
-    /// Applies the event, which is accepted after the judged list, where there is one.
+    /// Applies the event, which is accepted after the judged list, if there is one.
     fn apply_one<'a, H: Wait, R: Wait + Drop>(
         &mut self,
         rt: &H,
@@ -189,7 +189,7 @@ impl<K: Name> Caller<K> {
     }
 }
 
-/// What a call came to after a list, and the site's installed link then, if there was one.
+/// The answer to a call after a list, and the site's installed link then, if there was one.
 #[derive(Drop)]
 struct Asked<K: Name> {
     answer: Answer,
@@ -198,8 +198,8 @@ struct Asked<K: Name> {
 }
 
 impl<K: Name> Caller<K> {
-    /// What a call comes to after all that the caller has seen, linked or not; at a site of a retired loader that it is gone, and on an object of
-    /// a class of one that it is no receiver. It waits for the lock, and takes no memory.
+    /// The answer to a call after all that the caller has seen, linked or not. At a site of a retired loader it is that the site is gone.
+    /// On an object of a class of a retired loader it is that it is no receiver. It waits for the lock, and takes no memory.
     pub fn ask<H: Wait, R: Wait + Drop>(
         &mut self,
         rt: &H,
@@ -216,8 +216,8 @@ impl<K: Name> Caller<K> {
         asked.answer
     }
 
-    /// As [`ask`](Caller::ask), and the memo remembers the answer, where the site's link is megamorphic and the call has an outcome for its
-    /// receiver's class. The caller learns what the memo has seen.
+    /// Does what [`ask`](Caller::ask) does. The memo remembers the answer if the site's link is megamorphic and the call has an outcome for
+    /// its receiver's class. The caller learns what the memo has seen.
     pub fn ask_with<H: Wait, R: Wait + Drop>(
         &mut self,
         rt: &H,
@@ -242,7 +242,8 @@ impl<K: Name> Caller<K> {
     }
 }
 
-/// The book under the lock, which isn't behind this list. While it is behind, which never happens, the lock is let go and taken again.
+/// The book under the lock, whose list is no shorter than this one. While it is shorter, which never happens, the lock is let go and taken
+/// again.
 pub(crate) fn caught_up<'a, K: Name, H: Wait, R: Wait + Drop>(
     rt: &H,
     server: &'a LinkServer<K, R>,
@@ -261,7 +262,7 @@ pub(crate) fn caught_up<'a, K: Name, H: Wait, R: Wait + Drop>(
     unreachable!()
 }
 
-/// What the call comes to after this list.
+/// The answer to the call after this list.
 fn ask_after<K: Name, H: Wait, R: Wait + Drop>(
     rt: &H,
     server: &LinkServer<K, R>,
@@ -282,7 +283,7 @@ fn ask_after<K: Name, H: Wait, R: Wait + Drop>(
     }
 }
 
-/// One step of the book after this list, of an event that is accepted after the judged list, where there is one.
+/// One step of the book after this list, of an event that is accepted after the judged list, if there is one.
 fn apply_after<K: Name, H: Wait, R: Wait + Drop>(
     rt: &H,
     alloc: Global,

@@ -77,7 +77,7 @@ impl Absorb<Change> for Table {
 }
 
 impl Table {
-    /// A table with no links. Want of memory is an error.
+    /// A table with no links.
     pub fn new(alloc: Global, limits: Limits, list: Mark) -> Result<Table, AllocError>
         ensures { IfOk result (λ t. (t.limits ≡ limits) × (t.links ≡ replicate limits.sites None) × (t.classes ≡ 0) × (t.list ≡ list)) }
     {
@@ -89,21 +89,21 @@ impl Table {
         })
     }
 
-    /// What a call at the site is answered at once. Takes no memory.
+    /// The answer at once to a call at the site. Takes no memory.
     pub fn answer(&self, site: SiteNo, recv: Recv) -> Fast
         ensures { result ≡ fast_of.fast_answer (get_or self.now.links site None) self.now.classes recv }
     {
         self.links.answer(site, self.classes, recv)
     }
 
-    /// The same, at a megamorphic link by what is remembered. Takes no memory.
+    /// The answer at once to a call at the site, at a megamorphic link by what is remembered. Takes no memory.
     pub fn answer_with(&self, rows: &Memo, site: SiteNo, recv: Recv) -> Fast
         ensures { result ≡ answer_with rows.now (get_or self.now.links site None) self.now.classes site recv }
     {
         self.links.answer_with(rows, self.classes, site, recv)
     }
 
-    /// What each call is answered at once. Takes no memory.
+    /// The answer at once to each call. Takes no memory.
     pub fn answer_all(&self, calls: &[(SiteNo, Recv)], answers: &mut [Fast])
         requires { length calls.now ≡ length answers.old }
         ensures { answers.new ≡ map (λ call. fast_of.fast_answer (get_or self.now.links call.0 None) self.now.classes call.1) calls.now }

@@ -36,7 +36,7 @@ sketch_floats (sketch.CallsWithoutCode i) = refusal_floats _
 sketch_floats (sketch.Refused f) = refusal_floats _
 sketch_floats sketch.Memory = refusal_floats _
 
--- of a command that asks for an event, where that of each event and each install has none
+-- of a command that asks for an event, if that of each event and each install has none
 pub obeyed_floats : {S : Type 0} (IsEvent : S → Event → Data → S → Type 0) (IsInstall : S → ℕ → Data → S → Type 0) (old : S)
     → ((e : Event) (answer : Data) (new : S) → IsEvent old e answer new → has_float answer ≡ false)
     → ((batch : ℕ) (answer : Data) (new : S) → IsInstall old batch answer new → has_float answer ≡ false)

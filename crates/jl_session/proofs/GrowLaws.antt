@@ -57,7 +57,7 @@ module _ (old : Session) where
   answer_grows line answer new is =
       line_so IsCommandAnswer old (λ _ after. AtMostOneMore old.core after.core) command_grows (same_core old) answer new line is
 
--- and a line for whose answer memory lacks
+-- and a line for whose answer there is no memory
 pub lacks_grows : (old : Session) (line : List ℕ) (new : Session)
     → LacksAnswer old (λ answer. IsSessionAnswer old line answer new) new → AtMostOneMore old.core new.core
 lacks_grows old line new (inl same) = same_core old new same

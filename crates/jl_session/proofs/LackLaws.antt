@@ -1,4 +1,4 @@
--- What there is where memory lacks for an answer.
+-- What there is if there is no memory for an answer.
 use Rattle.std.proofs.Common.{◌≡◌, refl, inl, inr, ℕ, List, Result, Ok, Err, IfOk, IfErr, OnErr}
 use Rattle.serde_json.specs.Data.{Data}
 use Rattle.jl_sketch.specs.Faults.{IsWritten}
@@ -24,7 +24,7 @@ pub if_err : {X E : Type 0} {P : Type 0} → P → (r : Result X E) → OnErr r 
 if_err p (Ok x) = tt
 if_err p (Err e) = p
 
--- where each of these answers gives one of those
+-- if each of these answers gives one of those
 pub lacks_as : {S A B : Type 0} (old new : S) (P : A → Type 0) (Q : B → Type 0) → ((a : A) → P a → (b : B) × Q b)
     → LacksAnswer old P new → LacksAnswer old Q new
 lacks_as old new P Q f (inl e) = inl e

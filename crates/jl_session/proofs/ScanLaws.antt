@@ -85,7 +85,7 @@ pub bad_text : (line : List ℕ) (hit : Bool) (bytes text : List ℕ)
     → text ≡ compact_text bad_command → IsTextOf (IsScanAnswer line) text
 bad_text line hit bytes text told is said = (bad_command, no_file (file_of line) hit bytes told is, said)
 
--- a text is added, unless memory lacks
+-- a text is added, unless there is no memory
 pub added_text : {E : Type 0} (r : Result Unit E) (IsSaid : Data → Type 0) (old new text : List ℕ)
     → new ≡ (if is_ok r then old ++ text else old) → IsTextOf IsSaid text → OnOk r (AddsTextOf IsSaid old new)
 added_text (Ok x) IsSaid old new text is said = (text, said, is)

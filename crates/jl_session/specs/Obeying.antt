@@ -1,5 +1,5 @@
--- What commands are answered, whatever they are obeyed on: a core, or a server. What an event does there and what an install does is given, as
--- relations of what was there before, the answer, and what is there afterwards.
+-- What commands are answered, whatever they are obeyed on: a core, or a server. What an event and an install do there is given, each as a
+-- relation of what was there before, the answer, and what is there afterwards.
 use Rattle.std.specs.Prelude.{◌≡◌, ◌⊎◌, ℕ, List, Option, Some, None, Result, Ok, Err}
 use Rattle.serde_json.specs.Data.{Data}
 use Rattle.jl_classfile.specs.Parts.{Parts}
@@ -20,7 +20,7 @@ use Rattle.jl_session.specs.Jsons.{IsReadAs, bad_command}
 use Rattle.jl_session.specs.Scans.{IsFaultAnswer}
 use Rattle.jl_session.specs.Sketches.{IsSketchRefusal}
 
--- Where memory lacks for an answer, all is as before, or as one of these answers leaves it.
+-- If there is no memory for an answer, all is as before, or as one of these answers leaves it.
 abbrev pub LacksAnswer : {S A : Type 0} → S → (A → Type 0) → S → Type 0
 LacksAnswer {A = A} old IsSaid new = (new ≡ old) ⊎ ((answer : A) × IsSaid answer)
 

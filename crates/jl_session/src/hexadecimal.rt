@@ -9,7 +9,7 @@ ghost use Rattle.jl_session.specs.Scans.{file_of};
 fn digit(byte: u8) -> u8
     ensures { MatchOption (hex_digit_value byte) (16 ≤ result) (λ value. result ≡ value) }
 {
-    // What is before the first of its kind wraps at 0, so it is far behind the last one.
+    // What is before the first of its kind wraps at 0, so it is far above the last one.
     let number = byte.wrapping_sub(b'0');
     let letter = byte.wrapping_sub(b'A').min(byte.wrapping_sub(b'a'));
     if number < 10 {
@@ -20,7 +20,7 @@ fn digit(byte: u8) -> u8
 }
 
 /// Writes the byte of each pair of digits, and tells whether all were digits: the written bytes
-/// mean nothing where one is none.
+/// mean nothing if one is none.
 fn decode_all(digits: &[u8], bytes: &mut [u8]) -> bool
     requires { length digits.now ≡ 2 * length bytes.old }
     ensures { MatchResult (decode_pairs 0 digits.now)

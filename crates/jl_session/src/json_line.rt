@@ -24,7 +24,7 @@ pub(crate) fn json_in(alloc: Global, line: &[u8]) -> Result<Option<Value>, Alloc
     }
 }
 
-/// The text of an answer, which has no floating-point number. Want of memory is an error.
+/// The text of an answer, which has no floating-point number.
 pub fn text_of(alloc: Global, answer: &Value) -> Result<Vec<u8>, AllocError>
     requires { has_float (view answer.now) ≡ false }
     ensures { IfOk result (λ text. text.items ≡ compact_text (view answer.now)) }

@@ -21,7 +21,7 @@ pub trait Obey<S> {
     // What was there before an event, the event, its answer, and what is there afterwards.
     ghost applies: { S → Event → Data → S → Type 0 };
 
-    // The same of the install of the batch of a number.
+    // What was there before the install of a batch, the batch's number, the answer, and what is there afterwards.
     ghost installs: { S → ℕ → Data → S → Type 0 };
 
     /// The answer to an event: its reply, or the refusal.

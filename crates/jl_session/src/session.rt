@@ -55,7 +55,7 @@ impl Model for Session {
     ghost view = { λ s. record { core = s.core; batches = s.batches.items } };
 }
 
-/// The command that the line's JSON is, if it is one. Want of memory is an error.
+/// The command that the line's JSON is, if it is one.
 pub fn command_in(alloc: Global, line: &[u8]) -> Result<Option<Command>, AllocError>
     ensures { IfOk result (IsReadAs command_of line.now) }
 {
@@ -76,14 +76,14 @@ fn event_value(alloc: Global, outcome: &Result<Reply, Refusal>) -> Result<Value,
 }
 
 impl Session {
-    /// A core in which nothing happened yet. Want of memory is an error.
+    /// A core in which nothing happened yet.
     pub fn new(alloc: Global) -> Result<Self, AllocError>
         ensures { IfOk result (λ session. session ≡ new_session) }
     {
         Session::with_sites(alloc, MOST_SITES)
     }
 
-    /// The same, where so many places may be requested.
+    /// A core in which nothing happened yet, and in which so many places may be requested.
     pub fn with_sites(alloc: Global, max_sites: u32) -> Result<Self, AllocError>
         requires { 1 ≤ max_sites }
         ensures { IfOk result (λ session. session ≡ session_of max_sites) }
@@ -118,8 +118,7 @@ impl Session {
         self.core.forget();
     }
 
-    /// Lets the core [catch up](Core::catch_up), so that the next event doesn't pay for the one before. No clause sees a change. Want of
-    /// memory is an error.
+    /// Lets the core [catch up](Core::catch_up), so that the next event doesn't pay for the one before. No clause sees a change.
     pub fn catch_up(&mut self, alloc: Global) -> Result<(), AllocError>
         ensures { self.new ≡ self.old }
     {
@@ -130,7 +129,7 @@ impl Session {
     ///
     /// # Errors
     ///
-    /// The first refusal; want of memory where there is none. Nothing has changed then.
+    /// The first refusal, or want of memory if there is none. Nothing has changed then.
     pub fn submit(&mut self, alloc: Global, event: Event) -> Result<Reply, Refusal>
         ensures applied { IsApplied self.old.core event result self.new.core }
         ensures batches { self.new.batches ≡ self.old.batches }

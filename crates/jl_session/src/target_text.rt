@@ -9,7 +9,7 @@ use jl_json::target_in;
 use jl_types::Target;
 use std::alloc::{AllocError, Global};
 
-/// The target that the text's JSON is, as a command has it, if it is one. Want of memory is an error.
+/// The target that the text's JSON is, as a command has it, if it is one.
 pub fn read_target(alloc: Global, text: &[u8]) -> Result<Option<Target>, AllocError>
     ensures { IfOk result (IsReadAs target_in text.now) }
 {

@@ -1,4 +1,4 @@
--- What clap makes of the words behind `farm`.
+-- What clap makes of the words after `farm`.
 use Rattle.std.proofs.Common.{◌≡◌, ◌∙◌, ◌⊎◌, ◌==◌, ◌+◌, inl, inr, sym, ap, ap₂, refl, subst, ℕ, zero}
 use Rattle.std.proofs.Common.{suc, List, [], ◌∷◌, ◌++◌, Bool, true, false, cond, Option, Some, None}
 use Rattle.std.proofs.Common.{true≢false, codes, fold, length, take, drop, arith, eqb-true}
@@ -113,7 +113,7 @@ unfolding walk_fault
 next w word rest = or_else_assoc (turn_fault below [] w word) (walk_fault below [] (walked rules [] w word) rest)
     (ended (fold (walked rules []) (walked rules [] w word) rest).held)
 
--- a word behind "--" has no place
+-- a word after "--" has no place
 trailing_word : (h : Held) (waiting : Waiting) (word : Text) (rest : List Text)
     → Comes (comes_from (walk_at h waiting true) (word ∷ rest))
 trailing_word h waiting word rest = subst Comes (sym (next (walk_at h waiting true) word rest)) tt
@@ -134,7 +134,7 @@ ends h b word rest e =
 abbrev Long : Type 0
 Long = Option (Text × Option Text)
 
--- what comes of a word with this long form, and of those behind it
+-- what comes of a word with this long form, and of those after it
 abbrev by_long : Held → Waiting → Text → List Text → Long → Kinds
 by_long h waiting word rest long =
     let met = long_or_other rules waiting word long h in
@@ -201,21 +201,21 @@ long_form None word = inr (short_form (short_of word) word)
 abbrev stepped : Held × Step → Kinds
 stepped met = step_fault below 1 met.0 met.1
 
-abbrev behind : Held → Waiting → Text → List Text → Held × Step → Kinds
-behind h waiting word rest met =
+abbrev later : Held → Waiting → Text → List Text → Held × Step → Kinds
+later h waiting word rest met =
     comes_from (after_step rules word (walk_at h waiting false) met.0 met.1) rest
 
 abbrev of_met : Held → Waiting → Text → List Text → Held × Step → Kinds
 of_met h waiting word rest met =
-    or_else (or_else (flag_word_fault rules false (long_of word) word h) (stepped met)) (behind h waiting word rest met)
+    or_else (or_else (flag_word_fault rules false (long_of word) word h) (stepped met)) (later h waiting word rest met)
 
--- what comes of a word that may be the option's value, and of those behind it
+-- what comes of a word that may be the option's value, and of those after it
 abbrev by_plain : Held → Bool → Text → List Text → Kinds
 by_plain h b word rest =
     let met = plain_word rules (waits b) word h in
-    or_else (stepped met) (behind h (waits b) word rest met)
+    or_else (stepped met) (later h (waits b) word rest met)
 
--- the word is the option, or what it comes to is that of the words behind it, at best
+-- the word is the option, or it gives what the words after it give, at best
 abbrev IsSorted : List Row → Option (Text × List Text) → Bool → Text → List Text → Type 0
 IsSorted rows p b word rest =
     ((given : Option Text) × (long_of word ≡ Some (id, given))
@@ -246,9 +246,9 @@ sorted rows p b word rest e = go (long_form (long_of word) word)
         inr (λ h. back (subst (λ (m : Held × Step). Comes (of_met (held rows p) (waits b) word rest m))
         (sym (is_plain rows p (waits b)))
         (through (flag_word_fault rules false (long_of word) word (held rows p)) (stepped met)
-        (behind (held rows p) (waits b) word rest met) h)))
+        (later (held rows p) (waits b) word rest met) h)))
 
--- a word is refused where that holds of the option and of a word that is no option
+-- a word is refused if that holds of the option and of a word that is no option
 other_word : (rows : List Row) (p : Option (Text × List Text)) (b : Bool) (word : Text) (rest : List Text)
     → bytes_eq word dashes ≡ false
     → ((given : Option Text) → Comes (by_long (held rows p) (waits b) word rest (Some (id, given))))
@@ -286,7 +286,7 @@ bad_words rows values (word ∷ rest) bad = by_test (bytes_eq word dashes)
     (λ e. other_word rows (pending values) false word rest e
     (bad_option rows values false word rest bad) tt)
 
--- where the option was used, and is met again, no words are taken
+-- if the option was used, and is met again, no words are taken
 abbrev IsUsed : List Row → Type 0
 IsUsed rows = has_row id rows ≡ true
 
@@ -312,7 +312,7 @@ met_again rows values b (word ∷ rest) used = by_test (bytes_eq word dashes)
     (bad_option rows values b word rest (used_again rows values used))
     (one_more rows values b word rest (λ more c. met_again rows more c rest used)))
 
--- ---- words behind the option and its value
+-- ---- words after the option and its value
 
 abbrev settled_rows : List Row → Option (Text × List Text) → List Row
 settled_rows rows p = (settled rules (held rows p)).rows
@@ -335,14 +335,14 @@ no_end : (rows : List Row) (p : Option (Text × List Text)) (words : List Text)
     → IsUsed (settled_rows rows p) → ¬ IsEnd words → Comes (comes_from (walk_at (held rows p) idle false) words)
 no_end rows p [] used h = absurd (h (inl refl))
 no_end rows p (word ∷ rest) used h = by_test (bytes_eq word dashes)
-    (λ e. subst Comes (sym (ends (held rows p) false word rest e)) (behind rest (λ none. h (inr
+    (λ e. subst Comes (sym (ends (held rows p) false word rest e)) (later rest (λ none. h (inr
     (ap (λ (x : Text). x ∷ rest) (is_dashes word e) ∙ ap (λ (xs : List Text). dashes ∷ xs) none)))))
     (λ e. other_word rows p false word rest e
     (second_option rows p word rest used) tt)
   where
-    behind : (xs : List Text) → (xs ≡ [] → ⊥) → Comes (comes_from (walk_at (held rows p) idle true) xs)
-    behind [] some = absurd (some refl)
-    behind (x ∷ xs) some = trailing_word (held rows p) idle x xs
+    later : (xs : List Text) → (xs ≡ [] → ⊥) → Comes (comes_from (walk_at (held rows p) idle true) xs)
+    later [] some = absurd (some refl)
+    later (x ∷ xs) some = trailing_word (held rows p) idle x xs
 
 value_refused : (text : Text) → accepts false (Signed (pos 1) (pos 16)) text ≡ false
     → Comes (values_fault rule (text ∷ []))
@@ -387,7 +387,7 @@ by_short word rest short =
     let h = held [] (pending []) in
     let met = short_or_plain rules (waits true) word short h in
     or_else (or_else (option_map_or (λ flags. bundle_fault rules false flags h) short []) (stepped met))
-    (behind h (waits true) word rest met)
+    (later h (waits true) word rest met)
 
 value_next : (x : ℕ) (xs : Text) (rest : List Text) → (x == 45) ≡ false
     → comes_from (walk_at (held [] (pending [])) (waits true) false) ((x ∷ xs) ∷ rest)
@@ -417,12 +417,12 @@ two_words (x ∷ xs) end e h = option_first ((x ∷ xs) ∷ end)
     ∙ at_end (held [] (pending ((x ∷ xs) ∷ []))) end h
     ∙ value_settled (x ∷ xs) e
 
-abbrev walk_behind : Text → Held × Step → Walk
-walk_behind word met = after_step rules word (walk_at (held [] (pending [])) (waits true) false) met.0 met.1
+abbrev walk_after : Text → Held × Step → Walk
+walk_after word met = after_step rules word (walk_at (held [] (pending [])) (waits true) false) met.0 met.1
 
 walked_on : (word : Text) → bytes_eq word dashes ≡ false
     → walked rules [] (walk_at (held [] (pending [])) (waits true) false) word
-    ≡ walk_behind word (long_or_other rules (waits true) word (long_of word) (held [] (pending [])))
+    ≡ walk_after word (long_or_other rules (waits true) word (long_of word) (held [] (pending [])))
 unfolding walked
 walked_on word e = rw e refl
 
@@ -435,8 +435,8 @@ value_walked x xs e =
     let short : short_of (x ∷ xs) ≡ None = rw e refl in
     let h = held [] (pending []) in
     walked_on (x ∷ xs) apart
-    ∙ ap (λ (o : Long). walk_behind (x ∷ xs) (long_or_other rules (waits true) (x ∷ xs) o h)) long
-    ∙ ap (λ (o : Option Text). walk_behind (x ∷ xs) (short_or_plain rules (waits true) (x ∷ xs) o h)) short
+    ∙ ap (λ (o : Long). walk_after (x ∷ xs) (long_or_other rules (waits true) (x ∷ xs) o h)) long
+    ∙ ap (λ (o : Option Text). walk_after (x ∷ xs) (short_or_plain rules (waits true) (x ∷ xs) o h)) short
 
 abbrev rows_from : Walk → List Text → List Row
 rows_from w words = finished rules (fold (walked rules []) w words).held

@@ -28,8 +28,8 @@ no_flag_at_end : (end : List Text) → IsEnd end → has_flag end ≡ false
 no_flag_at_end end (inl e) = ap has_flag e
 no_flag_at_end end (inr e) = ap has_flag e
 
-no_flag_behind : (text : Text) (end : List Text) → IsCount text → IsEnd end → has_flag (text ∷ end) ≡ false
-no_flag_behind text end is_count is_end = by_test (starts_with_minus text)
+no_flag_after : (text : Text) (end : List Text) → IsCount text → IsEnd end → has_flag (text ∷ end) ≡ false
+no_flag_after text end is_count is_end = by_test (starts_with_minus text)
     (λ e. absurd (no_minus text is_count e))
     (λ e. no_flag text end e ∙ no_flag_at_end end is_end)
 
@@ -37,7 +37,7 @@ farm_wants_none : (name text : Text) (option end : List Text) → IsCount text �
     → (option ≡ codes "--workers" ∷ text ∷ []) ⊎ (option ≡ (codes "--workers=" ++ text) ∷ [])
     → help_asked (name ∷ codes "farm" ∷ option ++ end) ≡ None
 farm_wants_none name text option end is_count is_end (inl e) =
-    ap (λ (words : List Text). help_asked (name ∷ codes "farm" ∷ words ++ end)) e ∙ rw (no_flag_behind text end is_count is_end) refl
+    ap (λ (words : List Text). help_asked (name ∷ codes "farm" ∷ words ++ end)) e ∙ rw (no_flag_after text end is_count is_end) refl
 farm_wants_none name text option end is_count is_end (inr e) =
     ap (λ (words : List Text). help_asked (name ∷ codes "farm" ∷ words ++ end)) e ∙ rw (no_flag_at_end end is_end) refl
 

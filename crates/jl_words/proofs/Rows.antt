@@ -5,7 +5,7 @@ use Rattle.jl_words.specs.declared.help.Topic.{Topic}
 use Rattle.jl_words.specs.declared.help.Topic.TheVariants.{Program, Scan, Sketch, Run, Farm, Report}
 use Rattle.jl_words.specs.Help.{help_asked}
 
--- what words ask for help on that stand behind the program's name
+-- what words after the program's name ask for help on
 abbrev asked : List (List ℕ) → Option Topic
 asked words = help_asked (codes "linkd" ∷ words)
 
@@ -23,7 +23,7 @@ of_help_first : map asked
     ≡ Some Program ∷ Some Scan ∷ Some Sketch ∷ Some Run ∷ Some Farm ∷ Some Report ∷ Some Program ∷ Some Run ∷ Some Program ∷ None ∷ []
 of_help_first = refl
 
--- behind one, which `report` takes for a path
+-- after one, which `report` takes for a path
 of_help_second : map asked
     (
     (codes "scan" ∷ codes "help" ∷ []) ∷ (codes "farm" ∷ codes "help" ∷ codes "x" ∷ []) ∷ (codes "report" ∷ codes "help" ∷ [])

@@ -46,10 +46,10 @@ first = walk_from nothing_held
 strays : (s : Shape) → Comes (stray_fault s)
 strays s = elim s.is_leaf as (λ leaf. Comes (stray_fault (record s { is_leaf = leaf }))) [ true ↦ tt | false ↦ tt ]
 
--- a word behind "--" has no place
-behind_end : (s : Shape) (names : Names) (w : Walk) (word : Text)
+-- a word after "--" has no place
+after_end : (s : Shape) (names : Names) (w : Walk) (word : Text)
     → Comes (turn_fault (bare s) names (record w { is_trailing = true; stopped = None }) word)
-behind_end s names w word = strays s
+after_end s names w word = strays s
 
 -- nor has a word that names no subcommand
 first_flag : (x : Option ℕ) (k : ℕ) (flags word : Text)
@@ -108,7 +108,7 @@ stray_words s names word [] none h = by_test (bytes_eq word dashes)
 stray_words s names word (x ∷ rest) none h = by_test (bytes_eq word dashes)
     (λ e. next_comes _ _ (subst (λ (w : Walk). Comes (walk_fault (bare s) names w (x ∷ rest)))
     (sym (ends names word none ((bytes_eq-Decides word dashes).0 e)))
-    (first_comes _ _ (behind_end s names trailing x))))
+    (first_comes _ _ (after_end s names trailing x))))
     (λ e. first_comes _ _ (no_place s names word none e))
 
 -- ---- a subcommand

@@ -1,4 +1,4 @@
--- What the words of the program ask to be told of it.
+-- Whether the words of the program ask for help, and on what.
 use Rattle.std.specs.Prelude.{◌&&◌, ◌||◌, not, false, ℕ, Bool, List, [], ◌∷◌, codes, drop}
 use Rattle.std.specs.Prelude.{Option, Some, None, if◌then◌else◌, is_some, unwrap_or}
 use Rattle.std.specs.Str.{bytes_eq}
@@ -32,19 +32,19 @@ abbrev pub has_help_first : List (List ℕ) → Bool
 has_help_first [] = false
 has_help_first (word ∷ rest) = bytes_eq word (codes "help")
 
--- whether the word names a subcommand behind which the word `help` asks for help: all but `report`, where it is a path
+-- whether the word names a subcommand after which the word `help` asks for help: all but `report`, after which it is a path
 abbrev pub takes_help : List ℕ → Bool
 takes_help word = is_some (topic_of word) && not (bytes_eq word (codes "report"))
 
--- What these words, which stand behind the program's name, ask for help on. They do so where there are none, where the first is `help`,
--- where a flag is among them, and where `help` stands behind a subcommand that doesn't take it for a path.
-abbrev pub asked_behind : List (List ℕ) → Option Topic
-asked_behind [] = Some Program
-asked_behind (word ∷ rest) =
+-- What these words, which stand after the program's name, ask for help on. They ask for it in four cases: there are none; the first is
+-- `help`; a flag is among them; `help` stands after a subcommand that doesn't take it for a path.
+abbrev pub asked_after : List (List ℕ) → Option Topic
+asked_after [] = Some Program
+asked_after (word ∷ rest) =
     if bytes_eq word (codes "help") then Some (first_topic rest)
     else if has_flag (word ∷ rest) || (has_help_first rest && takes_help word) then Some (first_topic (word ∷ rest))
     else None
 
--- the same of all words, the program's name first
+-- what all words ask for help on, the program's name first
 abbrev pub help_asked : List (List ℕ) → Option Topic
-help_asked words = asked_behind (drop 1 words)
+help_asked words = asked_after (drop 1 words)

@@ -17,7 +17,7 @@ abbrev pub subcommand_word : Words → List ℕ
 subcommand_word (Lines mode) = word_of mode
 subcommand_word (Farm count) = codes "farm"
 
--- decimal digits that write the number, behind a plus or not
+-- decimal digits that write the number, after a plus or not
 abbrev pub IsNumber : ℕ → List ℕ → Type 0
 IsNumber number text =
     IsNumeral 10 (without_leading_plus text)
@@ -29,7 +29,7 @@ SaysWorkers count option =
     (text : List ℕ) × IsNumber count text × (1 ≤ count) × (count ≤ 16)
     × ((option ≡ codes "--workers" ∷ text ∷ []) ⊎ (option ≡ (codes "--workers=" ++ text) ∷ []))
 
--- what stands behind the subcommand
+-- what stands after the subcommand
 abbrev pub IsOption : Words → List (List ℕ) → Type 0
 IsOption (Lines mode) option = option ≡ []
 IsOption (Farm count) option = SaysWorkers count option

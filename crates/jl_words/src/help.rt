@@ -2,7 +2,7 @@
 
 ghost use Rattle.std.specs.Prelude.{◌≡◌, map, string_bytes};
 ghost use Rattle.jl_words.specs.Help.{topic_of, first_topic, has_flag, has_help_first};
-ghost use Rattle.jl_words.specs.Help.{asked_behind, help_asked};
+ghost use Rattle.jl_words.specs.Help.{asked_after, help_asked};
 
 /// What a usage is of.
 #[derive(Clone, Copy, Debug, PartialEq, Eq)]
@@ -69,9 +69,9 @@ fn has_help_first(words: &[String]) -> bool
     }
 }
 
-/// What the words ask for help on that stand behind the program's name.
-fn asked_behind(words: &[String]) -> Option<Topic>
-    ensures { result ≡ asked_behind (map string_bytes words.now) }
+/// What the words after the program's name ask for help on.
+fn asked_after(words: &[String]) -> Option<Topic>
+    ensures { result ≡ asked_after (map string_bytes words.now) }
 {
     let Some((word, rest)) = words.split_first() else {
         return Some(Topic::Program);
@@ -80,19 +80,19 @@ fn asked_behind(words: &[String]) -> Option<Topic>
     if word == "help" {
         return Some(first_topic(rest));
     }
-    // Behind `report` the word `help` is a path.
+    // After `report` the word `help` is a path.
     if has_flag(words) || (has_help_first(rest) && topic_of(word).is_some() && word != "report") {
         return Some(first_topic(words));
     }
     None
 }
 
-/// What the words ask for help on, the program's name first; none, where they ask for no help.
+/// What the words ask for help on, the program's name first; none if they ask for no help.
 pub fn help_asked(words: &[String]) -> Option<Topic>
     ensures { result ≡ help_asked (map string_bytes words.now) }
 {
     match words.split_first() {
-        Some((_name, rest)) => asked_behind(rest),
+        Some((_name, rest)) => asked_after(rest),
         None => Some(Topic::Program),
     }
 }

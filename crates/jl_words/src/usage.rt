@@ -43,7 +43,8 @@ pub fn wrong_words(alloc: Global, words: &[String]) -> Result<String, AllocError
     Ok(text)
 }
 
-/// The usage of the topic, made by clap from what reads the words; of `report`, whose words another crate reads, that of the program.
+/// The usage of the topic, made by clap from what reads the words. Another crate reads the words of `report`, so its usage here is that of
+/// the program.
 ///
 /// # Errors
 ///

@@ -74,17 +74,17 @@ pub(crate) fn lines<'a>(alloc: Global, mode: Mode) -> Command<'a>
             .disable_help_flag(true)
             .about(texts::SCAN)
             .override_usage("linkd scan < FILE")
-            .after_help(texts::BEHIND_SCAN),
+            .after_help(texts::AFTER_SCAN),
         Mode::Sketch => Command::new(alloc, "sketch")
             .disable_help_flag(true)
             .about(texts::SKETCH)
             .override_usage("linkd sketch < FILE")
-            .after_help(texts::BEHIND_SKETCH),
+            .after_help(texts::AFTER_SKETCH),
         Mode::Run => Command::new(alloc, "run")
             .disable_help_flag(true)
             .about(texts::RUN)
             .override_usage("linkd run < FILE")
-            .after_help(texts::BEHIND_RUN),
+            .after_help(texts::AFTER_RUN),
     }
 }
 
@@ -97,7 +97,7 @@ fn with_scan<'a>(alloc: Global) -> Result<Command<'a>, AllocError>
         .disable_help_subcommand(true)
         .subcommand_required(true)
         .about(texts::PROGRAM)
-        .after_help(texts::BEHIND_PROGRAM)
+        .after_help(texts::AFTER_PROGRAM)
         .subcommand(lines(alloc, Mode::Scan))
 }
 
@@ -137,7 +137,7 @@ pub(crate) fn farm<'a>(alloc: Global) -> Result<Command<'a>, AllocError>
         .disable_help_flag(true)
         .about(texts::FARM)
         .override_usage("linkd farm --workers N < FILE")
-        .after_help(texts::BEHIND_FARM)
+        .after_help(texts::AFTER_FARM)
         .arg(workers(alloc))
 }
 
@@ -182,7 +182,7 @@ fn asked_by(matches: &ArgMatches) -> Option<Words>
 ///
 /// # Errors
 ///
-/// [`WordsFault::BadWords`] where they ask for nothing, and [`WordsFault::Memory`].
+/// [`WordsFault::BadWords`] if they ask for nothing, and [`WordsFault::Memory`].
 pub fn read_words(alloc: Global, words: &[String]) -> Result<Words, WordsFault>
     ensures asked { IfOk result (λ asked. AskFor asked (map string_bytes words.now)) }
     ensures refused { IfErr result (λ fault. fault ≡ BadWords

@@ -1,10 +1,13 @@
 //! A devirtualizing linker for the JVM, driven by lines, and a report of class files.
 //!
-//! `linkd scan` reads class files, a line each, and answers what they show. `linkd sketch` writes small class files. `linkd run` reads
-//! commands, a line each, and answers them on one core: it defines classes, links invocations and answers calls. `linkd farm` obeys
-//! commands on a link server, and then links all requested sites by a farm of workers. `linkd report` reads class files from paths, and says
-//! what each invocation comes to. Words that ask for help are answered by the usage. How the program ends, with which exit status and which
-//! line on the standard error, is an `Ending` of jl_cli.
+//! - `linkd scan` reads class files, a line each, and answers what they show.
+//! - `linkd sketch` writes small class files.
+//! - `linkd run` reads commands, a line each, and answers them on one core: it defines classes, links invocations and answers calls.
+//! - `linkd farm` obeys commands on a link server, and then links all requested sites by a farm of workers.
+//! - `linkd report` reads class files from paths, and says what is found of each invocation.
+//!
+//! Words that ask for help are answered by the usage. How the program ends, with which exit status and which line on the standard error, is
+//! an `Ending` of jl_cli.
 #![tactic(auto)]
 
 ghost use Rattle.std.specs.Prelude.{◌≡◌};
@@ -87,7 +90,7 @@ fn answer_bad_words(rt: &HostRuntime, words: &[String]) -> Ending {
     }
 }
 
-/// What is said of such words: the version, if they ask for it, or else what is wrong with them. Want of memory is an error.
+/// What is said of such words: the version, if they ask for it, or else what is wrong with them.
 fn said_of(alloc: Global, words: &[String]) -> Result<(String, Ending), AllocError> {
     match words.last() {
         Some(word) if words.len() == 2 && matches!(word.as_str(), "--version" | "-V") => {
@@ -99,7 +102,7 @@ fn said_of(alloc: Global, words: &[String]) -> Result<(String, Ending), AllocErr
     }
 }
 
-/// The usage of the topic. Want of memory is an error.
+/// The usage of the topic.
 fn usage(alloc: Global, topic: Topic) -> Result<String, AllocError> {
     match topic {
         Topic::Report => report_usage(alloc, HEADING, REPORT),
@@ -145,6 +148,7 @@ fn told(rt: &HostRuntime, ending: Ending) -> ExitCode
     ExitCode::from(ending.tell(&mut errors))
 }
 
+/// Runs the program by its words.
 fn main(rt: HostRuntime) -> ExitCode {
     let ending = match own_words(&rt) {
         Ok(words) => match (help_asked(&words), report_words(&words)) {

@@ -8,7 +8,7 @@ use jl_names::LentName;
 use jl_pool::Pool;
 use std::alloc::Global;
 
-/// A pool, from its count on, with a Methodref of A.f:()V at 2, an InterfaceMethodref of the same at 7, and an
+/// A pool, from its count on, with a Methodref of A.f:()V at 2, an InterfaceMethodref of A.f:()V at 7, and an
 /// InvokeDynamic of f:()V at 8.
 const POOL: &[u8] = &[
     0, 9, 1, 0, 1, b'A', 10, 0, 3, 0, 4, 7, 0, 1, 12, 0, 5, 0, 6, 1, 0, 1, b'f', 1, 0, 3, b'(',
@@ -62,9 +62,9 @@ enum CodeRow {
     Fault(&'static [u8], CodeFault),
     /// A code in parts with an invokestatic of A.f:()V at this place, and nothing else.
     Parts(&'static [&'static [u8]], u16),
-    /// As many operand bytes behind this opcode as the table says, or no instruction.
+    /// As many operand bytes after this opcode as the table says, or no instruction.
     Length(u8),
-    /// The same behind a wide.
+    /// As many operand bytes after this opcode as the table says, if it follows a wide, or no instruction.
     Widened(u8),
 }
 
@@ -135,7 +135,7 @@ const OPERANDS: &[&[u8]] = &[
     &[4, 4],
 ];
 
-/// How many operand bytes an instruction has behind a wide (JVMS SE 17 §6.5): iload to aload, istore to astore, iinc, ret.
+/// How many operand bytes an instruction has after a wide (JVMS SE 17 §6.5): iload to aload, istore to astore, iinc, ret.
 const WIDE_OPERANDS: &[(u8, u8)] = &[
     (21, 2),
     (22, 2),
@@ -157,7 +157,7 @@ fn operands_of(opcode: u8) -> Option<u8> {
     line.get(usize::from(opcode % 10)).copied()
 }
 
-/// What the table says of the opcode behind a wide.
+/// What the table says of the opcode after a wide.
 fn wide_operands_of(opcode: u8) -> Option<u8> {
     for (widened, operands) in WIDE_OPERANDS {
         if *widened == opcode {
@@ -178,7 +178,7 @@ fn has_call(alloc: Global, pool: &Pool, parts: &[&[u8]], pc: u16) -> bool {
     }
 }
 
-/// Whether a call is found behind an instruction that begins so and has so many operand bytes, of which none is an opcode.
+/// Whether a call is found after an instruction that begins so and has so many operand bytes, of which none is an opcode.
 fn has_operands(alloc: Global, pool: &Pool, front: &[u8], operands: u8, pc: u16) -> bool {
     match vec![in alloc; 0xca; usize::from(operands)] {
         Ok(bytes) => has_call(alloc, pool, &[front, &bytes, CALL], pc),
@@ -200,7 +200,7 @@ fn has_length(alloc: Global, pool: &Pool, opcode: u8) -> bool {
     }
 }
 
-/// Whether the opcode behind a wide has the operand bytes that the table says.
+/// Whether the opcode after a wide has the operand bytes that the table says.
 fn has_wide_length(alloc: Global, pool: &Pool, opcode: u8) -> bool {
     match wide_operands_of(opcode) {
         Some(count) => has_operands(alloc, pool, &[0xc4, opcode], count, u16::from(count) + 2),
@@ -233,13 +233,13 @@ impl Row for CodeRow {
     }
 }
 
-/// A tableswitch behind its padding: its default, from -1 to 1, and three offsets.
+/// A tableswitch after its padding: its default, from -1 to 1, and three offsets.
 const TABLE: &[u8] = &[
     0xca, 0xca, 0xca, 0xca, 0xff, 0xff, 0xff, 0xff, 0, 0, 0, 1, 0xca, 0xca, 0xca, 0xca, 0xca, 0xca,
     0xca, 0xca, 0xca, 0xca, 0xca, 0xca,
 ];
 
-/// A lookupswitch behind its padding: its default, two pairs, and these.
+/// A lookupswitch after its padding: its default, two pairs, and these.
 const LOOK_UP: &[u8] = &[
     0xca, 0xca, 0xca, 0xca, 0, 0, 0, 2, 0xca, 0xca, 0xca, 0xca, 0xca, 0xca, 0xca, 0xca, 0xca, 0xca,
     0xca, 0xca, 0xca, 0xca, 0xca, 0xca,
@@ -253,7 +253,7 @@ const INVOCATIONS: &[CodeRow] = &[
         &[0xb6, 0, 2, 0xb7, 0, 2, 0xb8, 0, 2, 0xb1],
         &[(0, Kind::Virtual), (3, Kind::Special), (6, Kind::Static)],
     ),
-    // Behind each instruction of a length of its own.
+    // After each instruction of a length of its own.
     Sites(
         &[
             0, 16, 0xca, 17, 0xca, 0xca, 197, 0xca, 0xca, 0xca, 200, 0xca, 0xca, 0xca, 0xca, 0xb8,
@@ -261,7 +261,7 @@ const INVOCATIONS: &[CodeRow] = &[
         ],
         &[(15, Kind::Static)],
     ),
-    // invokeinterface and invokedynamic have two bytes behind the number.
+    // invokeinterface and invokedynamic have two bytes after the number.
     Sites(
         &[0xb9, 0, 7, 1, 0, 0xba, 0, 8, 0, 0, 0xb8, 0, 2, 0xb1],
         &[(0, Kind::Interface), (5, Kind::Dynamic), (10, Kind::Static)],
@@ -307,7 +307,7 @@ const NAMES: &[NameRow] = &[
 const FAULTS: &[CodeRow] = &[
     Fault(&[0xca], CodeFault::BadOpcode(0)),
     Fault(&[0, 0xff, 0xb1], CodeFault::BadOpcode(1)),
-    // wide before nop, also where more bytes follow, and before tableswitch.
+    // wide before nop, also if more bytes follow, and before tableswitch.
     Fault(&[0xc4, 0], CodeFault::BadOpcode(0)),
     Fault(&[0, 0xc4, 0, 0, 0], CodeFault::BadOpcode(1)),
     Fault(&[0xc4, 0xaa, 0, 0], CodeFault::BadOpcode(0)),
@@ -356,7 +356,7 @@ const FAULTS: &[CodeRow] = &[
         ],
         CodeFault::BadSwitch(1),
     ),
-    // -1 pairs, also where the bytes end there.
+    // -1 pairs, also if the bytes end there.
     Fault(
         &[
             0xab, 0, 0, 0, 0, 0, 0, 0, 0xff, 0xff, 0xff, 0xff, 0, 0, 0, 0, 0xb1,

@@ -1,4 +1,4 @@
-//! Class files that are cut, or changed where the fault follows from the place; and what they show that no answer of `linkd` tells.
+//! Class files that are cut, or changed at places from which the fault follows; and what they show that no answer of `linkd` tells.
 //! `bench/hostile.py` gives `linkd` these files with each byte changed.
 
 use crate::hostile::HostileRow::*;
@@ -106,7 +106,7 @@ fn fault_of(alloc: Global, bytes: &[u8]) -> Option<ClassFault> {
 
 // ---- cut
 
-/// The fault of a class file that is cut to so many bytes, where its pool ends there.
+/// The fault of a class file that is cut to so many bytes, if its pool ends there.
 fn cut_fault(len: usize, pool_end: usize) -> ClassFault {
     if len >= 8 && len < pool_end {
         return ClassFault::Pool(PoolFault::Truncated);
@@ -215,7 +215,7 @@ fn are_named(names: &[Name], texts: &[&[u8]]) -> bool {
     true
 }
 
-/// Whether this is a name of this text, or none where there is no text.
+/// Whether this is a name of this text, or none if there is no text.
 fn is_named(name: Option<&Name>, text: Option<&[u8]>) -> bool {
     name.map(|name| name.as_slice()) == text
 }

@@ -216,11 +216,11 @@ enum PoolRow {
     Described(&'static [u8], bool),
     /// The pool that has each tag has none, wherever its bytes are cut.
     CutShort,
-    /// This is the number of two bytes at their front, with what is behind it.
+    /// This is the number of two bytes at their front, with what follows it.
     TwoBytes(&'static [u8], Option<(u16, &'static [u8])>),
-    /// This is the number of four bytes at their front, with what is behind it.
+    /// This is the number of four bytes at their front, with what follows it.
     FourBytes(&'static [u8], Option<(u32, &'static [u8])>),
-    /// These are the first ones of this count, with what is behind them.
+    /// These are the first ones of this count, with what follows them.
     Front(usize, &'static [u8], Option<(&'static [u8], &'static [u8])>),
     /// The copy of an InterfaceMethodref is equal to it.
     CopiedMethod,
@@ -487,7 +487,7 @@ const POOLS: &[PoolRow] = &[
         Some(PoolFault::BadIndex(6)),
     ),
     Fault(2, &[b"\x01\x00\x01\x00"], Some(PoolFault::BadUtf8(1))),
-    // A zero and the sign of the euro, in modified UTF-8; and behind them a byte that begins no unit.
+    // A zero and the sign of the euro, in modified UTF-8; and after them a byte that begins no unit.
     Fault(
         4,
         &[
@@ -670,7 +670,7 @@ const TEXTS: &[PoolRow] = &[
         &[b"\x01\x00\x04a//b", b"\x07\x00\x01"],
         Some(PoolFault::BadDescriptor(2)),
     ),
-    // Of a text of more than 16 bytes the bytes behind these count, too: the last one, and one in the midst of 48.
+    // Of a text of more than 16 bytes the bytes after these count, too: the last one, and one in the midst of 48.
     Fault(
         3,
         &[b"\x01\x00\x11java/lang/Objects", b"\x07\x00\x01"],

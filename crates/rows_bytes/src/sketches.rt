@@ -207,7 +207,7 @@ fn are_parts(bytes: &[u8], parts: &[&[u8]]) -> bool {
     let mut rest = bytes;
     for part in parts {
         match rest.strip_prefix(*part) {
-            Some(behind) => rest = behind,
+            Some(later) => rest = later,
             None => return false,
         }
     }

@@ -92,7 +92,7 @@ fn link_of(linked: Linked) -> Option<Link> {
     }
 }
 
-/// Links, the class of the receiver, which is null where there is none, and what they answer at once.
+/// Links, the class of the receiver, which is null if there is none, and what they answer at once.
 const FAST: &[(Linked, Option<u32>, Says)] = &[
     // Links that look at no receiver.
     (Absent, Some(3), Misses),

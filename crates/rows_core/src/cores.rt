@@ -23,8 +23,8 @@ enum Bounds {
     Own(Limits),
 }
 
-/// The limits, what comes before, so many times, and then one after another events, how what they are answered prints, and whether
-/// the one link that is installed then is that of site 0 that runs class 1's first method on each object; else none is.
+/// The limits, what comes before, so many times, and then events, one after another: how what each is answered prints, and whether a link
+/// is installed then. The one link that is installed is that of site 0 that runs class 1's first method on each object.
 struct Row(
     Bounds,
     &'static [Step],
@@ -310,7 +310,7 @@ fn runs_a_or_c() -> Link {
 }
 
 /// Whether the install of what was prepared after so many events, of site 0 with this link, is refused, since the site has another one now,
-/// or accepted where there is none.
+/// or accepted if there is none.
 fn is_prepared(
     alloc: Global,
     core: &mut Core,

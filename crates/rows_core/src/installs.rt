@@ -1,5 +1,5 @@
-//! Links that are looked up and installed in one call, and the instance that comes after in the meantime: each against a core that does
-//! the same by events alone.
+//! Links that are looked up and installed in one call, and the instance that catches up in the meantime: each against a core that does
+//! that by events alone.
 
 use crate::classes::Class::{A, B, C, Itself, M, Object, T};
 use crate::cores::is_text;
@@ -39,7 +39,7 @@ const INSTALLS: &[(&[u32], &str)] = &[
 ];
 
 /// These sites.
-fn sites_of(alloc: Global, numbers: &[u32]) -> Result<Vec<SiteNo>, AllocError> {
+fn sites_from(alloc: Global, numbers: &[u32]) -> Result<Vec<SiteNo>, AllocError> {
     let mut sites = Vec::new(alloc);
     for number in numbers {
         sites.push(SiteNo::new(*number))?;
@@ -49,7 +49,7 @@ fn sites_of(alloc: Global, numbers: &[u32]) -> Result<Vec<SiteNo>, AllocError> {
 
 /// How the answer prints to an install of these sites in one call.
 fn installed(alloc: Global, core: &mut Core, numbers: &[u32]) -> Result<String, AllocError> {
-    let sites = sites_of(alloc, numbers)?;
+    let sites = sites_from(alloc, numbers)?;
     let answer = core.install(alloc, sites.as_slice());
     format!(in alloc; "{answer:?}")
 }
@@ -149,7 +149,7 @@ fn are_caught_up(alloc: Global, core: &mut Core, other: &mut Core) -> bool {
     other_step(alloc, core, other).is_none() && core.links().len() == 1
 }
 
-/// Two new cores. Want of memory is an error.
+/// Two new cores.
 fn new_cores(alloc: Global) -> Result<(Core, Core), AllocError> {
     Ok((Core::new(alloc, 3)?, Core::new(alloc, 3)?))
 }

@@ -6,13 +6,13 @@ use jl_types::{ClassId, Event, LoaderId, Made, Place, Refusal, SiteNo};
 use rows_files::{CallRow, OBJECT, calling, class};
 use std::alloc::Global;
 
-/// How many calls of three bytes a method has at most, with a return behind them.
+/// How many calls of three bytes a method has at most, with a return after them.
 const CALLS: u32 = 21_844;
 
 /// One site more than 16 bits count.
 const LIMIT: u32 = 65_537;
 
-/// The classes behind java/lang/Object, whose methods make so many calls each: 87,376 in all.
+/// The classes after java/lang/Object, whose methods make so many calls each: 87,376 in all.
 const NAMES: [&str; 4] = ["C", "D", "E", "F"];
 
 /// Whether there is a class file, and loader 0 defines the class.

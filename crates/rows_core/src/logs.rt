@@ -75,7 +75,7 @@ fn are_at(alloc: Global, entries: &[Entry], places: &[usize], log: &[&str]) -> b
     all
 }
 
-/// Whether the entries from the place on are these; or, where none are named, one of them was forgotten.
+/// Whether the entries from the place on are these; or, if none are named, one of them was forgotten.
 fn are_from(
     alloc: Global,
     core: &Core,
@@ -142,7 +142,7 @@ fn forgets(alloc: Global, core: &mut Core, is_planned: bool, log: &[&str]) -> bo
 }
 
 /// Whether a first loader is accepted, planned before or not, and then all this is so, and a snapshot counts the accepted events.
-fn are_kept_behind(alloc: Global, core: &mut Core, is_planned: bool) -> bool {
+fn are_kept_after(alloc: Global, core: &mut Core, is_planned: bool) -> bool {
     let first = if is_planned {
         is_committed(alloc, core, Event::NewLoader)
     } else {
@@ -156,10 +156,10 @@ fn are_kept_behind(alloc: Global, core: &mut Core, is_planned: bool) -> bool {
     }
 }
 
-/// The same on a new core.
+/// Whether all this is so on a new core.
 fn keeps(alloc: Global, is_planned: bool) -> bool {
     match Core::new(alloc, 1) {
-        Ok(mut core) => are_kept_behind(alloc, &mut core, is_planned),
+        Ok(mut core) => are_kept_after(alloc, &mut core, is_planned),
         Err(_) => false,
     }
 }

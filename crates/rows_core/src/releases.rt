@@ -90,7 +90,7 @@ const GO: &str = "Ok(Reply { made: Nothing, dropped: Seq { items: [SiteNo(0)] } 
 const ENTRY: &str =
     "Entry { event: Release(Seq { items: [CallSiteId(1), CallSiteId(0), CallSiteId(1)] }, Seq { items: [SwitchId(1)] }), reply: Reply { made: Nothing, dropped: Seq { items: [SiteNo(0)] } } }";
 
-/// What the call of the site comes to.
+/// The answer to the call of the site.
 fn called(core: &Core, site: u32) -> Answer {
     core.call(SiteNo::new(site), Recv::Null)
 }
@@ -205,7 +205,7 @@ fn goes_on(alloc: Global, core: &mut Core, by_plans: bool) -> bool {
         && core.links().len() == 0
 }
 
-/// The same on a new core.
+/// Whether all of it is so on a new core.
 fn are_released(alloc: Global, by_plans: bool) -> bool {
     match Core::new(alloc, 2) {
         Ok(mut core) => goes_on(alloc, &mut core, by_plans),

@@ -55,8 +55,8 @@ const BEFORE: &[Step] = &[
 /// The call sites and the switch points of these numbers are let go; 9 was never given.
 const GONE: &[u32] = &[0, 1, 2, 9];
 
-/// What comes while the fresh core is filled, with all eleven kinds of events: loader 3 finds java/lang/Object and defines another T, class
-/// 7, whose site 5 is bound to call site 4; site 4 is bound to call site 3; loader 1 goes; a place is requested that was requested already.
+/// What comes while the fresh core is filled, with all eleven kinds of events. Loader 3 finds java/lang/Object and defines another T, class
+/// 7, whose site 5 is bound to call site 4. Site 4 is bound to call site 3. Loader 1 goes. A place is requested that was requested already.
 const MEANWHILE: &[Step] = &[
     Loader,
     Delegate(3, rows_files::OBJECT),
@@ -287,12 +287,12 @@ fn is_renewed(alloc: Global, old: &Core, released: &Released, limits: Limits) ->
     }
 }
 
-/// Whether it is so where the fresh core may have as many as stay, and is refused where it may have one less of a kind.
+/// Whether it is so if the fresh core may have as many as stay, and is refused if that may have one less of a kind.
 fn is_by_limits(alloc: Global, old: &Core, released: &Released) -> bool {
     is_renewed(alloc, old, released, ENOUGH) && are_refused(alloc, old, released, TOO_FEW)
 }
 
-/// The same once the old core has forgotten what is past.
+/// Whether a renewal is so, or refused, by the limits, once the old core has forgotten what is past.
 fn is_renewed_again(alloc: Global, old: &mut Core, released: &Released) -> bool {
     let is_past_there = old.log().kept_from(0).is_some();
     old.forget();
@@ -320,7 +320,7 @@ fn names_gone(alloc: Global, fresh: &mut Core, numbers: &mut Renumbering, old: &
     }
 }
 
-/// Whether the links of the old core come over behind all else.
+/// Whether the links of the old core come over after all else.
 fn links_come(alloc: Global, fresh: &mut Core, numbers: &Renumbering, old: &Core) -> bool {
     let Ok(linked) = old.list_links(alloc) else {
         return false;
@@ -381,7 +381,7 @@ fn fills(alloc: Global, fresh: &mut Core, old: &mut Core, released: &Released) -
     }
 }
 
-/// The same on a fresh core of 8 sites.
+/// Whether a fresh core of 8 sites is filled so, and all comes over.
 fn fills_fresh(alloc: Global, old: &mut Core, released: &Released) -> bool {
     match Core::new(alloc, 8) {
         Ok(mut fresh) => fills(alloc, &mut fresh, old, released),
@@ -389,7 +389,7 @@ fn fills_fresh(alloc: Global, old: &mut Core, released: &Released) -> bool {
     }
 }
 
-/// The same on new cores, of which the old one has forgotten what is past, or has not.
+/// Whether all comes over between new cores, of which the old one has forgotten what is past, or has not.
 fn carries(alloc: Global, has_forgotten: bool) -> bool {
     match (old_core(alloc), released(alloc)) {
         (Ok(mut old), Ok(released)) => {

@@ -44,7 +44,7 @@ fn is_same(alloc: Global, core: &mut Core) -> bool {
     }
 }
 
-/// The same on a new core.
+/// Whether a snapshot from after an install has the world of the one from before, on a new core.
 fn stays(alloc: Global) -> bool {
     match Core::new(alloc, SITES) {
         Ok(mut core) => are_done(alloc, &mut core, BEFORE) && is_same(alloc, &mut core),

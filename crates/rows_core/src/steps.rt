@@ -23,7 +23,7 @@ pub(crate) enum Shape {
     /// A guard of two methods.
     Guard(u32, MethodAt, MethodAt),
     /// A guard of a method, with a guard of two methods as its fallback.
-    Behind(u32, MethodAt, u32, MethodAt, MethodAt),
+    GuardAfter(u32, MethodAt, u32, MethodAt, MethodAt),
     /// A guard of a guard of two methods, with a method as its fallback.
     Within(u32, u32, MethodAt, MethodAt, MethodAt),
     /// So many guards on a point, each the first part of the next one, round a method, which is the fallback of each.
@@ -59,11 +59,11 @@ pub(crate) enum Step {
     Find(u32, &'static str, u32),
     /// The install of the links that these sites have now.
     Install(&'static [u32]),
-    /// The same of one site.
+    /// The install of the link that this site has now.
     InstallOne(u32),
     /// The install of a megamorphic link at each of these sites.
     Wrong(&'static [u32]),
-    /// The same at site 0, so many times.
+    /// The install of a megamorphic link at site 0, so many times.
     WrongAgain(usize),
     /// The install of the link that runs class 1's first method on each object, at site 0.
     ByHand,
@@ -134,13 +134,13 @@ fn target(alloc: Global, shape: &Shape) -> Result<Target, AllocError> {
     match shape {
         Shape::Method(at) => Ok(method(at)),
         Shape::Guard(point, first, fallback) => guard_of_methods(alloc, *point, first, fallback),
-        Shape::Behind(outer, before, inner, first, fallback) => {
-            let behind = guard_of_methods(alloc, *inner, first, fallback)?;
-            guard(alloc, *outer, method(before), behind)
+        Shape::GuardAfter(outer, before, inner, first, fallback) => {
+            let later = guard_of_methods(alloc, *inner, first, fallback)?;
+            guard(alloc, *outer, method(before), later)
         }
-        Shape::Within(outer, inner, first, fallback, behind) => {
+        Shape::Within(outer, inner, first, fallback, later) => {
             let within = guard_of_methods(alloc, *inner, first, fallback)?;
-            guard(alloc, *outer, within, method(behind))
+            guard(alloc, *outer, within, method(later))
         }
         Shape::Firsts(guards, point, at) => {
             let mut target = method(at);
@@ -221,7 +221,7 @@ fn install_each(alloc: Global, numbers: &[u32], link: Link) -> Result<Event, All
     Ok(Event::Install(Seq::of(rows)))
 }
 
-/// The install of the links that a preparation gives the sites now, or of links that they haven't, where it gives none.
+/// The install of the links that a preparation gives the sites now, or of links that they haven't, if it gives none.
 fn install(alloc: Global, core: &Core, numbers: &[u32]) -> Result<Event, AllocError> {
     let mut sites = Vec::new(alloc);
     for number in numbers {

@@ -90,7 +90,7 @@ const GO: &str =
 const ENTRY: &str =
     "Entry { event: RetireAll(Seq { items: [LoaderId(2), LoaderId(1)] }), reply: Reply { made: Nothing, dropped: Seq { items: [SiteNo(0), SiteNo(1), SiteNo(2)] } } }";
 
-/// What the call comes to.
+/// The answer to the call.
 fn called(core: &Core, site: u32, class: u32) -> Answer {
     core.call(SiteNo::new(site), Recv::Of(ClassId::new(class)))
 }
@@ -125,7 +125,7 @@ fn are_refused(alloc: Global, core: &mut Core, rows: &[(Step, &'static str)]) ->
     all
 }
 
-/// How what the step is answered prints, where it is planned and committed.
+/// How what the step is answered prints, if it is planned and committed.
 pub(crate) fn committed(alloc: Global, core: &mut Core, step: &Step) -> Result<String, AllocError> {
     let event = event(alloc, core, step)?;
     match core.plan(alloc, event) {
@@ -234,7 +234,7 @@ fn goes_on(alloc: Global, core: &mut Core, by_plans: bool) -> bool {
         && is_renewed(alloc, core)
 }
 
-/// The same on a new core.
+/// Whether all of it is so on a new core.
 fn go_at_once(alloc: Global, by_plans: bool) -> bool {
     match Core::new(alloc, 3) {
         Ok(mut core) => goes_on(alloc, &mut core, by_plans),

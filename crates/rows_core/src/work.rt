@@ -104,7 +104,7 @@ const BY_CLASSES_THAT_CHANGE_NOTHING: &[Row] = &[
     (Applied, Define(0, C), DropsFirst, 1, 1),
 ];
 
-/// The same where an abstract one has.
+/// Objects of B run A's f, so the link stays, beside an abstract class that has an f.
 const BY_CLASSES_BESIDE_AN_ABSTRACT_ONE: &[Row] = &[
     (Applied, Define(0, Object), DropsNone, 0, 0),
     (Applied, Define(0, A), DropsNone, 0, 0),
@@ -189,7 +189,7 @@ const BY_PLANS: &[Row] = &[
     (Committed, Point, DropsNone, 0, 0),
 ];
 
-/// What comes before a plan that comes to nothing.
+/// What comes before a plan that changes nothing.
 const BEFORE_PLANS: &[Row] = &[
     (Applied, Define(0, Object), DropsNone, 0, 0),
     (Applied, Define(0, A), DropsNone, 0, 0),
@@ -197,7 +197,7 @@ const BEFORE_PLANS: &[Row] = &[
     (Applied, Request(2, 0), DropsNone, 0, 0),
 ];
 
-/// What is planned and comes to nothing, with the work that it takes: a plan that is dropped, and events that are refused. A is the one
+/// What is planned and changes nothing, with the work that it takes: a plan that is dropped, and events that are refused. A is the one
 /// receiver of the site.
 const PLANNED: &[(Step, u64)] = &[
     (Install(&[0]), 1),
@@ -255,7 +255,7 @@ const BY_POINTS_ONE_AFTER_ANOTHER: &[Row] = &[
     (Applied, Point, DropsNone, 0, 0),
     (
         Applied,
-        CallSite(Mutable, "()V", Behind(0, N, 1, N, O)),
+        CallSite(Mutable, "()V", GuardAfter(0, N, 1, N, O)),
         DropsNone,
         0,
         0,
@@ -269,7 +269,8 @@ const BY_POINTS_ONE_AFTER_ANOTHER: &[Row] = &[
     (Applied, Invalidate(&[1, 1]), DropsNone, 0, 0),
 ];
 
-/// The same the other way round: the second point isn't on the path before the first one is invalid.
+/// A guard in the fallback of another one, whose points become invalid in the other order: the second one isn't on the path before the
+/// first one is invalid.
 const BY_THE_SECOND_POINT_FIRST: &[Row] = &[
     (Applied, Define(0, Object), DropsNone, 0, 0),
     (Applied, Define(0, T), DropsNone, 0, 0),
@@ -278,7 +279,7 @@ const BY_THE_SECOND_POINT_FIRST: &[Row] = &[
     (Applied, Point, DropsNone, 0, 0),
     (
         Applied,
-        CallSite(Mutable, "()V", Behind(0, N, 1, N, O)),
+        CallSite(Mutable, "()V", GuardAfter(0, N, 1, N, O)),
         DropsNone,
         0,
         0,
@@ -429,7 +430,7 @@ const BY_INVOKED_TARGETS: &[Row] = &[
     ),
 ];
 
-/// An invoked call site behind a guard: once the point is invalid, the link doesn't rest on it.
+/// An invoked call site that a guard guards: once the point is invalid, the link doesn't rest on it.
 const BY_INVOKED_TARGETS_OFF_THE_PATH: &[Row] = &[
     (Applied, Define(0, Object), DropsNone, 0, 0),
     (Applied, Define(0, T), DropsNone, 0, 0),
@@ -514,7 +515,7 @@ fn other(alloc: Global, core: &mut Core, rows: &[Row]) -> Option<usize> {
     None
 }
 
-/// The same of a table, on a new core.
+/// The first row of a table that isn't so on a new core, if there is one.
 fn other_in(alloc: Global, rows: &[Row]) -> Option<usize> {
     match Core::new(alloc, 3) {
         Ok(mut core) => {
@@ -527,7 +528,7 @@ fn other_in(alloc: Global, rows: &[Row]) -> Option<usize> {
     }
 }
 
-/// Asserts that each row of the table of this name is so, where there was no event before.
+/// Asserts that each row of the table of this name is so on a new core.
 fn assert_table(rt: &(impl Abort + AllocGlobal), table: &str, rows: &[Row]) {
     let other = other_in(rt.alloc(), rows);
     assert_eq!(rt; other, None, "in {table}");

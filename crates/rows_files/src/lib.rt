@@ -156,7 +156,7 @@ fn fill(alloc: Global, sketch: &mut Sketch, row: &ClassRow<'_>) -> Result<(), Al
     Ok(())
 }
 
-/// What is read of the sketch's class file, once it is filled. None where it is no class file.
+/// What is read of the sketch's class file, once it is filled. `None` if it is no class file.
 fn filled_file(alloc: Global, sketch: &mut Sketch, row: &ClassRow<'_>) -> Option<ClassFile> {
     fill(alloc, sketch, row).ok()?;
     let bytes = write_class(alloc, sketch).ok()?;

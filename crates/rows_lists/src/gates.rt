@@ -1,5 +1,5 @@
 //! A probe that holds one pair back until another one was seen, so that two threads have to look at them. It wants a machine of
-//! two processors or more. Where `LEAST_PIECE` of jl_relink is over 16,384, one thread looks at all pairs in order, and the first test fails.
+//! two processors or more. If `LEAST_PIECE` of jl_relink is over 16,384, one thread looks at all pairs in order, and the first test fails.
 
 use crate::worlds::{SITES, Shape, sites, snapshot};
 use jl_relink::{Probe, Snapshot, prepare_wide_seen};
@@ -71,7 +71,7 @@ fn meets(
     }
 }
 
-/// The same in a world of so many pairs.
+/// Whether the pair that is held is met by the other one, and each pair is looked at once, in a world of `RECEIVERS` receivers.
 fn meets_in_it(rt: &(impl Threads + Sync), alloc: Global, held: usize, until: usize) -> bool {
     match snapshot(alloc, Shape::Beside, RECEIVERS) {
         Some(snapshot) => meets(rt, alloc, &snapshot, held, until),

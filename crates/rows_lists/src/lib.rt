@@ -1,4 +1,4 @@
-//! Tests of what is kept or divided, beside what comes of the same in a plain way: lists in pages, values by number, places, what a loader
+//! Tests of what is kept or divided, against a plain way to do it: lists in pages, values by number, places, what a loader
 //! has recorded, the dependency index, and preparations by several threads. Nothing here is called by other crates.
 #![tactic(auto)]
 

@@ -136,7 +136,7 @@ fn try_all(alloc: Global, trial: &mut Trial) -> Result<Option<Counts>, AllocErro
     Ok(agrees_copied(alloc, trial)?.then_some(trial.counts))
 }
 
-/// The same with an index and a list of which nothing was tried yet.
+/// Tries all operations on an index and a list of which nothing was tried yet.
 fn counted(alloc: Global) -> Result<Option<Counts>, AllocError> {
     let mut trial = Trial {
         index: Index::new(alloc),

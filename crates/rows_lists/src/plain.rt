@@ -30,7 +30,7 @@ pub(crate) fn form(number: u32) -> Form {
     }
 }
 
-/// A set of keys, by their numbers: key n is there where bit n is set.
+/// A set of keys, by their numbers: key n is there if bit n is set.
 pub(crate) type KeySet = u32;
 
 /// What a site rests on: keys, and the number of its form.
@@ -181,7 +181,7 @@ impl Plain {
         most
     }
 
-    /// Whether these may be the sites that are asked under the keys, where the others are those that the keys touch.
+    /// Whether these may be the sites that are asked under the keys, if the others are those that the keys touch.
     pub(crate) fn may_be_asked(&self, set: KeySet, asked: &[SiteNo], touched: &[SiteNo]) -> bool {
         for site in asked {
             if !touched.contains(site) {

@@ -121,7 +121,7 @@ fn are_apart(alloc: Global, classes: &mut Classes, copies: &mut Vec<Classes>) ->
         && has_defined(alloc, classes, MOST)
 }
 
-/// The same with classes of which none is defined.
+/// Whether classes of which none is defined at first, and their copies, find each their own.
 fn are_apart_at_first(alloc: Global) -> bool {
     let mut copies = Vec::new(alloc);
     match Classes::new(alloc) {

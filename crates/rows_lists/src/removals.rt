@@ -63,7 +63,7 @@ fn counts_of(alloc: Global, index: &mut Index) -> Result<[usize; 4], AllocError>
     Ok([all, half, count(alloc, index, 0)?, count(alloc, index, 3)?])
 }
 
-/// The same of an index that is empty at first.
+/// How many sites there are at each of these times, by an index that is empty at first.
 fn counts(alloc: Global) -> Result<[usize; 4], AllocError> {
     let mut index = Index::new(alloc);
     counts_of(alloc, &mut index)

@@ -53,7 +53,7 @@ struct Places {
 }
 
 impl Places {
-    /// Has room for so many places. Want of memory is an error.
+    /// Has room for so many places.
     fn new(alloc: Global, count: u64) -> Result<Places, AllocError> {
         let mut places = Vec::new(alloc);
         for _ in 0..count {
@@ -68,7 +68,7 @@ impl Places {
         })
     }
 
-    /// Whether it was told as many places as it has room for, each of them once; in their order where one thread looks at all.
+    /// Whether it was told as many places as it has room for, each of them once; in their order if one thread looks at all.
     fn are_each_once(&self) -> bool {
         let count = self.places.len() as u64;
         let mut all = self.told.load(Ordering::SeqCst) == count;
@@ -135,7 +135,7 @@ fn both_give(
     seen && places.are_each_once() && gives(prepare_wide(rt, alloc, snapshot, sites), alone)
 }
 
-/// The same of all sites of a snapshot, whose links are of this kind.
+/// Whether both forms give what a preparation by one thread gives for all sites of a snapshot, whose links are of the row's kind.
 fn is_of(
     rt: &(impl Threads + Sync),
     alloc: Global,

@@ -10,7 +10,7 @@ use std::alloc::{AllocError, Global};
 /// How many calls there are.
 pub(crate) const SITES: u32 = 256;
 
-/// The site that is requested behind these, where no call stands.
+/// The site that is requested after these, at a place without a call.
 pub(crate) const WITHOUT_LINK: u32 = 256;
 
 /// How many events each snapshot has.
@@ -115,7 +115,7 @@ fn define_receivers(alloc: Global, world: &mut World, shape: Shape, receivers: u
     all
 }
 
-/// Requests the calls, and a place where there is none.
+/// Requests the calls, and a place that has none.
 fn request(alloc: Global, world: &mut World, shape: Shape) -> bool {
     let size = match shape {
         Shape::Implementers => 5u32,

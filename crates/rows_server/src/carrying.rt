@@ -19,7 +19,7 @@ use jl_types::{Answer, CallSiteId, Fast, Limits, Link, Made, Refusal, SiteNo, Sw
 use std::alloc::{AllocError, Global};
 use std::sync::Wait;
 
-/// What a call in the fresh server comes to.
+/// The answer to a call in the fresh server.
 #[derive(Clone, Copy)]
 pub(crate) enum Comes {
     /// The class's method of this number runs.
@@ -28,7 +28,7 @@ pub(crate) enum Comes {
     IsGone,
 }
 
-/// A call of a site, on an object of a class or on null, what it comes to, and whether it is answered at once.
+/// A call of a site, on an object of a class or on null, its answer, and whether it is answered at once.
 #[derive(Clone, Copy)]
 pub(crate) struct CallRow(
     pub(crate) u32,
@@ -46,7 +46,7 @@ fn answer(comes: Comes) -> Answer {
     }
 }
 
-/// Whether the call comes to this in the server, where it is asked, and at once to nothing else.
+/// Whether the call is answered so by the server, if that is asked, and at once by nothing else.
 pub(crate) fn is_called<L: Name, R: Wait, S: Wait + Drop>(
     rt: &R,
     server: &LinkServer<L, S>,
@@ -115,7 +115,7 @@ fn refilled<K: Name, L: Name, S: Wait + Drop>(
     )
 }
 
-/// The same of what the old server has come to, which has forgotten what is past, with how many events that is.
+/// Gives the book what stays in the old server, which has forgotten what is past, and tells how many events that server has accepted.
 pub(crate) fn begin<K: Name, L: Name, R: Wait, S: Wait + Drop>(
     old: &Shared<'_, K, R, S>,
     caller: &mut Caller<K>,
@@ -169,7 +169,7 @@ pub(crate) fn links_come<K: Name, L: Name, R: Wait, S: Wait + Drop>(
     }
 }
 
-/// Adds a row. Want of memory is an error.
+/// Adds a row.
 fn put<T: Drop>(rows: &mut Vec<T>, row: T) -> Result<(), AllocError> {
     rows.push(row)?;
     Ok(())

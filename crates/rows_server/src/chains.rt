@@ -66,8 +66,8 @@ const LINKS: usize = 1;
 /// What the last server is asked: both call sites are bound.
 const LAST: &[Deed] = &[Request(2, 0), Request(2, 5), Bind(2, 0), Bind(3, 1)];
 
-/// What its calls come to. Eight renewals have let a loader's M go, so the first eight classes below A are 3 to 10; M 11 is gone, the ninth
-/// class is 12, and M 13. The one site that is left of M is 1.
+/// The answers to its calls. Eight renewals have let a loader's M go, so the first eight classes below A are 3 to 10; M 11 is gone, the
+/// ninth class is 12, and M 13. The one site that is left of M is 1.
 const CALLS: &[CallRow] = &[
     CallRow(0, Some(1), IsGone, false),
     CallRow(1, Some(1), Runs(1, 0), false),
@@ -180,7 +180,7 @@ fn goes_over<'a, K: Name, L: Name, R: Wait, T: Then<R>>(
     )
 }
 
-/// The same of a fresh server of these parts.
+/// Whether all comes over into the book of a fresh server of these parts, and the rest is so with that server.
 fn opens<'a, K: Name, L: Name, R: Wait, T: Then<R>>(
     rt: &'a R,
     alloc: Global,
@@ -259,7 +259,7 @@ fn begins<'a, K: Name, R: Wait>(
     <OverNine as Then<R>>::holds::<K>(rt, alloc, server, worker, 0) && begun
 }
 
-/// The same on the server of these parts.
+/// Whether the server of these parts begins so, and the others come after it.
 fn is_started<K: Name, R: Wait>(rt: &R, alloc: Global, parts: Parts) -> bool
     requires book { parts.book ≡ K.book }
     requires limits { parts.limits ≡ K.limits }

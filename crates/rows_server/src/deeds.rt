@@ -300,7 +300,7 @@ pub(crate) fn event(alloc: Global, deed: &Deed) -> Option<Event> {
 }
 
 /// The sites whose bits are set.
-pub(crate) fn sites_of(alloc: Global, bits: u64) -> Result<Vec<SiteNo>, AllocError> {
+pub(crate) fn sites_from(alloc: Global, bits: u64) -> Result<Vec<SiteNo>, AllocError> {
     let mut sites = Vec::new(alloc);
     for number in 0..64u32 {
         if bits.wrapping_shr(number) % 2 == 1 {

@@ -13,13 +13,13 @@ use std::sync::atomic::{AtomicU64, Ordering};
 /// So many threads define; they are the first ones.
 pub(crate) const WRITERS: usize = 4;
 
-/// The classes that each of them defines, where some of them override the method.
+/// The classes that each of them defines, if some of them override the method.
 const ROUNDS: u32 = 500;
 
-/// The classes that each of them defines, where none does.
+/// The classes that each of them defines, if none does.
 const PLAIN_ROUNDS: u32 = 125;
 
-/// Where classes override the method, those of one round in so many do.
+/// If classes override the method, those of one round in so many do.
 const STRETCH: u32 = 125;
 
 /// The first such round. By then there are more than eight classes, too many for a table; and a link is looked up class by class until
@@ -135,7 +135,7 @@ pub(crate) fn is_legal<K: Name>(
     answer == Fast::Miss || answer == Fast::Now(runs(runner))
 }
 
-/// Whether calls of the site run A.f on an A, unless they miss, and on objects of the newest classes what these run. Where nothing
+/// Whether calls of the site run A.f on an A, unless they miss, and on objects of the newest classes what these run. If nothing
 /// overrides A.f its link stays, so that no call on an A misses.
 pub(crate) fn are_legal<K: Name, R: Wait, S: Wait + Drop>(
     shared: &Shared<'_, K, R, S>,
@@ -172,7 +172,7 @@ pub(crate) fn link_all<K: Name, R: Wait, S: Wait + Drop>(
     }
 }
 
-/// What a call on an object of the class comes to: what is answered at once, or where that is a miss, what it comes to in the snapshot.
+/// The answer to a call on an object of the class: the one at once, or, if that is a miss, the one in the snapshot.
 fn answer<K: Name>(worker: &mut Worker<K>, snapshot: &Snapshot, site: u32, class: u32) -> Answer {
     match worker.call(site, Some(class)) {
         Fast::Now(answer) => answer,
@@ -198,8 +198,8 @@ fn run_the_right_method<K: Name>(
     all
 }
 
-/// The link of each site: a call looks at the classes where one of them overrides A.f, since they are too many for a table, and runs it at
-/// once where none does.
+/// The link of each site: a call looks at the classes if one of them overrides A.f, since they are too many for a table, and runs it at
+/// once if none does.
 fn link(overriding: bool) -> Link {
     if overriding {
         Link::Mega
@@ -231,8 +231,8 @@ pub(crate) fn are_called<K: Name, R: Wait, S: Wait + Drop>(
     }
 }
 
-/// Whether there are as many events at the least as there must be, 68 before the threads begin, their classes, an install of each of the
-/// two that link once all is defined, and the last one; and of the links each site's went once, at the first class that overrides A.f.
+/// Whether there are at least as many events as there must be: 68 before the threads begin, their classes, an install of each of the
+/// two that link once all is defined, and the last one. And whether each site's link went once, at the first class that overrides A.f.
 pub(crate) fn are_enough(told: &[Told], overriding: bool) -> bool {
     let least = (rounds(overriding) as usize)
         .saturating_mul(4)

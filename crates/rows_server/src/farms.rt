@@ -17,7 +17,7 @@ use std::thread::Threads;
 /// How often a job that is held back looks, and lets other threads go on, before it gives up: for several seconds.
 const LOOKS: u64 = 20_000_000;
 
-/// What a job comes to.
+/// The outcome of a job.
 #[derive(Clone, Copy, PartialEq, Eq)]
 pub(crate) enum Kind {
     Installed,
@@ -27,7 +27,7 @@ pub(crate) enum Kind {
     Memory,
 }
 
-/// A job by its sites' numbers, and what it is to come to.
+/// A job by its sites' numbers, and the outcome that it is to have.
 type Job = (&'static [u32], Kind);
 
 /// What happens while the farm runs.
@@ -35,7 +35,7 @@ type Job = (&'static [u32], Kind);
 pub(crate) enum Turns {
     /// Nothing.
     Never,
-    /// This job is held back until that one has come to its outcome.
+    /// This job is held back until that one has its outcome.
     Held(usize, usize),
     /// Once this job's links were looked up, and are next to be installed, this call site is retargeted.
     Between(usize, u32),
@@ -57,7 +57,7 @@ pub(crate) struct Farm {
     before: Before,
     turns: Turns,
     jobs: &'static [Job],
-    /// The sites that have a link in the end, to class 1's method 1, where that is certain.
+    /// The sites that have a link in the end, to class 1's method 1, if that is certain.
     linked: Option<&'static [u32]>,
 }
 
@@ -96,7 +96,7 @@ const EARLIER_HELD: &Farm = &Farm {
     linked: Some(&[0, 1, 2]),
 };
 
-/// The same the other way round.
+/// Three jobs of one site each, of which the third one is held back until the second one is done.
 const LATER_HELD: &Farm = &Farm {
     before: Statics,
     turns: Turns::Held(2, 1),
@@ -104,7 +104,7 @@ const LATER_HELD: &Farm = &Farm {
     linked: Some(&[0, 1, 2]),
 };
 
-/// A job is stale where a call site of its own was retargeted, and then none of its sites gets a link. The others are installed.
+/// A job is stale if a call site of its own was retargeted, and then none of its sites gets a link. The others are installed.
 pub(crate) const BETWEEN: &[Farm] = &[
     Farm {
         before: Dynamics,
@@ -190,7 +190,7 @@ struct Turner<'a, K: Name, R: Wait, S: Wait + Drop> {
     farm: &'static Farm,
     begun: AtomicU64,
     done: AtomicU64,
-    /// How many jobs were told to have come to their outcome while each of their sites had a link.
+    /// How many jobs were told to have their outcome while each of their sites had a link.
     linked: AtomicU64,
     /// Whether the job that another one waits for is done.
     met: AtomicU64,
@@ -246,7 +246,7 @@ impl<'a, K: Name, R: Wait, S: Wait + Drop> Turner<'a, K, R, S> {
         }
     }
 
-    /// Whether each job has passed, and as many were told to have come to their outcome with links as were installed, where no link goes
+    /// Whether each job has passed, and as many were told to have their outcome with links as were installed, if no link goes
     /// meanwhile: an installed job has its links when this is told, and another one has none. And whether as many call sites were
     /// retargeted as the farm says.
     fn is_passed(&self, installed: u64, turned: usize) -> bool {
@@ -344,7 +344,7 @@ fn heard<K: Name>(worker: &mut Worker<K>, job: &Job, outcome: JobOutcome<K>) -> 
     }
 }
 
-/// How many of the jobs were installed. There is to be one report for each job, in order, of its kind, or stale where another one's thread
+/// How many of the jobs were installed. There is to be one report for each job, in order, of its kind, or stale if another one's thread
 /// retargets.
 fn installed<K: Name>(worker: &mut Worker<K>, farm: &Farm, reports: Vec<Report<K>>) -> u64 {
     let mut count = 0u64;

@@ -1,5 +1,5 @@
-//! A server goes over to a fresh one while threads define and call: the fresh book is filled beside the old server, takes over its links and
-//! what it accepts meanwhile, and its own server answers from then on. The threads stop to write for the last entries alone.
+//! A server goes over to a fresh one while threads define and call. The fresh book is filled beside the old server, and takes over its
+//! links and what it accepts meanwhile. The book's own server answers from then on. The threads stop to write for the last entries alone.
 
 ghost use Rattle.std.specs.Prelude.{◌≡◌, []};
 
@@ -131,11 +131,11 @@ const LAST: &[Deed] = &[
 /// How many sites are linked then: 0 to 7, and 9 to 12.
 const LINKS: usize = 12;
 
-/// What it adds in the fresh server, where T is class 3: the call site that was bound to nothing is 1 and is bound at site 12.
+/// What it adds in the fresh server, in which T is class 3: the call site that was bound to nothing is 1 and is bound at site 12.
 const LATER_STILL: &[Deed] = &[Request(3, 15), Bind(12, 1)];
 
-/// Many is class 2 in the fresh server, T 3 and R 4. Loader 3 is 2 and has gone. Site 8 was 9, where the switch point is invalid: T's method
-/// 2 runs. Site 9 is M's. Site 10 was 11, where the switch point is valid; site 11 was 12, where it isn't.
+/// Many is class 2 in the fresh server, T 3 and R 4. Loader 3 is 2 and has gone. Site 8 was 9, whose switch point is invalid: T's method
+/// 2 runs. Site 9 is M's. Site 10 was 11, whose switch point is valid; site 11 was 12, whose one isn't.
 const CALLS: &[CallRow] = &[
     CallRow(0, Some(1), Runs(1, 0), false),
     CallRow(0, Some(4), IsNoReceiver, false),
@@ -219,7 +219,7 @@ impl<K: Name, L: Name, S: Wait + Drop> Drop for Mover<K, L, S> {
     }
 }
 
-/// What the threads share: what they share of the old server, where so many have `come` as have stopped to write, and the fresh one.
+/// What the threads share: what they share of the old server, of which `come` counts those that have stopped to write, and the fresh one.
 #[derive(Drop)]
 struct Renewal<'a, K: Name, L: Name, R: Wait, S: Wait + Drop> {
     old: Shared<'a, K, R, S>,
@@ -275,7 +275,7 @@ fn define_on<K: Name, L: Name, R: Wait, S: Wait + Drop>(
     }
 }
 
-/// Adds in the fresh server what the first writer adds there, and tells whether it was accepted and the call comes to what it must.
+/// Adds in the fresh server what the first writer adds there, and tells whether it was accepted and the call is answered as it must be.
 fn adds_later<K: Name, L: Name, R: Wait, S: Wait + Drop>(
     renewal: &Renewal<'_, K, L, R, S>,
     worker: &mut Worker<L>,
@@ -327,7 +327,7 @@ fn new_number(numbers: &Renumbering, old: u32) -> u32 {
     }
 }
 
-/// The new numbers of A and of the newest classes, where all of them have one.
+/// The new numbers of A and of the newest classes, if all of them have one.
 fn new_numbers<K: Name, L: Name, R: Wait, S: Wait + Drop>(
     renewal: &Renewal<'_, K, L, R, S>,
 ) -> (u32, u32, u32) {
@@ -341,7 +341,7 @@ fn new_numbers<K: Name, L: Name, R: Wait, S: Wait + Drop>(
     }
 }
 
-/// Whether the call comes to this in the fresh server.
+/// Whether the call is answered so in the fresh server.
 fn is_so_later<K: Name, L: Name, R: Wait, S: Wait + Drop>(
     renewal: &Renewal<'_, K, L, R, S>,
     worker: &mut Worker<L>,
@@ -354,7 +354,7 @@ fn is_so_later<K: Name, L: Name, R: Wait, S: Wait + Drop>(
     }
 }
 
-/// Calls in the old server, where it installs now and then, until the writers are to stop.
+/// Calls in the old server, and installs there now and then, until the writers are to stop.
 fn call_and_install<K: Name, L: Name, R: Wait, S: Wait + Drop>(
     renewal: &Renewal<'_, K, L, R, S>,
     worker: &mut Worker<K>,
@@ -433,7 +433,7 @@ fn carries_on<K: Name, L: Name, R: Wait, S: Wait + Drop>(
         && have_links(old, caller, book, numbers, from, LINKS)
 }
 
-/// The numbers, where all comes over into the book.
+/// The numbers, if all comes over into the book.
 fn come_over<K: Name, L: Name, R: Wait, S: Wait + Drop>(
     renewal: &Renewal<'_, K, L, R, S>,
     caller: &mut Caller<K>,
@@ -456,7 +456,7 @@ fn come_over<K: Name, L: Name, R: Wait, S: Wait + Drop>(
     }
 }
 
-/// The server of the book, where all comes over.
+/// The server of the book, if all comes over.
 fn renewed<K: Name, L: Name, R: Wait, S: Wait + Drop>(
     renewal: &Renewal<'_, K, L, R, S>,
     caller: &mut Caller<K>,
@@ -603,7 +603,7 @@ fn is_so<
     }
 }
 
-/// The same of the fresh server's callers and book.
+/// Whether callers of the old server and those of the fresh one, whose book these parts give, do so.
 fn is_opened<'a, K: Name + Send + Sync, L: Name + Send + Sync, R: Threads + Wait + Sync>(
     rt: &'a R,
     alloc: Global,
@@ -625,7 +625,7 @@ fn is_opened<'a, K: Name + Send + Sync, L: Name + Send + Sync, R: Threads + Wait
     }
 }
 
-/// The same of a fresh server of so many sites.
+/// Whether callers of the old server and of a fresh one of `SITES` sites do so.
 fn is_made<'a, K: Name + Send + Sync, R: Threads + Wait + Sync>(
     rt: &'a R,
     alloc: Global,
@@ -641,7 +641,7 @@ fn is_made<'a, K: Name + Send + Sync, R: Threads + Wait + Sync>(
     }
 }
 
-/// The same of the old server of these parts.
+/// Whether callers of the old server of these parts and of a fresh one do so.
 fn is_started<K: Name + Send + Sync, R: Threads + Wait + Sync>(
     rt: &R,
     alloc: Global,

@@ -1,6 +1,6 @@
 //! A storm of retargets, and what threads did at once, done once more by one core, in the order of the serials.
 
-use crate::deeds::{Deed, event, install, sites_of, turned};
+use crate::deeds::{Deed, event, install, sites_from, turned};
 use crate::workers::{Shared, Told, Worker};
 use jl_core::Core;
 use jl_server::Name;
@@ -77,7 +77,7 @@ pub(crate) fn gathered<K: Name>(alloc: Global, workers: &mut [Worker<K>]) -> Opt
 /// The deed's event, made again. An install is of the links as they are in the core.
 fn event_again(alloc: Global, core: &Core, deed: &Deed) -> Option<Event> {
     match deed {
-        Deed::Install(bits) => match &sites_of(alloc, *bits) {
+        Deed::Install(bits) => match &sites_from(alloc, *bits) {
             Ok(sites) => install(core.prepare(alloc, sites.as_slice())),
             Err(_) => None,
         },
@@ -109,7 +109,7 @@ pub(crate) fn are_dense(all: &[Told]) -> bool {
     so
 }
 
-/// Whether the core that does the same in the order of the serials comes to the same, and has the server's links.
+/// Whether the core that does all that in the order of the serials is answered the same, and has the server's links.
 fn is_same<K: Name, R: Wait, S: Wait + Drop>(
     shared: &Shared<'_, K, R, S>,
     worker: &mut Worker<K>,
@@ -150,7 +150,7 @@ pub(crate) fn is_replayed<K: Name, R: Wait, S: Wait + Drop>(
 }
 
 /// Whether no retarget of the storm was refused, and what is accepted for certain was: the first install, and in each stretch those that
-/// nobody disturbs, after which the first change at each of the four call sites takes a link.
+/// nobody disturbs. After these the first change at each of the four call sites takes a link.
 pub(crate) fn are_enough(all: &[Told]) -> bool {
     let (mut retargets, mut installs, mut losses) = (0u64, 0u64, 0u64);
     for told in all {

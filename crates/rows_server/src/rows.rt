@@ -28,9 +28,9 @@ enum Line {
     IsLearned(u32, u32),
     /// The call on an object of the first class runs the second class's method by the memo alone. The second caller calls, or the first.
     IsRemembered(bool, u32, u32),
-    /// What the first one's call comes to, by the server.
+    /// The answer of the server to the first one's call.
     Asks(u32, u32, Says),
-    /// The same, and the memo is told.
+    /// The answer of the server to the first one's call, which the memo is told.
     AsksWith(u32, u32, Says),
     /// What the first one's call is answered at once by the memo.
     CallsWith(u32, Option<u32>, Says),
@@ -169,7 +169,8 @@ const BESIDE: &[Deed] = &[
     Install(2),
 ];
 
-/// The same, where a loader is retired: its site is a miss, and its class no receiver, though the memo has what it remembered.
+/// Calls at megamorphic links, of which a loader is retired: its site is a miss, and its class no receiver, though the memo has what it
+/// remembered.
 const RETIRED: &[Line] = &[
     First(DoesAll(MEGAMORPHIC)),
     First(DoesAll(BESIDE)),
@@ -256,7 +257,7 @@ const RELEASED: &[Line] = &[
     First(Cannot(Install(1))),
 ];
 
-/// The same of M 12 and R 13 by loader 1, M 14 and C 15 by loader 2, beside megamorphic links.
+/// Two loaders that each find a class of the other one: M 12 and R 13 by loader 1, M 14 and C 15 by loader 2, beside megamorphic links.
 const BESIDE_EACH_OTHER: &[Deed] = &[
     Loader,
     Loader,
@@ -424,7 +425,7 @@ impl<'a, K: Name> Pair<'a, K> {
             && self.remembered(0, class) == Some(Outcome::Run(method(declares, 0)))
     }
 
-    /// What the first one's call comes to, by the server.
+    /// The answer of the server to the first one's call.
     fn ask<R: Wait, S: Wait + Drop>(
         &mut self,
         shared: &Shared<'_, K, R, S>,
@@ -439,7 +440,7 @@ impl<'a, K: Name> Pair<'a, K> {
         )
     }
 
-    /// The same, and the memo is told.
+    /// The answer of the server to the first one's call, which the memo is told.
     fn ask_with<R: Wait, S: Wait + Drop>(
         &mut self,
         shared: &Shared<'_, K, R, S>,

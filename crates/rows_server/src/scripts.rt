@@ -2,7 +2,7 @@
 
 use crate::deeds::Deed;
 
-/// What a call comes to, or is answered at once.
+/// The answer to a call, or the answer at once.
 #[derive(Clone, Copy)]
 pub(crate) enum Says {
     /// The first method of the class runs.

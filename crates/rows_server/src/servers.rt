@@ -29,7 +29,7 @@ const RACES: usize = 1000;
 /// How often a farm runs whose threads are to meet in many ways.
 const FARMS: usize = 100;
 
-/// The limits of a server that comes to each of them.
+/// The limits of a server that reaches each of them.
 const FEW: Limits = Limits {
     sites: 1,
     loaders: 2,
@@ -43,7 +43,7 @@ const FEW: Limits = Limits {
 enum Test {
     /// The row of two callers.
     Row(&'static Row),
-    /// The row of two callers of a server that comes to its limits.
+    /// The row of two callers of a server that reaches its limits.
     Full,
     /// The race about the retirement, or about the definition.
     Race(bool),
@@ -142,7 +142,7 @@ fn is_done<K: Name + Send + Sync, R: Threads + Wait + Sync, S: Wait + Drop + Sen
     }
 }
 
-/// Whether all that was accepted has the serials from 1 on, and comes to the same in one core, or is as much as it must be.
+/// Whether all that was accepted has the serials from 1 on, and gives the same in one core, or is as much as it must be.
 fn is_told<K: Name, R: Wait, S: Wait + Drop>(
     shared: &Shared<'_, K, R, S>,
     worker: &mut Worker<K>,
@@ -158,7 +158,7 @@ fn is_told<K: Name, R: Wait, S: Wait + Drop>(
     so && are_dense(told)
 }
 
-/// The same of all that these were told.
+/// Whether all that these were told to be accepted is so.
 fn are_told<K: Name, R: Wait, S: Wait + Drop>(
     shared: &Shared<'_, K, R, S>,
     workers: &mut [Worker<K>],
@@ -228,7 +228,7 @@ fn is_so_on<K: Name + Send + Sync, R: Threads + Wait + Sync, S: Wait + Drop + Se
     }
 }
 
-/// The same on the server of these parts.
+/// Whether the test is so, on the server of these parts, and calls are closed from its end on.
 fn is_so<K: Name + Send + Sync, R: Threads + Wait + Sync>(
     rt: &R,
     alloc: Global,

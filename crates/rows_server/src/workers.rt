@@ -1,6 +1,6 @@
 //! Callers that keep what they are told, and what the threads of a test share.
 
-use crate::deeds::{Deed, event, install, sites_of};
+use crate::deeds::{Deed, event, install, sites_from};
 use crate::scripts::Part;
 use jl_relink::{Snapshot, prepare};
 use jl_server::{Caller, Denied, LinkServer, Memo, Name, Receipt, Seen};
@@ -45,7 +45,7 @@ impl<K: Name> Drop for Worker<K> {
     }
 }
 
-/// What an event was answered, after a list of so many events. It is none where the answer shows another list.
+/// What an event was answered, after a list of so many events. It is none if the answer shows another list.
 type Answered = (u64, Result<Reply, Refusal>);
 
 /// An object of the class, or null.
@@ -117,7 +117,7 @@ impl<K: Name> Worker<K> {
         self.caller.call(SiteNo::new(site), receiver(class))
     }
 
-    /// The same by the memo.
+    /// What a call on an object of the class, or on null, is answered at once by the memo.
     pub(crate) fn call_with(&mut self, memo: &Memo<K>, site: u32, class: Option<u32>) -> Fast {
         self.caller
             .call_with(memo, SiteNo::new(site), receiver(class))
@@ -133,7 +133,7 @@ pub(crate) struct Shared<'a, K: Name, R: Wait, S: Wait + Drop> {
     pub(crate) part: Part,
     /// What one of them tells another one.
     pub(crate) told: Mutex<Option<Seen<K>>>,
-    /// How often one of them has come to where others wait.
+    /// How often one of them has come to a place at which others wait.
     pub(crate) come: AtomicU64,
     /// The newest class that doesn't override A.f, and the newest one that does; 0 before there is one.
     pub(crate) plain: AtomicU64,
@@ -178,7 +178,7 @@ impl<'a, K: Name, R: Wait, S: Wait + Drop> Shared<'a, K, R, S> {
     /// The deed's event, if there is one now.
     pub(crate) fn event(&self, caller: &mut Caller<K>, deed: &Deed) -> Option<Event> {
         match deed {
-            Deed::Install(bits) => match &sites_of(self.alloc, *bits) {
+            Deed::Install(bits) => match &sites_from(self.alloc, *bits) {
                 Ok(sites) => self.install(caller, sites.as_slice()),
                 Err(_) => None,
             },

@@ -13,9 +13,9 @@ use Rattle.jl_farm.specs.declared.report.JobOutcome.{JobOutcome}
 use Rattle.jl_farm.specs.declared.report.JobOutcome.TheVariants as outcome
 use Rattle.jl_farm.specs.declared.worker.Worker.{Worker}
 use Rattle.jl_farm.specs.ForProofs.Queued.{pass_view}
-use Rattle.jl_farm.specs.Reports.{IsShown, sites_of, IsReport, jobs_of, installs_of}
+use Rattle.jl_farm.specs.Reports.{IsShown, job_sites, IsReport, jobs_of, installs_of}
 
--- what a job came to whose links were prepared after the first list, and refused after the second
+-- the outcome of a job whose links were prepared after the first list, and refused after the second
 abbrev pub refused_as : {K : Type 0} → List Entry → List Entry → Refusal → JobOutcome K
 refused_as first second (refusal.Stale s l) = outcome.Stale first second
 refused_as first second (refusal.NotReady s) = outcome.Stale first second
@@ -24,7 +24,7 @@ refused_as first second (refusal.Repeated s) = outcome.Bad second
 refused_as first second refusal.BatchSize = outcome.Bad second
 refused_as first second _ = outcome.Memory
 
--- what a job came to whose sites weren't prepared after this list
+-- the outcome of a job whose sites weren't prepared after this list
 abbrev pub unprepared_as : {K : Type 0} → List Entry → PrepareFault → JobOutcome K
 unprepared_as list (fault.NotReady s) = outcome.NotReady list
 unprepared_as list (fault.UnknownSite s) = outcome.Bad list
@@ -50,7 +50,7 @@ pub record Works {K : Type 0} (limits : Limits) (jobs : List (List ℕ)) (old ne
   pub reports : new.reports.items ≡ old.reports.items ++ more
   pub pass : view new.pass ≡ pass_view (view old.pass).parts (view old.pass).put ((view old.pass).taken ++ jobs_of more)
   pub own : IsPrefix old.caller new.caller
-  pub shown : All (λ report. IsShown limits old.caller (sites_of jobs report.job) report.outcome) more
+  pub shown : All (λ report. IsShown limits old.caller (job_sites jobs report.job) report.outcome) more
   pub once : (serial : ℕ) → installs_of serial more ≤ between (length old.caller) (length new.caller) serial
 
 -- A worker that has just begun, of one of these callers.

@@ -6,7 +6,7 @@ use Rattle.serde_json.specs.Data.{Data, null, boolean, number, string, array, ob
 use Rattle.serde_json.specs.Data.{Items, no_items, item, Members, no_members, member}
 use Rattle.serde_json.specs.Written.{number_text}
 
--- a token is written behind the others
+-- a token is written after the others
 abbrev pub Puts : List Token → List Token → Token → Type 0
 Puts old new t = new ≡ old ++ t ∷ []
 

@@ -25,7 +25,7 @@ pub record Answered {S : Type 0} (says : S → List ℕ → List ℕ → S → T
   pub each : AllByRecursion IsLine lines
   pub answers : AreAnswers says from lines output last
 
--- of the bytes some lines are answered, and the answers stand behind the old ones
+-- of the bytes some lines are answered, and the answers stand after the old ones
 pub record Gathers {S : Type 0} (says : S → List ℕ → List ℕ → S → Type 0) (from : S) (bytes old new : List ℕ) : Type 0 where
   pub done : List ℕ
   pub left : List ℕ
@@ -59,11 +59,11 @@ pub record IsOver (left : List ℕ) : Type 0 where
   pub one : NoNewline left
   pub long : most_in_line < length left
 
--- a line begins here, and memory lacks for its answer
+-- a line begins here, and there is no memory for its answer
 pub record LacksNext {S : Type 0} (says : S → List ℕ → List ℕ → S → Type 0) (last : S) (left : List ℕ) (new : S) : Type 0 where
   pub line : List ℕ
-  pub behind : List ℕ
-  pub is : left ≡ line ++ newline ∷ behind
+  pub later : List ℕ
+  pub is : left ≡ line ++ newline ∷ later
   pub one : NoNewline line
   pub lacks : Lacks says last line new
 
@@ -73,8 +73,8 @@ StopsBy TooLong says last left new = IsOver left × (new ≡ last)
 StopsBy Device says last left new = new ≡ last
 StopsBy Memory says last left new = LacksNext says last left new
 
--- What a run leaves that ends with this fault. This is left to read now, that was unread before the last read, and the writer held the
--- old and holds the new bytes; whether a write failed is said apart.
+-- What a run leaves that ends with this fault. This is left to read now, and that was unread before the last read. The writer held the
+-- old bytes and holds the new ones. Whether a write failed is said apart.
 pub record Leaves {S : Type 0} (says : S → List ℕ → List ℕ → S → Type 0) (from last : S) (start now unread old new : Option (List ℕ))
     (failed : Type 0) (f : LineFault) : Type 0 where
   pub whole : (f ≡ Device → ¬ failed) → IfSome start (λ text. (first : AnswersFirst says from text old new)

@@ -53,7 +53,7 @@ abbrev pub server_of : Option Tag → Option (Book × Limits)
 server_of None = None
 server_of (Some tag) = Some (tag.reached.book, tag.limits)
 
--- the change that a planned event makes, where the list with its entry is this one of the history
+-- the change that a planned event makes, if the list with its entry is this one of the history
 pub record IsChangeOf (b : Book) (plan : Plan) (entries : List Entry) (change : Change) : Type 0 where
   pub slots : change.slots.items ≡ plan.slots
   pub classes : change.classes ≡ length (world_of plan.after).classes.rows

@@ -1,4 +1,4 @@
--- What stands in a server is what its entries come to.
+-- What stands in a server is what its entries lead to.
 use Rattle.std.specs.Prelude.{◌≡◌, List}
 use Rattle.std.proofs.Common.{ap, sym, ◌∙◌, subst}
 use Rattle.jl_types.specs.declared.limits.Limits.{Limits}

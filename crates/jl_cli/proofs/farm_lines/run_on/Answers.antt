@@ -6,7 +6,7 @@ use Rattle.jl_lines.specs.declared.line_fault.LineFault.TheVariants.{Device, Mem
 use Rattle.jl_lines.proofs.FaultLaws.{exactly, risen, read_of}
 use Rattle.jl_cli.specs.Farms.{IsFarmAnswer}
 use Rattle.jl_cli.proofs.FarmEnds.{FarmWhole, farm_lines_first, farm_unwritten, farm_last_fault, farms_all, same_line, no_device}
-use Rattle.jl_cli.proofs.FarmEnds.{lines_earlier, behind_all}
+use Rattle.jl_cli.proofs.FarmEnds.{lines_earlier, after_all}
 use Rattle.jl_cli.proofs.farm_lines.run_on.Goals as goal
 
 pub returns-clause-answered : goal.returns-clause-answered
@@ -77,7 +77,7 @@ returns-in_err-text-clause-read g c = λ e none.
 
 pub returns-in_err-text-clause-memory : goal.returns-in_err-text-clause-memory
 returns-in_err-text-clause-memory g c = λ e more.
-    behind_all g.K.Name.limits c.args.caller.now c.answer_input.new.session (g.R.Source.remaining c.args.reader.now) _
+    after_all g.K.Name.limits c.args.caller.now c.answer_input.new.session (g.R.Source.remaining c.args.reader.now) _
     (g.W.Sink.contents c.args.writer.now) (g.W.Sink.contents c.answer_input.new.writer) (g.W.Sink.contents c.answer_input.new.writer)
     c.requires.fresh c.in_ok-answer_input.ensures.answered.1 (Keeps-refl _)
 
@@ -97,7 +97,7 @@ pub returns-in_err-write_last-clause-memory : goal.returns-in_err-write_last-cla
 returns-in_err-write_last-clause-memory g c = λ e more.
     let f = c.in_err-write_last.field-0.0 in
     let is = same_line c.from_residual-in_err-write_last.result f Memory c.from_residual-in_err-write_last.ensures.1 e in
-    behind_all g.K.Name.limits c.args.caller.now c.answer_input.new.session (g.R.Source.remaining c.args.reader.now) _
+    after_all g.K.Name.limits c.args.caller.now c.answer_input.new.session (g.R.Source.remaining c.args.reader.now) _
     (g.W.Sink.contents c.args.writer.now) (g.W.Sink.contents c.answer_input.new.writer) (g.W.Sink.contents c.write_last.new.writer)
     c.requires.fresh c.in_ok-answer_input.ensures.answered.1
     (c.in_err-write_last.ensures.memory (λ d. let clash : Memory ≡ Device = sym is ∙ d in absurd cc)).1

@@ -2,7 +2,7 @@ use Rattle.std.proofs.Common.{◌≡◌, ◌≢◌, [], ◌∙◌, sym, ap, subs
 use Rattle.jl_lines.specs.declared.line_fault.LineFault.TheVariants.{Device, Memory}
 use Rattle.jl_lines.specs.Lines.{NoNewline}
 use Rattle.jl_lines.specs.ForProofs.Progress.{Writes, StopsBy}
-use Rattle.jl_lines.proofs.LineLaws.{writes, left_behind, lacks_at}
+use Rattle.jl_lines.proofs.LineLaws.{writes, left_after, lacks_at}
 use Rattle.jl_lines.proofs.FaultLaws.{exactly}
 use Rattle.jl_lines.proofs.lines.answer_piece.Goals as goal
 
@@ -37,7 +37,7 @@ returns-clause-answered g c =
     let w = writes _ _ c.args.input.now _ _ _ _ _ gathered.0 c.as_slice.ensures.value c.requires.empty
     c.in_ok-write_to.ensures.written in (
       w.0,
-      c.discard.ensures ∙ left_behind c.args.input.now w.0.done w.0.left c.in_ok-used.used w.0.split
+      c.discard.ensures ∙ left_after c.args.input.now w.0.done w.0.left c.in_ok-used.used w.0.split
           (gathered.1.0 ∙ ap length (sym w.2)),
       subst NoNewline (sym w.1) gathered.1.1,
       gathered.1.2 ∙ sym w.3,

@@ -13,8 +13,8 @@ pub loop-word-preserved : goal.loop-word-preserved
 loop-word-preserved c =
     let word = c.word-item.result in
     let words = c.args.words.now in
-    let behind = drop (c.loop-word.word-index + 1) words in
-    sym (goes_on (string_bytes word) (map string_bytes behind) (search rules) (search rules) (search rules))
-    ∙ ap (λ (x : String Global). has_flag (map string_bytes (x ∷ behind))) c.word-item.is
+    let later = drop (c.loop-word.word-index + 1) words in
+    sym (goes_on (string_bytes word) (map string_bytes later) (search rules) (search rules) (search rules))
+    ∙ ap (λ (x : String Global). has_flag (map string_bytes (x ∷ later))) c.word-item.is
     ∙ ap (λ (left : List (String Global)). has_flag (map string_bytes left)) (sym (drop_more words c.loop-word.word-index word c.loop-word-test.true))
     ∙ c.loop-word.invariant

@@ -20,7 +20,7 @@ loop-line-preserved g c =
       within = omega arith;
       short = omega (arith, line.1, c.loop-line.invariant.short);
       none = tt;
-      gathered = gathers_more _ _ c.answer.new.session _ _ _ _ c.in-Some.line.now c.in-Some.behind.now answer.0 gathered.0
+      gathered = gathers_more _ _ c.answer.new.session _ _ _ _ c.in-Some.line.now c.in-Some.later.now answer.0 gathered.0
           (gathered.1 ∙ c.in-Some.ensures.1) line.0
           (subst (λ s. g.A.Answer.says s c.in-Some.line.now answer.0 c.answer.new.session) gathered.2 answer.1) answer.2;
     }
@@ -40,7 +40,7 @@ returns-clause-gathered g c =
 pub returns-in_err-answer-clause-gathered : goal.returns-in_err-answer-clause-gathered
 returns-in_err-answer-clause-gathered g c =
     let known = c.loop-line.invariant.gathered in
-    let stop = gathers_stop _ _ c.loop-line.session c.answer.new.session _ _ _ _ _ c.in-Some.line.now c.in-Some.behind.now
+    let stop = gathers_stop _ _ c.loop-line.session c.answer.new.session _ _ _ _ _ c.in-Some.line.now c.in-Some.later.now
     known.0 known.1 c.in-Some.ensures.1 c.in-Some.ensures.0 known.2
     c.in_err-answer.ensures.err c.in_err-answer.ensures.lacks in (
       stop.0,
