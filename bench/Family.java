@@ -38,7 +38,7 @@ final class Family {
         return receivers.get(number);
     }
 
-    /** The refusal of the definition, and the parent that it names behind a blank, or null. */
+    /** The refusal of the definition, and the parent that it names after a blank, or null. */
     String refusal(ClassHead made) {
         if (numbers.containsKey(made.name())) {
             return "Define.AlreadyRecorded";

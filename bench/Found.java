@@ -99,7 +99,7 @@ class Found {
         Path file = folder.resolve(name);
         byte[] kept = bytes.length > MOST_BYTES ? Arrays.copyOf(bytes, MOST_BYTES + 1) : bytes;
         if (!Files.isRegularFile(file)) {
-            tell(folder + " lacks " + name);
+            tell(folder + " has no " + name);
         } else if (!Arrays.equals(kept, Files.readAllBytes(file))) {
             tell(folder + " has other bytes of " + name);
         }

@@ -41,7 +41,7 @@ final class Lines {
         return path.getFileName().toString().equals("module-info.class");
     }
 
-    /** The class's name: the path behind /modules/NAME/ and before .class; of a module's file behind /modules/. */
+    /** The class's name: the path after /modules/NAME/ and before .class; of a module's file after /modules/. */
     private static String nameOf(Path path) {
         String text = path.subpath(isModule(path) ? 1 : 2, path.getNameCount()).toString();
         return text.substring(0, text.length() - ".class".length());

@@ -430,7 +430,7 @@ final class Linking {
         for (Object each : rows) {
             List<?> row = Json.list(each);
             int site = row.size() == 2 ? Json.number(row.get(0)) : -1;
-            wrongUnless(site > last, "the row " + row + " stands behind site " + last);
+            wrongUnless(site > last, "the row " + row + " stands after site " + last);
             wrongUnless(site >= 0 && row.get(1).equals(links.get(site)), "what is listed wasn't prepared: " + row);
             last = site;
         }
@@ -441,7 +441,7 @@ final class Linking {
         start();
         String answer = ask("{\"do\":\"define\",\"loader\":0,"
                 + "\"sketch\":{\"name\":\"Last\",\"super\":\"java/lang/Object\",\"flags\":33}}");
-        stop("one more class behind all links", 1, "");
+        stop("one more class after all links", 1, "");
         wrongUnless(answer.equals("{\"class\":" + family.size() + ",\"dropped\":[]}"), "the last class: " + answer);
     }
 

@@ -15,7 +15,7 @@ import java.util.Map;
  * The classes of the running JDK in an order in which they can be defined, for {@code linkd run}.
  *
  * <p>{@code Links lines DIR [MAJOR]} writes DIR/ordered.hex, each class file of at most 1,000,000 bytes as a line of
- * hexadecimal behind its parents, and DIR/ordered.names; MAJOR is as of {@link Lines}. {@code Links run PROGRAM DIR} has
+ * hexadecimal after its parents, and DIR/ordered.names; MAJOR is as of {@link Lines}. {@code Links run PROGRAM DIR} has
  * linkd link them ({@link Linking}). {@code Links jvm DIR} times this JVM loading the classes of DIR/ordered.names.
  */
 final class Links {

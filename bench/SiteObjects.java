@@ -141,7 +141,7 @@ final class SiteObjects {
         tell("sites", sites.size(), requesting);
         tell("links", Math.toIntExact(sites.size() - requested), installing);
         long bytes = usedHeap() - before;
-        System.out.printf("%d link objects; used heap behind a full collection: %.1f MB more, %.0f bytes a site%n",
+        System.out.printf("%d link objects; used heap after a full collection: %.1f MB more, %.0f bytes a site%n",
                 shared.size(), bytes / 1e6, (double) bytes / sites.size());
     }
 

@@ -11,7 +11,7 @@ final class Sketched {
     private Sketched() {}
 
     /**
-     * Writes the class of each line to a file named for it, java/lang/Object aside; or, behind --load, loads the classes
+     * Writes the class of each line to a file named for it, java/lang/Object aside; or, after --load, loads the classes
      * named and prints their superclasses and methods.
      */
     public static void main(String[] words) throws Exception {

@@ -11,7 +11,7 @@
 # ENTRIES (10000000) is how many method entries are looked at in each. These are all deployments of Tomcat with JDK 17, and 16 of 21 with
 # JDK 25. It takes ten minutes a JDK. The reports are left in FOLDER, if it is given, as streams.json, javac.json, loaders.json, dropping.json,
 # tomcat.json and others; those of JAVA2 are in FOLDER/second. It ends with status 0 only where no call differs, at least as many were compared
-# as stand behind each program, and dropped loaders were retired with their classes and sites.
+# as stand after each program, and dropped loaders were retired with their classes and sites.
 set -eu
 top=$(cd "$(dirname "$0")/.." && pwd)
 export LC_ALL=C
@@ -69,7 +69,7 @@ for name in catalina coyote util util-scan juli servlet-api annotations-api jasp
 done
 jars=${jars#:}
 
-# The number behind a key of the report.
+# The number after a key of the report.
 number_of() { sed -nE "s/.*\"$2\":([0-9]+).*/\1/p" "$reports/$1.json"; }
 
 status=0

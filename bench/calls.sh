@@ -30,7 +30,7 @@ PY
     done | sort -g | head -1
 }
 
-# seconds of the calls of a run, the least of five: the world, and the words behind `call`
+# seconds of the calls of a run, the least of five: the world, and the words after `call`
 calling() {
     for _ in 1 2 3 4 5; do
         "$bench" call "${@:2}" < "$work/$1" 2>&1 > /dev/null | sed -n 's/.* answers in \([0-9]*\) us$/\1/p'

@@ -9,7 +9,7 @@
 
     --events N, --seed S            so many lines; the number with which the generator begins, one more at each start
     --after FILE                    what is drawn comes after the commands of this file
-    --without invokers,retire       draws none of these, for a program that lacks them
+    --without invokers,retire       draws none of these, for a program without them
 
 The model follows docs/FORMATS.md and JVMS SE 17 (5.3.5, 5.4.3 to 5.4.6, 6.5) and shares nothing with the crates: plain functions
 over the classes, places, call sites and switch points that there are. It links each installed site from scratch after each event,

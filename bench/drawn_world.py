@@ -19,7 +19,7 @@ def text_of(value):
     return json.dumps(value, sort_keys=True, separators=(",", ":"))
 
 
-# ---- sketches, a file that is none, and files that are refused, by the tables of docs/FORMATS.md
+# ---- sketches, a file that is none, and files that are refused, by the lists of docs/FORMATS.md
 
 
 def sketch(name="A", flags=33, superclass=OBJECT, methods=(), **more):

@@ -49,7 +49,7 @@ build_c "$work/first" "$host/first.c"
 valgrind -q --leak-check=full --error-exitcode=99 "$work/first" | tee "$work/told.txt"
 diff "$work/told.txt" - <<'TOLD'
 on a B the method of A runs
-behind C's definition 1 link is gone
+after C's definition 1 link is gone
 on a B the method of A runs
 on a C the method of C runs
 TOLD

@@ -1,5 +1,5 @@
 #!/usr/bin/env python3
-"""Compares what words ask of `linkd`, how it takes lines, and how it ends with the tables of docs/FORMATS.md, "Lines", "Reports" and
+"""Compares what words ask of `linkd`, how it takes lines, and how it ends with the lists of docs/FORMATS.md, "Lines", "Reports" and
 "Usage": its answers, its exit status, and its line on the standard error. Each usage is held to the options that the documents name, to
 docs/linkd.1 and to the version of tools/install.sh, and its examples are run.
 
@@ -195,7 +195,7 @@ def helps(rows, program):
         wanted = options_in(section(OPTIONS_IN[topic])) if topic in OPTIONS_IN else set()
         told = f"the usage of {topic!r}"
         rows.expect(f"{told}, its first line", text.partition("\n")[0], f"linkd {version}")
-        rows.expect(f"{told}, the options that it lacks", wanted - named, set())
+        rows.expect(f"{told}, the options that are missing in it", wanted - named, set())
         rows.expect(f"{told}, its call", text.partition("\nUsage: ")[2].startswith(f"linkd {topic}".strip()), True)
         rows.expect(f"{told}, whether it says what prints it", f"`linkd {topic or 'COMMAND'} --help`" in text, True)
         examples(rows, program, text)

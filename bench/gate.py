@@ -4,7 +4,7 @@
     bench/gate.py [--anew] [NAME..]     as rt ci
 
 Its own lines begin with `gate:`: as each ends, the seconds of processor of a crate's proof, of its tests' proof, or of a wrong body
-(where a crate has more than one, of the check that they begin with and the one behind them, too); in the end the sums by crate and by
+(where a crate has more than one, of the check that they begin with and the one after them, too); in the end the sums by crate and by
 kind, with the time by the clock. Tests and programs that are run count as runs. What an earlier run has proved takes nothing, so
 a whole measure wants --anew. RT_JOBS tasks run side by side; bind it by taskset to measure fewer processors.
 

@@ -3,7 +3,7 @@
    which a call returns. Each of them but free of memory that is there.
 
        GROWTHS_AT=n      refuses the n-th growth, from 1
-       GROWTHS_FROM=n    refuses the n-th and all behind it
+       GROWTHS_FROM=n    refuses the n-th and all after it
        GROWTHS_INTO=FILE the file gets how many growths there were, and how many were refused: two numbers of eight bytes
 
    It needs the GNU C library, for the names of its own functions. */

@@ -11,7 +11,7 @@ Of linkd, whose lines are answers, it is one of
 - as without refusals.
 Of linkd farm, whose last line tells links and reports, it may also be one where
 - the reports of some jobs are "Memory", their sites have no links, and all else is as without refusals;
-- it ended with status 1 behind all answers, and has no last line.
+- it ended with status 1 after all answers, and has no last line.
 Where all growths are refused from one on, such lines may stand before the status 4, too.
 Which line of linkd wanted the memory is told by the growths of runs of the first lines alone: no line before it is answered Memory, and
 where the run ends with status 4 each of these is answered.
@@ -292,7 +292,7 @@ class Tally:
 
 
 def cell(place, alone, together):
-    """The growths of a call: those that were refused with all behind them, and how many of them didn't matter alone."""
+    """The growths of a call: those that were refused with all after them, and how many of them didn't matter alone."""
     retried = together[place] - alone[place]
     return f"{together[place]}" + (f" ({retried} asked again)" if retried else "")
 

@@ -6,7 +6,7 @@
 Five class files are changed: each byte to each of its 255 other values, and 100,000 pairs of bytes of each, which a generator draws.
 Without --all a tenth of these 618,575 are taken: where the sum of a place and its byte is a multiple of 10, and each tenth pair.
 
-Of each changed file, of the file with one byte more behind it and with one byte less, `linkd scan` has to answer what the class shows, or
+Of each changed file, of the file with one byte more after it and with one byte less, `linkd scan` has to answer what the class shows, or
 the fault with its numbers; `linkd run`, asked to define it where no class is defined, the same fault, or that the superclass is missing,
 by its name. A file that is accepted is then said as a sketch: `linkd sketch` has to answer the bytes of its class file, or why it has
 none, and `linkd scan` of these bytes shows the same but for the pcs. And the file without what isn't looked at (other attributes than
@@ -102,7 +102,7 @@ def read(data):
 
 
 class Pool:
-    """Constants, each once, behind those that it names."""
+    """Constants, each once, after those that it names."""
 
     def __init__(self):
         self.numbers, self.bytes = {}, b""
@@ -141,8 +141,8 @@ def lengthy(data):
 
 def written_call(pool, site):
     _, kind, operand = site
-    behind = {3: bytes([slots_of(operand[-1]) + 1, 0]), 4: b"\0\0"} if kind > 2 else {}
-    return bytes([182 + kind]) + pool.operand(kind, operand) + behind.get(kind, b"")
+    after = {3: bytes([slots_of(operand[-1]) + 1, 0]), 4: b"\0\0"} if kind > 2 else {}
+    return bytes([182 + kind]) + pool.operand(kind, operand) + after.get(kind, b"")
 
 
 def written_method(pool, method):
@@ -315,8 +315,8 @@ class Tally:
         given = "".join(line + "\n" for line, _ in lines).encode()
         for program in self.programs if lines else ():
             ran = subprocess.run([program, mode], input=given, capture_output=True, timeout=SECONDS)
-            *answers, behind = ran.stdout.decode().split("\n")
-            if (ran.returncode, ran.stderr, behind, len(answers)) != (0, b"", "", len(lines)):
+            *answers, after = ran.stdout.decode().split("\n")
+            if (ran.returncode, ran.stderr, after, len(answers)) != (0, b"", "", len(lines)):
                 self.tell(f"{program} {mode}: status {ran.returncode}, {len(answers)} answers to {len(lines)} lines, {ran.stderr}")
             for (line, answer), came in zip(lines, answers):
                 if came != answer:

@@ -145,7 +145,7 @@ static uint32_t release(void) { return linkd_release(at, (uint32_t[]){1, 0}, 2, 
 static uint32_t catch_up(void) { return linkd_catch_up(at); }
 static uint32_t count_present(void) { return linkd_counts_present(at, &(linkd_count){0}); }
 
-/* Behind C and the invalidation what was prepared before is stale. The second event behind a view is the one that copies. */
+/* After C and the invalidation what was prepared before is stale. The second event after a view is the one that copies. */
 static const struct {
     const char *name;
     uint32_t (*ask)(void);

@@ -8,7 +8,7 @@
 # notes each method that is entered from the time when the JVM is ready, and the method above it. All have to be reachable from `main` and
 # from what HotSpot calls by itself, but for those that examples/reachable/compare.py puts aside: it counts them by reason. The graph is made
 # a second time, from these, too. It has to have each method that isn't aside, and each pair of a method and one that its invocation called.
-# What the program never makes must not be reachable. A graph that lacks a root, or the files, has to be found wanting.
+# What the program never makes must not be reachable. A graph without a root, or without the files, has to be found wanting.
 # REPORT is a file in which the report is kept; where it is there already, it is taken. It takes a minute, with a sanitized PROGRAM half an
 # hour, and ends with status 0 only where all is as it must be.
 set -eu
@@ -47,7 +47,7 @@ graph() {
 wanting() {
     graph poor "$@"
     if "$top/examples/reachable/compare.py" "$report" poor entries > said 2> missing; then
-        echo "a graph that lacks something was found whole: $*" >&2
+        echo "a graph that misses something was found whole: $*" >&2
         status=1
     fi
     echo "found wanting, as it must be, by $(wc -l < missing) lines: $*"

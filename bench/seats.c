@@ -218,7 +218,7 @@ static uint64_t sum_of_all;
 
 static struct spent { double start, end; } spent[MOST_THREADS];
 
-/* A memo that was asked for all that is called, where calls at memos are measured, behind the lock. */
+/* A memo that was asked for all that is called, where calls at memos are measured, under the lock. */
 static linkd_memo *new_memo(void) {
     linkd_memo *memo = block(linkd_memo_size(), linkd_memo_align());
     linkd_memo_blank(memo);
@@ -408,8 +408,8 @@ static void measure_refresh(long events) {
     }
     printf("%d sites installed of %u that may be, %ld events that change one link, the middle of each\n", SITES, room, events);
     tell("a new target, and its site installed", making, events);
-    tell("a refresh behind that", refreshing, events);
-    tell("a refresh behind nothing", again, events);
+    tell("a refresh after that", refreshing, events);
+    tell("a refresh after nothing", again, events);
     linkd_seat_leave(seat);
     free(seat);
 }

@@ -110,7 +110,7 @@ static void install_all(linkd *at, uint32_t count) {
     }
 }
 
-/* A loader with eight classes, of these names and those behind them in the alphabet. */
+/* A loader with eight classes, of these names and those after them in the alphabet. */
 static uint32_t come(linkd *at, char name) {
     must(linkd_new_loader(at, &told) == LINKD_DONE, "new_loader");
     uint32_t loader = told.number;

@@ -1,11 +1,11 @@
 #!/usr/bin/env bash
-# Tells what an event takes behind 65,536 installed links and behind none, and what one takes that touches 1, 64 or 4,096 of them.
+# Tells what an event takes after 65,536 installed links and after none, and what one takes that touches 1, 64 or 4,096 of them.
 #
 #     bench/touched.sh PROGRAM       PROGRAM is a built linkd
 #
 # EVENTS (60,000, at most 65,000) is how many definitions are timed, and ten times as many new targets and invalidations. Each time is that
 # of a run with them less that of the same run without, by processor, the least of five. It ends with status 0 only where events that touch no
-# site take at most MOST (1.5) times as long behind the links. It needs GNU time.
+# site take at most MOST (1.5) times as long after the links. It needs GNU time.
 set -eu
 program=${1:?a built linkd}
 events=${EVENTS:-60000}
@@ -75,16 +75,16 @@ linked=$(seconds "$work/linked")
 bare=$(seconds "$work/bare")
 echo "65,536 sites: $bare s requested, $linked s with their links"
 
-echo "== events that touch no site: seconds behind 65,536 links and behind none"
+echo "== events that touch no site: seconds after 65,536 links and after none"
 for kind in java/lang/Object target invalidate; do
     count=$events
     if [ "$kind" != java/lang/Object ]; then count=$((10 * events)); fi
     more "$kind" "$count" > "$work/more"
     cat "$work/linked" "$work/more" > "$work/all"
-    behind=$(seconds "$work/all")
+    after=$(seconds "$work/all")
     cat "$work/bare" "$work/more" > "$work/all"
     alone=$(seconds "$work/all")
-    awk -v kind="$kind" -v n="$count" -v a="$behind" -v b="$linked" -v c="$alone" -v d="$bare" -v most="${MOST:-1.5}" 'BEGIN {
+    awk -v kind="$kind" -v n="$count" -v a="$after" -v b="$linked" -v c="$alone" -v d="$bare" -v most="${MOST:-1.5}" 'BEGIN {
         printf "%d of %s: %.2f and %.2f, ratio %.2f\n", n, kind == "java/lang/Object" ? "define" : kind, a - b, c - d, (a - b) / (c - d)
         exit ((a - b) / (c - d) > most)
     }' || status=1
@@ -95,7 +95,7 @@ for row in "D 1" "C 64" "B 4096"; do
     set -- $row
     more "$1" 256 > "$work/more"
     cat "$work/linked" "$work/more" > "$work/all"
-    behind=$(seconds "$work/all")
-    awk -v n="$2" -v a="$behind" -v b="$linked" 'BEGIN { printf "%d: %.3f ms\n", n, 1000 * (a - b) / 256 }'
+    after=$(seconds "$work/all")
+    awk -v n="$2" -v a="$after" -v b="$linked" 'BEGIN { printf "%d: %.3f ms\n", n, 1000 * (a - b) / 256 }'
 done
 exit $status

@@ -69,7 +69,7 @@ counted() {
     grep -c "^rt: must-fail [^ ]*: $1" ci.txt || true
 }
 
-# The lines behind a verdict say more of an edit that isn't one.
+# The lines after a verdict say more of an edit that isn't one.
 grep -A3 --no-group-separator -E '^rt: must-fail [^ ]*: (NOT|BAD)' ci.txt || true
 tried=$(ls crates/*/must-fail/*.edit | wc -l)
 refused=$(counted refused) passed=$(counted 'NOT REFUSED') bad=$(counted 'BAD EDIT')

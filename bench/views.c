@@ -1,6 +1,6 @@
 /* What a compiler's calls take: views, preparations in them, and installs by value, beside linkd_install under a mutex.
  *
- *     views calls              by one thread, the middle of 101: a view and the events behind it, preparations, and installs
+ *     views calls              by one thread, the middle of 101: a view and the events after it, preparations, and installs
  *     views threads [BATCHES]  by 1 and 4 threads that compile, beside one that defines: BATCHES (200) of 1 and of 256 sites, each thread;
  *                            the middle of three rounds
  *
@@ -175,9 +175,9 @@ static void measure_calls(double first_installs) {
     double alone = measure(nothing, event, nothing), one = measure(nothing, install_one, nothing);
     double many = measure(nothing, install_many, nothing);
     tell("an event without a view", alone);
-    tell_ratio("a view taken behind an event", measure(event, take, nothing), alone, "the event");
+    tell_ratio("a view taken after an event", measure(event, take, nothing), alone, "the event");
     leave();
-    tell_ratio("the first event behind a view that stands", measure(take, event, leave), alone, "the event");
+    tell_ratio("the first event after a view that stands", measure(take, event, leave), alone, "the event");
     tell_ratio("the second one", measure(take_and_event, event, leave), alone, "the event");
     take();
     double prepared_one = measure(nothing, prepare_one, nothing), prepared_many = measure(nothing, prepare_many, nothing);

@@ -1,5 +1,5 @@
 #!/usr/bin/env bash
-# Tells what a compiler's calls take by C: a view and the events behind it, preparations in it, and installs by value, beside linkd_install
+# Tells what a compiler's calls take by C: a view and the events after it, preparations in it, and installs by value, beside linkd_install
 # under a mutex, by one thread, and by 1 and 4 beside one that defines.
 #
 #     bench/views.sh

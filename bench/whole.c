@@ -1,5 +1,5 @@
 /* Has a linker of the library for C define classes, request all of their invocations, install each link that there is, and take events; and
- * a second linker take the same events behind the requests alone.
+ * a second linker take the same events after the requests alone.
  *
  *     whole INPUT LINKS BOUND [LATE..]
  *
@@ -9,10 +9,10 @@
  * first two methods are static ones ()V and whose third begins with an invokedynamic ()V. Each LATE is one of a class below java/lang/Object
  * or java/util/ArrayList, which comes in a loader of its own, and goes with it.
  *
- * A step is told with its count, its seconds, and the megabytes that are resident behind it; then how many links there are of each kind. Of
+ * A step is told with its count, its seconds, and the megabytes that are resident after it; then how many links there are of each kind. Of
  * an event it tells how many links go, and the microseconds of the middle one of nine, of the fastest and of the slowest, and those of a
- * seat's refresh behind it. Links that went are installed again before the next event, but not between a class and its loader's retirement.
- * An answer that is wrong ends it with status 1: a seat, too, answers each call on null and each row of a table as the linker, and behind
+ * seat's refresh after it. Links that went are installed again before the next event, but not between a class and its loader's retirement.
+ * An answer that is wrong ends it with status 1: a seat, too, answers each call on null and each row of a table as the linker, and after
  * the events all links are as before.
  */
 #define _POSIX_C_SOURCE 200809L
@@ -404,8 +404,8 @@ static void print_times(double *times) {
 }
 
 static void print_events(void) {
-    printf("microseconds: the middle, the least, the most\n%-44s%9s |%30s |%30s |%30s\n", "", "links go", "behind all links", "a refresh then",
-           "behind none");
+    printf("microseconds: the middle, the least, the most\n%-44s%9s |%30s |%30s |%30s\n", "", "links go", "after all links", "a refresh then",
+           "after none");
     for (struct event *event = events; event < events + event_count; event++) {
         printf("%-44s%9zu", event->name, event->dropped[BEHIND_ALL]);
         print_times(event->taken[BEHIND_ALL]);
@@ -452,7 +452,7 @@ static void link_all(size_t requested, const char *path) {
 }
 
 static void behind_all(FILE *input, char **words, int count) {
-    puts("behind all links:");
+    puts("after all links:");
     phase = BEHIND_ALL;
     size_t requested = open_linker(input, words[3]);
     link_all(requested, words[2]);
@@ -460,12 +460,12 @@ static void behind_all(FILE *input, char **words, int count) {
     must(install(&dynamic, 1) == 1, "the bound site has no link");
     started = now();
     measure_events(words + 4, count - 4);
-    must(sum == sum_of_links(requested), "behind the events links aren't as before");
+    must(sum == sum_of_links(requested), "after the events links aren't as before");
     close_linker();
 }
 
 static void behind_none(FILE *input, char **words, int count) {
-    puts("behind none:");
+    puts("after none:");
     phase = BEHIND_NONE;
     open_linker(input, words[3]);
     started = now();

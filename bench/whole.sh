@@ -1,7 +1,7 @@
 #!/usr/bin/env bash
 # Has one linker take every invocation of a JDK, with all classes defined, all invocations requested and all links installed: a host in C
 # (whole.c), a core of Rattle (`bench link`) and a server of Rattle (`bench farm`). Told are seconds and the megabytes that are resident; of
-# the host also what events take behind all links and behind none. Beside them stands a Java program that keeps an object for each site.
+# the host also what events take after all links and after none. Beside them stands a Java program that keeps an object for each site.
 #
 #     bench/whole.sh LINKD BENCH
 #

@@ -21,7 +21,7 @@ static struct {
 
 static void warn(const char *what, const char *more) { fprintf(stderr, "linkd: %s%s\n", what, more); }
 
-/* ---- the words behind the agent's path */
+/* ---- the words after the agent's path */
 
 static void read_entries(const char *word) {
     char *end = NULL;

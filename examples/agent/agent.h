@@ -1,4 +1,4 @@
-/* What the parts of the agent share. All but reading a seat is done behind the lock of `world`. */
+/* What the parts of the agent share. All but reading a seat is done under the lock of `world`. */
 #ifndef LINKD_AGENT_H
 #define LINKD_AGENT_H
 
@@ -26,7 +26,7 @@ struct table {
 };
 
 void *table_find(const struct table *table, const void *probe);
-/* Adds an item that isn't there yet; false where memory lacks. */
+/* Adds an item that isn't there yet; false if there is no memory. */
 bool table_add(struct table *table, void *item);
 /* Takes each item out for which `let_go` says so; that may free it. Takes no memory. */
 void table_sweep(struct table *table, bool (*let_go)(void *item));
@@ -158,7 +158,7 @@ struct refusal {
 struct world {
     pthread_mutex_t lock;
     jvmtiEnv *jvmti;
-    linkd *linker;                /* null before the agent is loaded, and behind its report */
+    linkd *linker;                /* null before the agent is loaded, and after its report */
     atomic_uint_fast64_t changes; /* accepted events: a seat that has seen fewer is behind */
     struct class **classes;       /* by their tags; null where one is gone */
     uint32_t class_count, class_room;
@@ -182,9 +182,9 @@ void close_world(void);
 void keep_file(JNIEnv *jni, jobject loader, const char *name, const uint8_t *bytes, size_t length);
 /* The class has other code now. */
 void forget_class(jclass from);
-/* The class, which goes to the linker first where that hasn't it yet; null where memory lacks. */
+/* The class, which goes to the linker first where that hasn't it yet; null if there is no memory. */
 struct class *class_of(JNIEnv *jni, jclass from);
-/* The class's defining loader; null where memory lacks. */
+/* The class's defining loader; null if there is no memory. */
 struct loader *loader_of(JNIEnv *jni, jclass from);
 /* Tells JNI that JVM TI has handed out so many local references, which are let go one by one. */
 void expect_references(JNIEnv *jni, jint count);
@@ -204,7 +204,7 @@ void keep_dropper(struct dropper *droppers, const char *name, uint32_t dropped);
 
 /* Notes it. The collector may be at work, so it takes no lock and no memory, and asks nobody. */
 void JNICALL on_object_free(jvmtiEnv *jvmti, jlong tag);
-/* Behind the lock: retires what the machine has collected. */
+/* Under the lock: retires what the machine has collected. */
 void retire_collected(JNIEnv *jni);
 /* What holds a loader that the linker doesn't retire, by the place of the refusal. */
 void name_holder(char *out, size_t length, uint32_t fault, uint32_t place);

@@ -69,7 +69,7 @@ bool open_calls(void) {
     return calls.sites != NULL && pthread_key_create(&place_key, leave) == 0;
 }
 
-/* This thread's, or null where memory lacks. */
+/* This thread's, or null if there is no memory. */
 static struct place *own_place(void) {
     struct place *place = pthread_getspecific(place_key);
     if (place != NULL) return place;
@@ -86,7 +86,7 @@ static struct place *own_place(void) {
     return place;
 }
 
-/* Behind the lock: the seat reads the links of now. */
+/* Under the lock: the seat reads the links of now. */
 static bool refresh(struct place *place) {
     uint64_t changes = atomic_load(&world.changes);
     if (place->seen == changes) return true;
@@ -258,7 +258,7 @@ static enum left_out invoked_here(const struct call *call) {
     return named ? COMPARED : BY_THE_MACHINE;
 }
 
-/* Behind the lock: the site of the call is linked, and its receiver is a class of the linker. */
+/* Under the lock: the site of the call is linked, and its receiver is a class of the linker. */
 static enum left_out prepare(struct call *call, jmethodID caller, jmethodID method) {
     call->caller = method_of(call->jni, caller);
     call->method = method_of(call->jni, method);
@@ -283,7 +283,7 @@ static const struct class *class_numbered(uint32_t number) {
     return NULL;
 }
 
-/* Behind the lock. */
+/* Under the lock. */
 static void tell_difference(const struct call *call, const linkd_call_answer *answer) {
     const struct class *of = answer->kind == LINKD_RUN ? class_numbered(answer->class_number) : NULL;
     const struct invocation *named = &call->site->named;

@@ -24,7 +24,7 @@ static const char *const reasons[REASONS] = {
     [NOT_IN_FILE] = "a method that the class file hasn't",
     [SITES_FULL] = "all sites are taken",
     [REFUSED_SITE] = "a site that the linker has refused",
-    [UNLINKED] = "unlinked: the linker lacks a class",
+    [UNLINKED] = "unlinked: a class is missing in the linker",
     [NOT_TOLD] = "the machine or the linker doesn't tell",
     [NO_MEMORY] = "want of memory",
 };
@@ -76,7 +76,7 @@ static struct counts count_all(void) {
 
 static uint64_t loaded(atomic_uint_fast64_t *count) { return atomic_load(count); }
 
-/* Entries behind the last one that was looked at aren't counted. */
+/* Entries after the last one that was looked at aren't counted. */
 static uint64_t entries(void) {
     uint64_t seen = loaded(&calls.entries);
     return seen < calls.most ? seen : calls.most;

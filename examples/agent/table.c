@@ -40,7 +40,7 @@ bool table_add(struct table *table, void *item) {
     return true;
 }
 
-/* Empties a slot, and moves those behind it that were pushed on by it. */
+/* Empties a slot, and moves those after it that were pushed on by it. */
 static void take_out(struct table *table, size_t hole) {
     size_t mask = table->capacity - 1;
     for (size_t at = (hole + 1) & mask; table->slots[at] != NULL; at = (at + 1) & mask) {

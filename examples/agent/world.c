@@ -149,7 +149,7 @@ static struct loader *new_loader(JNIEnv *jni, jobject object) {
     return loader;
 }
 
-/* Null where memory lacks. */
+/* Null if there is no memory. */
 static struct loader *loader_of_object(JNIEnv *jni, jobject object) {
     jlong tag = 0;
     if (object == NULL) return &bootstrap;

@@ -66,7 +66,7 @@ static inline void let_file_go(struct file *file) {
     free(file->bytes);
 }
 
-/* Requests the invocations of a class, by one thread at a time, and counts the sites, which are numbered one behind another. Gives how many
+/* Requests the invocations of a class, by one thread at a time, and counts the sites, which are numbered one after another. Gives how many
  * are never linkable. */
 static inline uint32_t request_all(linkd *linker, uint32_t class_number, uint32_t *sites) {
     static linkd_invocation invocations[65536]; /* a code has fewer bytes (Java Virtual Machine Specification, SE 17, 4.7.3) */

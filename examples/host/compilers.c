@@ -21,7 +21,7 @@
 
 enum { COMPILERS = 4, CALLERS = 2, CHANGES = 60, MOST_LOADERS = 9, MOST_SITES = 4096, BATCH = 8, CALLS = 64, MOST_ROUNDS = 50 };
 
-/* Of loader 0, each behind its parents; Main's calls are requested there, too, and some of them wait for a Triangle for ever. */
+/* Of loader 0, each after its parents; Main's calls are requested there, too, and some of them wait for a Triangle for ever. */
 static const char *const NAMES[] = {"Object", "Measured", "Shape", "Circle", "Square", "Main", "Chosen"};
 enum { MAIN = 5, NAMED = 7, DELEGATED = 5 };
 
@@ -420,7 +420,7 @@ int main(int argc, char **argv) {
     }
     bool all_seen = seen.at_once && seen.later && seen.stale && seen.gone && seen.calls > seen.missed;
     must(all_seen, NOTHING_SHOWN, "an outcome was never seen, in rounds", round);
-    printf("%u rounds of %d compilers: %lu installs accepted at once, %lu stale, %lu accepted behind that; %lu sites gone meanwhile\n",
+    printf("%u rounds of %d compilers: %lu installs accepted at once, %lu stale, %lu accepted after that; %lu sites gone meanwhile\n",
            round, COMPILERS, seen.at_once, seen.stale, seen.later, seen.gone);
     printf("%lu calls at seats held to the linker's answers, %lu of them missed\n", seen.calls, seen.missed);
     for (int i = 0; i < NAMED; i++) let_file_go(&files[i]);

@@ -54,7 +54,7 @@ int main(void) {
     call(at, site, b, "a B");
     uint32_t c = define(at, "C", BELOW("A") DECLARES_F);
     done(linkd_dropped(at, &dropped, 1, &length)); /* the site: the code that was compiled by its link goes */
-    printf("behind C's definition %lu link is gone\n", (unsigned long)length);
+    printf("after C's definition %lu link is gone\n", (unsigned long)length);
     done(linkd_install(at, &site, 1, &told));
     call(at, site, b, "a B");
     call(at, site, c, "a C");

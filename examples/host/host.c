@@ -66,7 +66,7 @@ static bool define(struct class_of *class) {
     return true;
 }
 
-/* Defines all classes, each behind its parents: what has a parent that isn't there yet is tried again. */
+/* Defines all classes, each after its parents: what has a parent that isn't there yet is tried again. */
 static void define_all(void) {
     size_t left = all_count, before = 0;
     for (size_t i = 0; i < all_count; i++) all[i].defined = false;

@@ -7,7 +7,7 @@
  * fresh linker of what stays, all under one lock. So another class has a number that was a Triangle's, which overrides what a Square
  * doesn't. Each call of each site that stays, on null and on each class that stays, has to be answered by the fresh linker as by the old
  * one, under the new numbers; then the old one is closed. Beside it four threads call, at seats and by memos of their own. At its next
- * safepoint behind a change, which a count tells, a thread refreshes its seat; where the linker is another one it also opens its memo anew,
+ * safepoint after a change, which a count tells, a thread refreshes its seat; where the linker is another one it also opens its memo anew,
  * and from then on it calls by the new numbers. Each of its answers is held to linkd_call where the count hasn't moved meanwhile. There are
  * ROUNDS (200). Where a check fails the program says which on standard error, and ends with a status of its own.
  */
@@ -19,7 +19,7 @@
 
 enum { THREADS = 4, LOADERS = 10, MOST_SITES = 4096, CALLS = 64, MEMO_SETS = 1024 };
 
-/* Of loader 0, each behind its parents; the first ones are delegated to each other loader. */
+/* Of loader 0, each after its parents; the first ones are delegated to each other loader. */
 static const char *const NAMES[] = {"Object", "Measured", "Shape", "Circle", "Square", "Main"};
 enum { SQUARE = 4, MAIN = 5, NAMED = 6 };
 
