@@ -1,5 +1,5 @@
 #!/usr/bin/env python3
-"""Compares what words ask of `linkd`, how it takes lines, and how it ends with the lists of docs/FORMATS.md, "Lines", "Reports" and
+"""Compares what words ask of `linkd`, how it takes lines, and how it ends with the lists of docs/REPORTS.md and of docs/FORMATS.md, "Lines" and
 "Usage": its answers, its exit status, and its line on the standard error. Each usage is held to the options that the documents name, to
 docs/linkd.1 and to the version of tools/install.sh, and its examples are run.
 
@@ -75,7 +75,7 @@ SAID = {
     "report": ("PATH",),
     "report / --html /p.html": ("/p.html", "'/'"),
 }
-# Words that ask for help, by the subcommand whose usage it is, if any; and the sections of docs/FORMATS.md that name its options.
+# Words that ask for help, by the subcommand whose usage it is, if any; and the section of docs/FORMATS.md, or the page, that names its options.
 HELP = {
     "": ", help, --help, -h, help help, help unknown, help -- scan, help --help, --help scan, -h report /, --workers 4 --help, sc --help",
     "scan": "help scan, scan help, scan --help, scan -h, scan help run, scan x --help, help scan --, help scan x, scan --help -- x",
@@ -164,8 +164,9 @@ def usage(rows, program, topic):
 
 
 def section(name):
-    """The section of docs/FORMATS.md."""
-    return (TOP / "docs/FORMATS.md").read_text().split(f"\n## {name}\n")[1].split("\n## ")[0]
+    """The section of docs/FORMATS.md, or the page that has it alone."""
+    page = TOP / f"docs/{name.upper()}.md"
+    return page.read_text() if page.exists() else (TOP / "docs/FORMATS.md").read_text().split(f"\n## {name}\n")[1].split("\n## ")[0]
 
 
 def options_in(text):
