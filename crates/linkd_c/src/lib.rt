@@ -10,7 +10,6 @@ ghost use Rattle.jl_host.specs.Linkers.{Opened, IsOpen, IsOpenWith, limits_of, I
 ghost use Rattle.jl_host.specs.Linkers.{IsSetTarget, IsNewSwitch, IsInvalidate, IsBind, IsInstall, IsDropped, IsCall, IsLinkOf, IsAnswer, IsTake};
 ghost use Rattle.jl_host.specs.Seats.{SeatView, IsRefresh, IsSeatCall, IsSeatAnswer};
 ghost use Rattle.jl_host.specs.Memos.{IsMemoOpen, IsMemoAsk, IsMemoCall, IsSeatCallWith};
-ghost use Rattle.jl_host.specs.Asking.{IsLookup, IsClassName, IsMethodName, IsMethodType, IsInvocations, IsRefusedName, IsAwaited};
 ghost use Rattle.jl_host.specs.Targets.{IsNewCallSiteOf, IsSetTargetOf};
 ghost use Rattle.jl_host.specs.Views.{IsViewTake, IsViewCall, IsViewSerial, IsViewPrepare, IsInstallLinks};
 ghost use Rattle.jl_host.specs.Renewals.{IsCounts, IsCountsPresent, IsRenew, arrays_of, released_of};
@@ -21,6 +20,7 @@ ghost use Rattle.linkd_c.specs.Handle.{seat_at, seat_left, both_left, seat_room,
 ghost use Rattle.linkd_c.specs.Handle.{memo_at, memo_left, asked_left, called_left, memo_room, memo_bytes, memo_multiple};
 ghost use Rattle.linkd_c.specs.Handle.{view_at, view_left, taken_left, view_room, view_bytes, view_multiple};
 
+mod asked;
 mod calls;
 mod handles;
 mod renewals;
@@ -28,9 +28,7 @@ mod retirements;
 mod work;
 
 pub use handles::{Linkd, LinkdMemo, LinkdRenewal, LinkdSeat, LinkdView};
-use jl_host::{
-    CallAnswer, Counts, Invocation, LinkRow, LinkShown, Linker, Memo, Seat, TargetPart, Told, View,
-};
+use jl_host::{CallAnswer, Counts, LinkRow, LinkShown, Linker, Memo, Seat, TargetPart, Told, View};
 use std::alloc::Global;
 
 /// Which header the library is of: LINKD_VERSION there.
@@ -352,113 +350,6 @@ pub unsafe extern "C" fn linkd_link_of(at: *mut Linkd, site: u32, link: &mut Lin
     ensures* { sem 𝓛 (linker_left at (λ new. IsLinkOf site old link.old result link.new new)) }
 {
     (*(at as *mut Linker)).link_of(site, link)
-}
-
-/// The class that the loader finds under the name. Takes no memory.
-#[unsafe(no_mangle)]
-pub unsafe extern "C" fn linkd_lookup(
-    at: *mut Linkd,
-    loader: u32,
-    name: &[u8],
-    class_number: &mut u32,
-) -> u32
-    ghost old: { Option Opened }
-    requires* { sem 𝓛 (linker_at at old) }
-    ensures* { sem 𝓛 (linker_left at (λ new. IsLookup loader name.now old class_number.old result class_number.new new)) }
-{
-    (*(at as *mut Linker)).lookup(loader, name, class_number)
-}
-
-/// Copies the name of a class. Takes no memory.
-#[unsafe(no_mangle)]
-pub unsafe extern "C" fn linkd_class_name(
-    at: *mut Linkd,
-    class_number: u32,
-    out: &mut [u8],
-    length: &mut usize,
-) -> u32
-    ghost old: { Option Opened }
-    requires* { sem 𝓛 (linker_at at old) }
-    ensures* { sem 𝓛 (linker_left at (λ new. IsClassName class_number old out.old length.old result out.new length.new new)) }
-{
-    (*(at as *mut Linker)).class_name(class_number, out, length)
-}
-
-/// Copies the name of a method. Takes no memory.
-#[unsafe(no_mangle)]
-pub unsafe extern "C" fn linkd_method_name(
-    at: *mut Linkd,
-    class_number: u32,
-    method: u32,
-    out: &mut [u8],
-    length: &mut usize,
-) -> u32
-    ghost old: { Option Opened }
-    requires* { sem 𝓛 (linker_at at old) }
-    ensures* { sem 𝓛 (linker_left at (λ new. IsMethodName class_number method old out.old length.old result out.new length.new new)) }
-{
-    (*(at as *mut Linker)).method_name(class_number, method, out, length)
-}
-
-/// Copies the descriptor of a method. Takes no memory.
-#[unsafe(no_mangle)]
-pub unsafe extern "C" fn linkd_method_type(
-    at: *mut Linkd,
-    class_number: u32,
-    method: u32,
-    out: &mut [u8],
-    length: &mut usize,
-) -> u32
-    ghost old: { Option Opened }
-    requires* { sem 𝓛 (linker_at at old) }
-    ensures* { sem 𝓛 (linker_left at (λ new. IsMethodType class_number method old out.old length.old result out.new length.new new)) }
-{
-    (*(at as *mut Linker)).method_type(class_number, method, out, length)
-}
-
-/// Copies the invocations in a method's code. Takes no memory.
-#[unsafe(no_mangle)]
-pub unsafe extern "C" fn linkd_invocations(
-    at: *mut Linkd,
-    class_number: u32,
-    method: u32,
-    out: &mut [Invocation],
-    length: &mut usize,
-) -> u32
-    ghost old: { Option Opened }
-    requires* { sem 𝓛 (linker_at at old) }
-    ensures* { sem 𝓛 (linker_left at (λ new. IsInvocations class_number method old out.old length.old result out.new length.new new)) }
-{
-    (*(at as *mut Linker)).invocations(class_number, method, out, length)
-}
-
-/// Copies the name of the class that the refusal of the last event told of. Takes no memory.
-#[unsafe(no_mangle)]
-pub unsafe extern "C" fn linkd_refused_name(
-    at: *mut Linkd,
-    out: &mut [u8],
-    length: &mut usize,
-) -> u32
-    ghost old: { Option Opened }
-    requires* { sem 𝓛 (linker_at at old) }
-    ensures* { sem 𝓛 (linker_left at (λ new. IsRefusedName old out.old length.old result out.new length.new new)) }
-{
-    (*(at as *mut Linker)).refused_name(out, length)
-}
-
-/// Copies the name of the class for which a site waits. Takes no memory.
-#[unsafe(no_mangle)]
-pub unsafe extern "C" fn linkd_awaited(
-    at: *mut Linkd,
-    site: u32,
-    out: &mut [u8],
-    length: &mut usize,
-) -> u32
-    ghost old: { Option Opened }
-    requires* { sem 𝓛 (linker_at at old) }
-    ensures* { sem 𝓛 (linker_left at (λ new. IsAwaited site old out.old length.old result out.new length.new new)) }
-{
-    (*(at as *mut Linker)).awaited(site, out, length)
 }
 
 /// How many of each there ever were. Takes no memory.

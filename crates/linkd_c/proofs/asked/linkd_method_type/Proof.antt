@@ -6,17 +6,17 @@ use Rattle.linkd_c.proofs.Steps.{WpFn, u32, u8, usize, shows, Is, valss, Spells,
 use Rattle.linkd_c.proofs.Steps.{rawptr_Tells, mut_vals, mut_Tells, types_at, nothing, peeks, calls_at, Lasts, lasts, alive, Args, owns, all_give, all_go}
 use Rattle.linkd_c.proofs.Steps.{lends, answers, takes_back, packs, triple_of, framed, walk_of, mut_slice_vals, mut_slice_Tells, agg, sub, whole, Lfts}
 use Rattle.jl_host.specs.Linkers.{Opened}
-use Rattle.jl_host.specs.Asking.{IsMethodName}
+use Rattle.jl_host.specs.Asking.{IsMethodType}
 use Rattle.linkd_c.specs.Handle.{linker_at}
 use Rattle.jl_host.specs.contracts.linker.Linker.{the_row as R}
-use Rattle.linkd_c.specs.contracts.linkd_method_name as f
-use Rattle.linkd_c.proofs.linkd_method_name.Statement.{statement}
-use Rattle.linkd_c.proofs.linkd_method_name.Code as code
-use Rattle.jl_host.specs.contracts.linker.Linker.method_name as g
-use Rattle.jl_host.proofs.linker.Linker.method_name.Met.{met}
+use Rattle.linkd_c.specs.contracts.asked.linkd_method_type as f
+use Rattle.linkd_c.proofs.asked.linkd_method_type.Statement.{statement}
+use Rattle.linkd_c.proofs.asked.linkd_method_type.Code as code
+use Rattle.jl_host.specs.contracts.linker.Linker.method_type as g
+use Rattle.jl_host.proofs.linker.Linker.method_type.Met.{met}
 
-pub linkd_method_name_spec : {M : Type 1} → statement M
-linkd_method_name_spec 𝓤 𝓛 𝓜 𝓡 wired =
+pub linkd_method_type_spec : {M : Type 1} → statement M
+linkd_method_type_spec 𝓤 𝓛 𝓜 𝓡 wired =
     let c = f.clauses 𝓛 𝓜.mem 𝓡.returns in let S = f.signature in let stayed = all_give S.params f.ended.kept in let W = walk_of 𝓛 f.ended stayed c in
     let 𝓣 = tables 𝓤 𝓛.H 𝓜 𝓡 𝓡.env in let G = triple_of 𝓛 g.signature (g.spec 𝓛 𝓜.mem 𝓡.returns) in
     let sp : (κs : Lfts S.lifetimes) → Spells (types_at S.params κs) = λ κs. (rawptr_vals, (uint_vals w32, (uint_vals w32, (mut_slice_vals, (mut_vals, tt)))))
@@ -45,9 +45,9 @@ linkd_method_name_spec 𝓤 𝓛 𝓜 𝓡 wired =
     sets ! (addr ! (through ! refl (stop !))) refl (tt, tt) $
     let z : G.Ghost = (((α ∷ [], κs), (full_share, qs), tt, (record { ref_ptr = (b, o); ghost_name = δ; now = x }, a.1), (vptr b o ∷ [], (y a.0).0.4.1)), tt) in
     move ! (0 ∷ 3 ∷ []) $ fjoin ! $ move ! (2 ∷ 3 ∷ []) $ join ! $ join ! $ nothing ! $ move ! (1 ∷ 0 ∷ []) $ use2 𝓛 (raw (G.pre z)) (id⊢ 𝓤 _) $
-    calls_at ! (framed 𝓤 𝓛.H 𝓜 𝓣) G (met 𝓤 𝓛 𝓜 𝓡 (code.calls-jl_host::linker::Linker::method_name 𝓡.env wired)) z
+    calls_at ! (framed 𝓤 𝓛.H 𝓜 𝓣) G (met 𝓤 𝓛 𝓜 𝓡 (code.calls-jl_host::linker::Linker::method_type 𝓡.env wired)) z
     (and_then ! (get ! refl) (and_then ! (get ! refl) (and_then ! (get ! refl) (and_then ! (get ! refl) (and_then ! (get ! refl) (no_more !)))))) (λ v.
-    let P : ℕ → Lasts g.ended z.0.0 z.0.3 → Option Opened → Type 0 = λ u ws new. IsMethodName a.1.0 a.1.1.0 x a.1.1.1.0.now a.1.1.1.1.0.now u ws.1.1.1.0
+    let P : ℕ → Lasts g.ended z.0.0 z.0.3 → Option Opened → Type 0 = λ u ws new. IsMethodType a.1.0 a.1.1.0 x a.1.1.1.0.now a.1.1.1.1.0.now u ws.1.1.1.0
     ws.1.1.1.1.0 new in
     answers ! tt g.signature (g.spec 𝓛 𝓜.mem 𝓡.returns) z v (lasts g.ended z.0.0 z.0.3) (λ u ws. P u ws ws.0) (λ u. id⊢ 𝓤 _) (λ u ws told.
     use1 𝓛 (‵ (flft (α ∷ []) full_share) ⊛ raw (alive 𝓛 S κs qs)) (id⊢ 𝓤 _) $ split ! $
